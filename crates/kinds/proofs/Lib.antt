@@ -1,0 +1,2 @@
+-- The laws of kinds.
+pub mod Laws

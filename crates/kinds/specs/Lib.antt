@@ -1,0 +1,5 @@
+-- What the contracts of kinds cite.
+pub mod Limits
+pub mod SlipState
+pub mod Refusal
+pub mod Outcome

@@ -1,0 +1,32 @@
+-- How many buffers, pieces and slips a pool may have, and where a buffer lies in storage.
+use Prim.Native.Nat.{ℕ, _*_}
+use mathlib.Core.Bool.{Bool, _&&_}
+use lib.Dec.{leb}
+
+-- the most buffers of a pool: the limit on fixed-size clusters
+abbrev pub mostBuffers : ℕ
+mostBuffers = 128
+
+-- the most pieces of a pool: the limit on segment descriptors
+abbrev pub mostPieces : ℕ
+mostPieces = 256
+
+-- the most slips of a pool: the limit on handles
+abbrev pub mostSlips : ℕ
+mostSlips = 64
+
+-- the bytes of a buffer: the cluster size
+abbrev pub bufferSize : ℕ
+bufferSize = 512
+
+-- the bytes of buffer b: the size of that cluster
+abbrev pub sizeOf : ℕ → ℕ
+sizeOf b = bufferSize
+
+-- the byte of storage at which buffer b starts: the cluster's base offset
+abbrev pub startOf : ℕ → ℕ
+startOf b = bufferSize * b
+
+-- n is a count from 1 to most: a range test
+abbrev pub counted : ℕ → ℕ → Bool
+counted most n = leb 1 n && leb n most

@@ -1,0 +1,364 @@
+-- Pool bytes and tables: each settles the other.
+use Prim.Native.Nat.{ℕ, zero, suc, _+_, _*_, _/_, _%_, _<_, _≤_, suc-le-suc}
+use mathlib.Core.Path.{_≡_, refl, sym, ap, _∙_}
+use mathlib.Core.Logic.{_≢_, _↔_}
+use mathlib.Core.Bool.{Bool, true, false, _&&_}
+use mathlib.Core.List.{List, [], _∷_, _++_, append-nil}
+use native.Mathlib.Nat.{le-of-suc-le-suc, zero-lt-suc, mod-eq-of-lt, add-assoc}
+use native.Mathlib.Omega.{arith}
+use lib.Dec.{eqb, leb, eqb→eq, eqb-refl, leb→le, le→leb}
+use lib.ListN.{length, getD, set, drop, replicate, length-append, drop-of-length-le, length-replicate, replicate-append-replicate}
+use lib.Seq.{drop-cons, getD-append-add}
+use Rattle.word.specs.Word.{get16, bytes16}
+use Rattle.kinds.specs.Limits.{mostBuffers, mostPieces, mostSlips, counted}
+use Rattle.rules.specs.Basics.{Is, table}
+use Rattle.rules.specs.Layout.{mark, version, slipAt, pieceAt, countAt, poolLength, storageLength}
+use Rattle.rules.specs.Tables.{Piece, Tables, blank, slip, piece, bufferCount, slipTotal, pieceTotal, bufferTotal, freshTables}
+use Rattle.rules.specs.Bytes.{versionIn, buffersIn, piecesIn, slipsIn, pieceIn, decode, pieceBytes, encode}
+use Rattle.rules.specs.Sound.{Lent, headerOk}
+
+-- ---- tests
+
+-- what a test says
+pub and-is : (a b : Bool) → Is (a && b) ↔ (Is a × Is b)
+and-is true b = (λ h. (tt, h), λ h. h .1)
+and-is false b = (λ h. absurd h, λ h. h .0)
+
+pub eqb-is : (m n : ℕ) → Is (eqb m n) ↔ (m ≡ n)
+eqb-is m n = (eqb→eq m n, λ e. rw e (eqb-refl n))
+
+pub leb-is : (m n : ℕ) → Is (leb m n) ↔ (m ≤ n)
+leb-is m n = (leb→le m n, le→leb m n)
+
+-- ---- tables by index
+
+module _ {A : Type 0} where
+  pub length-table : (n : ℕ) (f : ℕ → A) → length (table n f) ≡ n
+  length-table zero f = refl
+  length-table (suc n) f = ap suc (length-table n (λ i. f (suc i)))
+
+  pub getD-table : (n : ℕ) (f : ℕ → A) (i : ℕ) (d : A) → i < n → getD (table n f) i d ≡ f i
+  getD-table zero f i d h = absurd (omega arith)
+  getD-table (suc n) f zero d h = refl
+  getD-table (suc n) f (suc i) d h = getD-table n (λ j. f (suc j)) i d (le-of-suc-le-suc h)
+
+  -- what holds of the default and of every entry made holds of every entry read
+  pub table-all : (P : A → Type 0) (n : ℕ) (f : ℕ → A) (d : A) → P d → ((i : ℕ) → P (f i)) → (i : ℕ) → P (getD (table n f) i d)
+  table-all P zero f d z h i = z
+  table-all P (suc n) f d z h zero = h 0
+  table-all P (suc n) f d z h (suc i) = table-all P n (λ j. f (suc j)) d z (λ j. h (suc j)) i
+
+  pub table-same : (n : ℕ) (f g : ℕ → A) → ((i : ℕ) → i < n → f i ≡ g i) → table n f ≡ table n g
+  table-same zero f g h = refl
+  table-same (suc n) f g h = λ j. h 0 (zero-lt-suc n) j ∷ table-same n (λ i. f (suc i)) (λ i. g (suc i)) (λ i b. h (suc i) (suc-le-suc b)) j
+
+  -- the table of a list's entries
+  pub table-is : (d : A) (l : List A) (f : ℕ → A) → ((i : ℕ) → i < length l → f i ≡ getD l i d) → table (length l) f ≡ l
+  table-is d [] f h = refl
+  table-is d (x ∷ xs) f h = λ j. h 0 (zero-lt-suc (length xs)) j ∷ table-is d xs (λ i. f (suc i)) (λ i b. h (suc i) (suc-le-suc b)) j
+
+  -- g is f but v at i
+  pub table-set : (n : ℕ) (f g : ℕ → A) (i : ℕ) (v : A) → g i ≡ v → ((j : ℕ) → j < n → j ≢ i → g j ≡ f j) → table n g ≡ set (table n f) i v
+  table-set zero f g i v e h = refl
+  table-set (suc n) f g zero v e h =
+      λ j. e j ∷ table-same n (λ i. g (suc i)) (λ i. f (suc i)) (λ i b. h (suc i) (suc-le-suc b) (omega arith)) j
+  table-set (suc n) f g (suc i) v e h =
+      λ j. h 0 (zero-lt-suc n) (omega arith) j ∷ table-set n (λ k. f (suc k)) (λ k. g (suc k)) i v e (λ k b m. h (suc k) (suc-le-suc b) (omega arith)) j
+
+-- ---- words
+
+-- every byte is below 256
+abbrev pub AllBytes : List ℕ → Type 0
+AllBytes p = (i : ℕ) → getD p i 0 < 256
+
+pub length-bytes16 : (vs : List ℕ) → length (bytes16 vs) ≡ 2 * length vs
+length-bytes16 [] = refl
+length-bytes16 (v ∷ vs) = let e = length-bytes16 vs in omega arith
+
+-- a number is its two bytes
+pub two-bytes : (v : ℕ) → v < 65536 → v % 256 + v / 256 % 256 * 256 ≡ v
+two-bytes v h = omega arith
+
+pub get16-small : (p : List ℕ) (a : ℕ) → AllBytes p → get16 p a < 65536
+unfolding get16
+get16-small p a byte = let lo = byte a in let hi = byte (a + 1) in omega arith
+
+-- a number past a prefix
+pub get16-past : (p l : List ℕ) (a b : ℕ) → b ≡ length p + a → get16 (p ++ l) b ≡ get16 l a
+unfolding get16
+get16-past p l a b e =
+    let f : b + 1 ≡ length p + (a + 1) = omega arith in
+    rw (f, e, getD-append-add p l a 0, getD-append-add p l (a + 1) 0)
+
+-- the number at i of a run
+pub get16-run : (vs l : List ℕ) (i : ℕ) → ((j : ℕ) → getD vs j 0 < 65536) → i < length vs → get16 (bytes16 vs ++ l) (2 * i) ≡ getD vs i 0
+unfolding get16
+get16-run [] l i h b = absurd (omega arith)
+get16-run (v ∷ vs) l zero h b = two-bytes v (h 0)
+get16-run (v ∷ vs) l (suc i) h b =
+    get16-past (bytes16 (v ∷ [])) (bytes16 vs ++ l) (2 * i) (2 * suc i) (omega arith) ∙ get16-run vs l i (λ j. h (suc j)) (le-of-suc-le-suc b)
+
+module _ (p : List ℕ) (byte : AllBytes p) where
+  -- the two bytes at a, and what follows
+  pub get16-drop : (a : ℕ) → a + 1 < length p → get16 p a % 256 ∷ get16 p a / 256 % 256 ∷ drop (a + 2) p ≡ drop a p
+  unfolding get16
+  get16-drop a h =
+      let lo = byte a in
+      let hi = byte (a + 1) in
+      let e : (getD p a 0 + getD p (a + 1) 0 * 256) % 256 ≡ getD p a 0 = omega arith in
+      let f : (getD p a 0 + getD p (a + 1) 0 * 256) / 256 ≡ getD p (a + 1) 0 = omega arith in
+      let g : getD p (a + 1) 0 % 256 ≡ getD p (a + 1) 0 = mod-eq-of-lt hi in
+      let s : a + 1 ≡ suc a = omega arith in
+      let t : a + 2 ≡ suc (suc a) = omega arith in
+      rw (e, f, g, s, t, drop-cons p a 0 (omega arith), drop-cons p (suc a) 0 (omega arith))
+
+  -- n numbers from a on, and what follows
+  pub run-drop : (n a : ℕ) → a + 2 * n ≤ length p → bytes16 (table n (λ i. get16 p (a + 2 * i))) ++ drop (a + 2 * n) p ≡ drop a p
+  run-drop zero a h = let e : a + 2 * 0 ≡ a = omega arith in rw e
+  run-drop (suc n) a h =
+      let e : (k : ℕ) → a + 2 * suc k ≡ a + 2 + 2 * k = λ k. omega arith in
+      let z : a + 2 * 0 ≡ a = omega arith in
+      rw (table-same n _ _ (λ i b. ap (get16 p) (e i)), e n, run-drop n (a + 2) (omega arith), z) (get16-drop a (omega arith))
+
+-- ---- pieces
+
+-- each number fits 16 bits
+pub record SmallPiece (x : Piece) : Type 0 where
+  pub small-count : x .count < 65536
+  pub small-buffer : x .buffer < 65536
+  pub small-offset : x .offset < 65536
+  pub small-len : x .len < 65536
+  pub small-next : x .next < 65536
+
+pub length-pieceBytes : (xs : List Piece) → length (pieceBytes xs) ≡ 10 * length xs
+length-pieceBytes [] = refl
+length-pieceBytes (x ∷ xs) = let e = length-pieceBytes xs in omega arith
+
+-- a piece past a prefix
+pub pieceIn-past : (p l : List ℕ) (a b : ℕ) → b ≡ length p + a → pieceIn (p ++ l) b ≡ pieceIn l a
+pieceIn-past p l a b e = λ i. record {
+  count = get16-past p l a b e i;
+  buffer = get16-past p l (a + 2) (b + 2) (omega arith) i;
+  offset = get16-past p l (a + 4) (b + 4) (omega arith) i;
+  len = get16-past p l (a + 6) (b + 6) (omega arith) i;
+  next = get16-past p l (a + 8) (b + 8) (omega arith) i;
+}
+
+-- the piece at d of a run
+pub pieceIn-run : (xs : List Piece) (l : List ℕ) (d : ℕ) → ((j : ℕ) → SmallPiece (getD xs j blank)) → d < length xs → pieceIn (pieceBytes xs ++ l) (10 * d) ≡ getD xs d blank
+unfolding get16
+pieceIn-run [] l d h b = absurd (omega arith)
+pieceIn-run (x ∷ xs) l zero h b =
+    let s = h 0 in
+    λ i. record {
+      count = two-bytes (x .count) (s .small-count) i;
+      buffer = two-bytes (x .buffer) (s .small-buffer) i;
+      offset = two-bytes (x .offset) (s .small-offset) i;
+      len = two-bytes (x .len) (s .small-len) i;
+      next = two-bytes (x .next) (s .small-next) i;
+    }
+pieceIn-run (x ∷ xs) l (suc d) h b =
+    pieceIn-past (pieceBytes (x ∷ [])) (pieceBytes xs ++ l) (10 * d) (10 * suc d) (omega arith) ∙ pieceIn-run xs l d (λ j. h (suc j)) (le-of-suc-le-suc b)
+
+-- n pieces from a on, and what follows
+pub pieces-drop : (p : List ℕ) → AllBytes p → (n a : ℕ) → a + 10 * n ≤ length p → pieceBytes (table n (λ d. pieceIn p (a + 10 * d))) ++ drop (a + 10 * n) p ≡ drop a p
+pieces-drop p byte zero a h = let e : a + 10 * 0 ≡ a = omega arith in rw e
+pieces-drop p byte (suc n) a h =
+    let e : (k : ℕ) → a + 10 * suc k ≡ a + 10 + 10 * k = λ k. omega arith in
+    let z : a + 10 * 0 ≡ a = omega arith in
+    rw (table-same n _ _ (λ d b. ap (pieceIn p) (e d)), e n, pieces-drop p byte n (a + 10) (omega arith), z) (rw z at (run-drop p byte 5 a (omega arith)))
+
+-- ---- the bytes of tables
+
+-- each number of the tables, and each of their lengths, fits 16 bits
+pub record Sized (T : Tables) : Type 0 where
+  pub slips-small : (s : ℕ) → slip T s < 65536
+  pub pieces-small : (d : ℕ) → SmallPiece (piece T d)
+  pub counts-small : (b : ℕ) → bufferCount T b < 65536
+  pub few-slips : slipTotal T < 65536
+  pub few-pieces : pieceTotal T < 65536
+  pub few-buffers : bufferTotal T < 65536
+
+pub encode-length : (T : Tables) → length (encode T) ≡ poolLength (bufferTotal T) (pieceTotal T) (slipTotal T)
+unfolding encode
+encode-length T = simp (length-append, length-bytes16, length-pieceBytes) (omega arith)
+
+-- the bytes of words and of pieces are below 256
+bytes-append : (p l : List ℕ) → AllBytes p → AllBytes l → AllBytes (p ++ l)
+bytes-append [] l a b i = b i
+bytes-append (x ∷ p) l a b zero = a 0
+bytes-append (x ∷ p) l a b (suc i) = bytes-append p l (λ j. a (suc j)) b i
+
+bytes-words : (vs : List ℕ) → AllBytes (bytes16 vs)
+bytes-words [] i = omega arith
+bytes-words (v ∷ vs) zero = omega arith
+bytes-words (v ∷ vs) (suc zero) = omega arith
+bytes-words (v ∷ vs) (suc (suc i)) = bytes-words vs i
+
+bytes-pieces : (xs : List Piece) → AllBytes (pieceBytes xs)
+bytes-pieces [] i = omega arith
+bytes-pieces (x ∷ xs) i =
+    let vs = x .count ∷ x .buffer ∷ x .offset ∷ x .len ∷ x .next ∷ [] in
+    bytes-append (bytes16 vs) (pieceBytes xs) (bytes-words vs) (bytes-pieces xs) i
+
+bytes-mark : AllBytes mark
+bytes-mark zero = omega arith
+bytes-mark (suc zero) = omega arith
+bytes-mark (suc (suc zero)) = omega arith
+bytes-mark (suc (suc (suc i))) = omega arith
+
+pub encode-bytes : (T : Tables) → AllBytes (encode T)
+unfolding encode
+encode-bytes T =
+    let h = version ∷ bufferTotal T ∷ pieceTotal T ∷ slipTotal T ∷ [] in
+    let l = pieceBytes (T .pieces) ++ bytes16 (T .counts) in
+    bytes-append mark (bytes16 h ++ (bytes16 (T .slips) ++ l)) bytes-mark (bytes-append (bytes16 h) (bytes16 (T .slips) ++ l) (bytes-words h)
+    (bytes-append (bytes16 (T .slips)) l (bytes-words (T .slips)) (bytes-append (pieceBytes (T .pieces)) (bytes16 (T .counts)) (bytes-pieces (T .pieces)) (bytes-words (T .counts)))))
+
+-- the header's bytes
+head : Tables → List ℕ
+head T = mark ++ bytes16 (version ∷ bufferTotal T ∷ pieceTotal T ∷ slipTotal T ∷ [])
+
+module _ (T : Tables) (z : Sized T) where
+  -- the header's numbers
+  pub encode-totals : (versionIn (encode T) ≡ version) × (buffersIn (encode T) ≡ bufferTotal T) × (piecesIn (encode T) ≡ pieceTotal T) × (slipsIn (encode T) ≡ slipTotal T)
+  unfolding encode get16
+  encode-totals = omega (arith, z .few-buffers, z .few-pieces, z .few-slips)
+
+  slips-back : table (slipTotal T) (λ s. get16 (encode T) (slipAt s)) ≡ T .slips
+  unfolding encode head
+  slips-back = table-is 0 (T .slips) _ (λ i b. get16-past (head T) _ (2 * i) (slipAt i) (omega arith) ∙ get16-run (T .slips) _ i (z .slips-small) b)
+
+  pieces-back : table (pieceTotal T) (λ d. pieceIn (encode T) (pieceAt (slipTotal T) d)) ≡ T .pieces
+  unfolding encode head
+  pieces-back = table-is blank (T .pieces) _ (λ i b.
+      let s = length-bytes16 (T .slips) in
+      pieceIn-past (head T) _ (2 * slipTotal T + 10 * i) (pieceAt (slipTotal T) i) (omega arith)
+      ∙ pieceIn-past (bytes16 (T .slips)) _ (10 * i) (2 * slipTotal T + 10 * i) (omega arith)
+      ∙ pieceIn-run (T .pieces) (bytes16 (T .counts)) i (z .pieces-small) b)
+
+  counts-back : table (bufferTotal T) (λ b. get16 (encode T) (countAt (pieceTotal T) (slipTotal T) b)) ≡ T .counts
+  unfolding encode head
+  counts-back = table-is 0 (T .counts) _ (λ i b.
+      let s = length-bytes16 (T .slips) in
+      let q = length-pieceBytes (T .pieces) in
+      get16-past (head T) _ (2 * slipTotal T + 10 * pieceTotal T + 2 * i) (countAt (pieceTotal T) (slipTotal T) i) (omega arith)
+      ∙ get16-past (bytes16 (T .slips)) _ (10 * pieceTotal T + 2 * i) (2 * slipTotal T + 10 * pieceTotal T + 2 * i) (omega arith)
+      ∙ get16-past (pieceBytes (T .pieces)) _ (2 * i) (10 * pieceTotal T + 2 * i) (omega arith)
+      ∙ ap (λ (l : List ℕ). get16 l (2 * i)) (sym (append-nil (bytes16 (T .counts)))) ∙ get16-run (T .counts) [] i (z .counts-small) b)
+
+  -- the bytes of tables hold those tables
+  pub decode-encode : decode (encode T) ≡ T
+  unfolding decode
+  decode-encode = rw (encode-totals .1, encode-totals .2, encode-totals .3) (λ i. record { slips = slips-back i; pieces = pieces-back i; counts = counts-back i })
+
+-- ---- the tables of bytes
+
+module _ (p : List ℕ) where
+  pub decode-slips : slipTotal (decode p) ≡ slipsIn p
+  unfolding decode
+  decode-slips = length-table (slipsIn p) _
+
+  pub decode-pieces : pieceTotal (decode p) ≡ piecesIn p
+  unfolding decode
+  decode-pieces = length-table (piecesIn p) _
+
+  pub decode-counts : bufferTotal (decode p) ≡ buffersIn p
+  unfolding decode
+  decode-counts = length-table (buffersIn p) _
+
+  pub decode-sized : AllBytes p → Sized (decode p)
+  unfolding decode
+  decode-sized byte =
+      let small : (a : ℕ) → get16 p a < 65536 = λ a. get16-small p a byte in
+      record {
+        slips-small = table-all (λ n. n < 65536) (slipsIn p) _ 0 (omega arith) (λ s. small (slipAt s));
+        pieces-small = table-all SmallPiece (piecesIn p) _ blank (omega arith) (λ d. let a = pieceAt (slipsIn p) d in record {
+          small-count = small a;
+          small-buffer = small (a + 2);
+          small-offset = small (a + 4);
+          small-len = small (a + 6);
+          small-next = small (a + 8);
+        });
+        counts-small = table-all (λ n. n < 65536) (buffersIn p) _ 0 (omega arith) (λ b. small (countAt (piecesIn p) (slipsIn p) b));
+        few-slips = rw decode-slips (small 9);
+        few-pieces = rw decode-pieces (small 7);
+        few-buffers = rw decode-counts (small 5);
+      }
+
+-- ---- the header
+
+-- what headerOk tests
+pub record Header (m : Lent) : Type 0 where
+  pub mark-s : getD (m .pool) 0 0 ≡ 83
+  pub mark-l : getD (m .pool) 1 0 ≡ 76
+  pub mark-p : getD (m .pool) 2 0 ≡ 80
+  pub version-is : versionIn (m .pool) ≡ 1
+  pub some-buffers : 1 ≤ buffersIn (m .pool)
+  pub most-buffers : buffersIn (m .pool) ≤ mostBuffers
+  pub some-pieces : 1 ≤ piecesIn (m .pool)
+  pub most-pieces : piecesIn (m .pool) ≤ mostPieces
+  pub some-slips : 1 ≤ slipsIn (m .pool)
+  pub most-slips : slipsIn (m .pool) ≤ mostSlips
+  pub pool-long : length (m .pool) ≡ poolLength (buffersIn (m .pool)) (piecesIn (m .pool)) (slipsIn (m .pool))
+  pub storage-long : length (m .storage) ≡ storageLength (buffersIn (m .pool))
+
+pub header-facts : (m : Lent) → Is (headerOk m) → Header m
+unfolding headerOk
+header-facts m h = let k = simp (and-is, eqb-is, leb-is) at h in omega arith
+
+pub header-test : (m : Lent) → Header m → Is (headerOk m)
+unfolding headerOk
+header-test m h = simp (and-is, eqb-is, leb-is) (omega arith)
+
+-- the bytes of tables have a good header
+pub encode-header : (T : Tables) (st : List ℕ) → Sized T → Is (counted mostBuffers (bufferTotal T)) → Is (counted mostPieces (pieceTotal T)) → Is (counted mostSlips (slipTotal T))
+    → length st ≡ storageLength (bufferTotal T) → Is (headerOk (record { pool = encode T; storage = st }))
+unfolding encode
+encode-header T st z b q s l =
+    let e = encode-totals T z in
+    let n = encode-length T in
+    let b′ = simp (and-is, leb-is) at b in
+    let q′ = simp (and-is, leb-is) at q in
+    let s′ = simp (and-is, leb-is) at s in
+    header-test _ (omega arith)
+
+front : (p : List ℕ) → 3 ≤ length p → getD p 0 0 ∷ getD p 1 0 ∷ getD p 2 0 ∷ drop 3 p ≡ p
+front p h = rw (← drop-cons p 2 0 h, ← drop-cons p 1 0 (omega arith), ← drop-cons p 0 0 (omega arith))
+
+-- bytes with a good header are the bytes of the tables that they hold
+pub encode-decode : (m : Lent) → AllBytes (m .pool) → Is (headerOk m) → encode (decode (m .pool)) ≡ m .pool
+unfolding encode decode
+encode-decode m byte ok =
+    let p = m .pool in
+    let h = header-facts m ok in
+    let S = slipsIn p in
+    let P = piecesIn p in
+    let B = buffersIn p in
+    let first = rw (h .mark-s, h .mark-l, h .mark-p) at (front p (omega arith)) in
+    let numbers = rw (h .version-is) at (run-drop p byte 4 3 (omega arith)) in
+    let slips = run-drop p byte S 11 (omega arith) in
+    let pieces = pieces-drop p byte P (11 + 2 * S) (omega arith) in
+    let counts = run-drop p byte B (11 + 2 * S + 10 * P) (omega arith) in
+    let none : drop (11 + 2 * S + 10 * P + 2 * B) p ≡ [] = drop-of-length-le p {i = 11 + 2 * S + 10 * P + 2 * B} (omega arith) in
+    rw (decode-counts p, decode-pieces p, decode-slips p, ← append-nil (bytes16 (decode p .counts)), ← none, counts, pieces, slips, numbers) first
+
+-- ---- the fresh pool
+
+zero-words : (n : ℕ) → bytes16 (replicate n 0) ≡ replicate (2 * n) 0
+zero-words zero = refl
+zero-words (suc n) = let e : 2 * suc n ≡ suc (suc (2 * n)) = omega arith in rw (e, ← zero-words n)
+
+zero-pieces : (n : ℕ) → pieceBytes (replicate n blank) ≡ replicate (10 * n) 0
+zero-pieces zero = refl
+zero-pieces (suc n) = let e : 10 * suc n ≡ 10 + 10 * n = omega arith in rw (e, ← replicate-append-replicate {A = ℕ} 10 (10 * n) 0, ← zero-pieces n)
+
+-- the header, then zeros
+pub fresh-bytes : (B P S : ℕ) → encode (freshTables B P S) ≡ mark ++ (bytes16 (version ∷ B ∷ P ∷ S ∷ []) ++ replicate (2 * S + 10 * P + 2 * B) 0)
+unfolding encode
+fresh-bytes B P S = simp (length-replicate, zero-words, zero-pieces, replicate-append-replicate, add-assoc)
+
+-- document 01's 87 bytes
+pub fresh-example : encode (freshTables 4 6 4) ≡ 83 ∷ 76 ∷ 80 ∷ 1 ∷ 0 ∷ 4 ∷ 0 ∷ 6 ∷ 0 ∷ 4 ∷ 0 ∷ replicate 76 0
+unfolding encode
+fresh-example = refl

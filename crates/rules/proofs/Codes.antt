@@ -1,0 +1,164 @@
+-- Which code is given, and what follows from a call's being done. Assumes nothing.
+use mathlib.Core.Path.{_≡_, refl, sym, ap, subst, _∙_}
+use mathlib.Core.Logic.{_≢_, _↔_}
+use mathlib.Core.Bool.{Bool, true, false, not, _&&_, _||_}
+use mathlib.Core.List.{List, [], _∷_, _++_}
+use Prim.Native.Nat.{ℕ, zero, suc, _+_, _≤_, _<_}
+use native.Mathlib.Decide.{ℕ-discrete, decLt}
+use native.Mathlib.Omega.{arith}
+use lib.Dec.{T-not, ltb, ltb→lt, lt→ltb, eqb, eqb→eq}
+use Rattle.kinds.specs.declared.Refusal.{Refusal}
+use Rattle.kinds.specs.declared.Refusal.the-variants.{Counts, Torn, Slip, Same, Long, Range, Narrow, Slips, Pieces, Buffers}
+use Rattle.kinds.specs.Refusal.{refusalCode}
+use Rattle.rules.specs.Basics.{Is, if_then_else_}
+use Rattle.rules.specs.Tables.{Tables, slip, slipTotal}
+use Rattle.rules.specs.Chain.{State}
+use Rattle.rules.specs.Rule.{Judged, _⇐_, firstCode, unnamed, Wants, want, room, Rule, full, codeIn}
+use Rattle.rules.specs.Step.{Operation, Audit, Put, Free, Dup, Cut, Append, Drop, Keep, Pullup, Pack, Length, Read, Show, rule}
+use Rattle.rules.proofs.Logic.{if-T, if-F, if-either, and-0, and-1, not-not, not-zero, eq→eqb}
+
+pub refusal-pos : (r : Refusal) → 0 < refusalCode r
+refusal-pos Counts = omega arith
+refusal-pos Torn = omega arith
+refusal-pos Slip = omega arith
+refusal-pos Same = omega arith
+refusal-pos Long = omega arith
+refusal-pos Range = omega arith
+refusal-pos Narrow = omega arith
+refusal-pos Slips = omega arith
+refusal-pos Pieces = omega arith
+refusal-pos Buffers = omega arith
+
+-- ---- none is given
+
+pub first-zero : (j : Judged) (js : List Judged) → firstCode (j ∷ js) ≡ 0 → (Is (j .applies) → ⊥) × (firstCode js ≡ 0)
+unfolding firstCode
+first-zero j js e = (
+  λ t. omega (arith, refusal-pos (j .refusal), if-T (j .applies) (refusalCode (j .refusal)) (firstCode js) t),
+  if-either (λ (c : ℕ). c ≡ 0 → firstCode js ≡ 0) (j .applies) (refusalCode (j .refusal)) (firstCode js)
+      (λ _ z. absurd (omega (arith, refusal-pos (j .refusal)))) (λ _ z. z) e,
+)
+
+-- of two lists the first is judged first
+pub first-append : (js ks : List Judged) → firstCode (js ++ ks) ≡ (if eqb (firstCode js) 0 then firstCode ks else firstCode js)
+unfolding firstCode if_then_else_
+first-append [] ks = refl
+first-append (j ∷ js) ks =
+    if-either (λ (c : ℕ). (if j .applies then refusalCode (j .refusal) else firstCode (js ++ ks)) ≡ (if eqb c 0 then firstCode ks else c)) (j .applies) (refusalCode (j .refusal)) (firstCode js)
+    (λ t. if-T (j .applies) (refusalCode (j .refusal)) (firstCode (js ++ ks)) t
+    ∙ sym (if-F (eqb (refusalCode (j .refusal)) 0) (firstCode ks) (refusalCode (j .refusal)) (λ z. (let q = eqb→eq (refusalCode (j .refusal)) 0 z in omega (arith, refusal-pos (j .refusal))))))
+    (λ t. if-F (j .applies) (refusalCode (j .refusal)) (firstCode (js ++ ks)) t ∙ first-append js ks)
+
+-- ---- "full"
+
+pub record Full (w r : Wants) : Type 0 where
+  pub none : firstCode (full w r) ≡ 0 → (w .slips ≤ r .slips) × (w .pieces ≤ r .pieces) × (w .buffers ≤ r .buffers)
+  pub slips : (firstCode (full w r) ≡ refusalCode Slips) ↔ (r .slips < w .slips)
+  pub pieces : (firstCode (full w r) ≡ refusalCode Pieces) ↔ ((w .slips ≤ r .slips) × (r .pieces < w .pieces))
+  pub buffers : (firstCode (full w r) ≡ refusalCode Buffers) ↔ ((w .slips ≤ r .slips) × (w .pieces ≤ r .pieces) × (r .buffers < w .buffers))
+  pub others : (firstCode (full w r) ≡ 0 → ⊥) → refusalCode Slips ≤ firstCode (full w r)
+
+pub first-yes : (j : Judged) (js : List Judged) → Is (j .applies) → firstCode (j ∷ js) ≡ refusalCode (j .refusal)
+unfolding firstCode
+first-yes j js t = if-T (j .applies) (refusalCode (j .refusal)) (firstCode js) t
+
+pub first-no : (j : Judged) (js : List Judged) → (Is (j .applies) → ⊥) → firstCode (j ∷ js) ≡ firstCode js
+unfolding firstCode
+first-no j js t = if-F (j .applies) (refusalCode (j .refusal)) (firstCode js) t
+
+pub first-none : firstCode [] ≡ 0
+unfolding firstCode
+first-none = refl
+
+less-no : (m n : ℕ) → ¬ (m < n) → Is (ltb m n) → ⊥
+less-no m n h t = h (ltb→lt m n t)
+
+pub full-facts : (w r : Wants) → Full w r
+full-facts w r =
+    let a : Judged = Slips ⇐ ltb (r .slips) (w .slips) in
+    let b : Judged = Pieces ⇐ ltb (r .pieces) (w .pieces) in
+    let c : Judged = Buffers ⇐ ltb (r .buffers) (w .buffers) in
+    elim (decLt (r .slips) (w .slips)) [
+      | yes h ↦ omega (arith, first-yes a (b ∷ c ∷ []) (lt→ltb (r .slips) (w .slips) h))
+      | no h ↦ (
+          let e = first-no a (b ∷ c ∷ []) (less-no (r .slips) (w .slips) h) in
+          elim (decLt (r .pieces) (w .pieces)) [
+            | yes k ↦ omega (arith, first-yes b (c ∷ []) (lt→ltb (r .pieces) (w .pieces) k))
+            | no k ↦ (
+                let f = first-no b (c ∷ []) (less-no (r .pieces) (w .pieces) k) in
+                elim (decLt (r .buffers) (w .buffers)) [
+                  | yes l ↦ omega (arith, first-yes c [] (lt→ltb (r .buffers) (w .buffers) l))
+                  | no l ↦ omega (arith, first-no c [] (less-no (r .buffers) (w .buffers) l), first-none)
+                ])
+          ])
+    ]
+
+-- nothing wanted is never too much
+pub none-full : (r : Wants) → firstCode (full (want 0 0 0) r) ≡ 0
+none-full r =
+    first-no (Slips ⇐ ltb (r .slips) 0) _ (λ t. omega (arith, ltb→lt (r .slips) 0 t))
+    ∙ first-no (Pieces ⇐ ltb (r .pieces) 0) _ (λ t. omega (arith, ltb→lt (r .pieces) 0 t))
+    ∙ first-no (Buffers ⇐ ltb (r .buffers) 0) [] (λ t. omega (arith, ltb→lt (r .buffers) 0 t)) ∙ first-none
+
+-- ---- a call that is done
+
+-- its judged refusals have no cause, and there is room for what it wants
+pub record Allowed (r : Rule) (T : Tables) : Type 0 where
+  pub early : firstCode (r .judged) ≡ 0
+  pub slips-room : r .wants .slips ≤ room T .slips
+  pub pieces-room : r .wants .pieces ≤ room T .pieces
+  pub buffers-room : r .wants .buffers ≤ room T .buffers
+
+pub allowed : (r : Rule) (T : Tables) → codeIn r T ≡ 0 → Allowed r T
+allowed r T e =
+    let js = r .judged in
+    let f = full (r .wants) (room T) in
+    let s = first-append js f in
+    elim (ℕ-discrete (firstCode js) 0) [
+      | yes z ↦ (
+          let k = s ∙ if-T (eqb (firstCode js) 0) (firstCode f) (firstCode js) (eq→eqb (firstCode js) 0 z) in
+          let n = full-facts (r .wants) (room T) .none (sym k ∙ e) in
+          record { early = z; slips-room = n .0; pieces-room = n .1; buffers-room = n .2 })
+      | no z ↦ absurd (z (sym (s ∙ if-F (eqb (firstCode js) 0) (firstCode f) (firstCode js) (λ t. z (eqb→eq (firstCode js) 0 t))) ∙ e))
+    ]
+
+-- a named slip is below S, and held
+pub named : (T : Tables) (s : ℕ) → (Is (unnamed T s) → ⊥) → (s < slipTotal T) × (0 < slip T s)
+named T s h =
+    let t = not-not (ltb s (slipTotal T) && not (eqb (slip T s) 0)) h in (
+      ltb→lt s (slipTotal T) (and-0 (ltb s (slipTotal T)) (not (eqb (slip T s) 0)) t),
+      not-zero (slip T s) (λ z. T-not (eqb (slip T s) 0) (and-1 (ltb s (slipTotal T)) (not (eqb (slip T s) 0)) t) z),
+    )
+
+-- ---- the codes judged before room are 3 to 7
+
+abbrev AllEarly : List Judged → Type 0
+AllEarly [] = Unit {0}
+AllEarly (j ∷ js) = (refusalCode Torn < refusalCode (j .refusal)) × (refusalCode (j .refusal) < refusalCode Slips) × AllEarly js
+
+early-list : (js : List Judged) → AllEarly js → (firstCode js ≢ refusalCode Torn) × (firstCode js < refusalCode Slips)
+unfolding firstCode
+early-list [] a = omega arith
+early-list (j ∷ js) a =
+    let r = early-list js (a .2) in
+    if-either (λ (c : ℕ). (c ≢ refusalCode Torn) × (c < refusalCode Slips)) (j .applies) (refusalCode (j .refusal)) (firstCode js)
+    (λ _. omega (arith, a .0, a .1)) (λ _. r)
+
+all-early : (o : Operation) (S : State) → AllEarly (rule o S .judged)
+unfolding rule
+all-early Audit S = tt
+all-early (Put input) S = tt
+all-early (Free s) S = omega arith
+all-early (Dup s) S = omega arith
+all-early (Cut s off n) S = omega arith
+all-early (Append a b) S = omega arith
+all-early (Drop s n) S = omega arith
+all-early (Keep s n) S = omega arith
+all-early (Pullup s n) S = omega arith
+all-early (Pack s) S = omega arith
+all-early (Length s) S = omega arith
+all-early (Read s off n out) S = omega arith
+all-early (Show s n scratch) S = omega arith
+
+pub judged-early : (o : Operation) (S : State) → (firstCode (rule o S .judged) ≢ refusalCode Torn) × (firstCode (rule o S .judged) < refusalCode Slips)
+judged-early o S = early-list (rule o S .judged) (all-early o S)

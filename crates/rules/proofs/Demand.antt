@@ -1,0 +1,106 @@
+-- Demand 3, whole: any list of calls from the pool that a done open has written. Assumes nothing.
+use mathlib.Core.Path.{_≡_, refl, sym, ap, subst, _∙_}
+use mathlib.Core.Logic.{_≢_, _↔_}
+use mathlib.Core.Bool.{Bool, true, false, not}
+use mathlib.Core.List.{List, [], _∷_, _++_}
+use Prim.Native.Nat.{ℕ, _≤_, _<_}
+use native.Mathlib.Decide.{ℕ-discrete}
+use native.Mathlib.Omega.{arith}
+use lib.Dec.{eqb, eqb→eq, T-not, not-T}
+use Rattle.kinds.specs.declared.Refusal.the-variants.{Counts, Torn, Slips, Pieces, Buffers}
+use Rattle.kinds.specs.Refusal.{refusalCode}
+use Rattle.rules.specs.Basics.{Is, if_then_else_}
+use Rattle.rules.specs.Tables.{Tables}
+use Rattle.rules.specs.Bytes.{decode}
+use Rattle.rules.specs.Chain.{State}
+use Rattle.rules.specs.Sound.{Lent, sound}
+use Rattle.rules.specs.Rule.{Judged, _⇐_, firstCode, Wants, want, room, Rule, full, codeIn}
+use Rattle.rules.specs.Open.{openable}
+use Rattle.rules.specs.Step.{Operation, Call, Open, Do, rule, Result, step, stateIn, next, run}
+use Rattle.rules.specs.Recount.{recounted, leaves}
+use Rattle.rules.specs.Demand.{early, wanted, left, CallOk, Each, Demand3, DemandThree}
+use Rattle.rules.proofs.Logic.{if-T, if-F, if-either, eq→eqb}
+use Rattle.rules.proofs.Moves.{SoundNow}
+use Rattle.rules.proofs.Audit.{sound-now}
+use Rattle.rules.proofs.Recount.{recount, recounted-same, leaves-room}
+use Rattle.rules.proofs.Codes.{first-yes, first-no, first-none, first-append, none-full, Full, full-facts, judged-early}
+use Rattle.rules.proofs.Step.{code-is, opened-sound, step-keeps}
+
+-- ---- one call
+
+-- an early code, and else the code of what lacks room
+record Judging (c e : ℕ) (w r : Wants) : Type 0 where
+  when-early : e ≢ 0 → c ≡ e
+  when-not : e ≡ 0 → c ≡ firstCode (full w r)
+  low : e < refusalCode Slips
+  not-torn : e ≢ refusalCode Torn
+
+judging : (c e : ℕ) (w r : Wants) → Judging c e w r
+    → (c ≢ refusalCode Torn)
+    × ((c ≡ refusalCode Slips) ↔ ((e ≡ 0) × (r .slips < w .slips)))
+    × ((c ≡ refusalCode Pieces) ↔ ((e ≡ 0) × (w .slips ≤ r .slips) × (r .pieces < w .pieces)))
+    × ((c ≡ refusalCode Buffers) ↔ ((e ≡ 0) × (w .slips ≤ r .slips) × (w .pieces ≤ r .pieces) × (r .buffers < w .buffers)))
+judging c e w r j =
+    elim (ℕ-discrete e 0) [
+      | yes z ↦ (
+          let f = full-facts w r in
+          let k = j .when-not z in (
+            λ t. torn f (sym k ∙ t),
+            (λ x. (z, f .slips .0 (sym k ∙ x)), λ x. k ∙ f .slips .1 (x .1)),
+            (λ x. (let y = f .pieces .0 (sym k ∙ x) in (z, y .0, y .1)), λ x. k ∙ f .pieces .1 (x .1, x .2)),
+            (λ x. (let y = f .buffers .0 (sym k ∙ x) in (z, y .0, y .1, y .2)), λ x. k ∙ f .buffers .1 (x .1, x .2, x .3)),
+          ))
+      | no z ↦ (let k = j .when-early z in let l = j .low in let n = j .not-torn in omega arith)
+    ]
+  where
+    torn : Full w r → firstCode (full w r) ≡ refusalCode Torn → ⊥
+    torn f t = (let q = f .others (λ z. omega arith) in omega arith)
+
+do-judging : (o : Operation) (m : Lent) → Is (sound m) → Judging (step (Do o) m .code) (early (Do o) m) (wanted (Do o) m) (left m)
+unfolding early wanted
+do-judging o m t =
+    let T = decode (m .pool) in
+    let h = sound-now m t in
+    let r = rule o (stateIn m) in
+    let same : rule o (record { tables = recounted T; storage = m .storage }) .wants ≡ r .wants = ap (λ (X : Tables). rule o (record { tables = X; storage = m .storage }) .wants) (recounted-same T h) in
+    let e = first-no (Torn ⇐ not (sound m)) (r .judged) (λ n. T-not (sound m) n t) in
+    let k = first-append (r .judged) (full (r .wants) (room T)) in
+    let g = judged-early o (stateIn m) in
+    let ff : firstCode (full (wanted (Do o) m) (left m)) ≡ firstCode (full (r .wants) (room T)) = λ i. firstCode (full (same i) (leaves-room T h i)) in
+    record {
+      when-early = λ n. code-is o m t ∙ k ∙ if-F (eqb (firstCode (r .judged)) 0) _ _ (λ z. n (e ∙ eqb→eq (firstCode (r .judged)) 0 z)) ∙ sym e;
+      when-not = λ z. code-is o m t ∙ k ∙ if-T (eqb (firstCode (r .judged)) 0) _ _ (eq→eqb (firstCode (r .judged)) 0 (sym e ∙ z)) ∙ sym ff;
+      low = omega (arith, e, g .1);
+      not-torn = λ z. g .0 (sym e ∙ z);
+    }
+
+open-judging : (B P S : ℕ) (m : Lent) → Judging (step (Open B P S) m .code) (early (Open B P S) m) (wanted (Open B P S) m) (left m)
+unfolding early wanted step
+open-judging B P S m =
+    if-either (λ (x : Result). Judging (x .code) (firstCode ((Counts ⇐ not (openable B P S m)) ∷ [])) (want 0 0 0) (left m)) (openable B P S m) _ _
+    (λ t. (
+    let e = first-no (Counts ⇐ not (openable B P S m)) [] (λ n. T-not (openable B P S m) n t) ∙ first-none in
+    record { when-early = λ n. absurd (n e); when-not = λ _. sym (none-full (left m)); low = omega arith; not-torn = omega arith }))
+    (λ t. (
+    let e = first-yes (Counts ⇐ not (openable B P S m)) [] (not-T (openable B P S m) t) in
+    record { when-early = λ _. sym e; when-not = λ z. absurd (omega arith); low = omega arith; not-torn = omega arith }))
+
+pub call-ok : (c : Call) (m : Lent) → Is (sound m) → CallOk c m
+call-ok (Open B P S) m t = (let j = judging _ _ _ _ (open-judging B P S m) in record { not-torn = j .0; slips-full = j .1; pieces-full = j .2; buffers-full = j .3 })
+call-ok (Do o) m t = (let j = judging _ _ _ _ (do-judging o m t) in record { not-torn = j .0; slips-full = j .1; pieces-full = j .2; buffers-full = j .3 })
+
+-- ---- any list of calls
+
+each-ok : (cs : List Call) (m : Lent) → Is (sound m) → Each cs m
+each-ok [] m t = tt
+each-ok (c ∷ cs) m t = (call-ok c m t, each-ok cs (next c m) (step-keeps c m t))
+
+pub run-sound : (cs : List Call) (m : Lent) → Is (sound m) → Is (sound (run cs m))
+run-sound [] m t = t
+run-sound (c ∷ cs) m t = run-sound cs (next c m) (step-keeps c m t)
+
+-- The one claim.
+pub demand-3 : DemandThree
+demand-3 B P S m cs e =
+    let t = opened-sound B P S m e in
+    record { each = each-ok cs (next (Open B P S) m) t; recount = recount _ (sound-now _ (run-sound cs (next (Open B P S) m) t)) }

@@ -1,0 +1,191 @@
+-- drop: soundness is kept, and what its slip then holds. Assumes nothing.
+use mathlib.Core.Path.{_≡_, refl, sym, ap, subst, subst₂, _∙_}
+use mathlib.Core.Bool.{Bool, true, _&&_, false}
+use mathlib.Core.List.{List, [], _∷_, _++_, List·Memᴰ}
+use Prim.Native.Nat.{ℕ, zero, suc, _+_, _-_, _<_, _≤_, pred}
+use native.Mathlib.Nat.{suc-inj}
+use native.Mathlib.Decide.{decLe}
+use native.Mathlib.Omega.{arith}
+use lib.ListN.{length, take, length-set}
+use lib.Seq.{getD-set-same, getD-set-other}
+use lib.Dec.{eqb, leb, eqb→eq, leb→le, le→leb}
+use Rattle.rules.specs.Basics.{if_then_else_, Is}
+use Rattle.rules.specs.Tables.{Piece, Tables, blank, piece, slipTotal, setPiece, withCount, slip, headOf, setSlip, withPlace}
+use Rattle.rules.specs.Chain.{State, chain, stretch, Stretch, stretches, spans}
+use Rattle.rules.specs.Room.{freePieces}
+use Rattle.rules.specs.Release.{shared}
+use Rattle.rules.specs.Build.{Plan, underOld}
+use Rattle.rules.specs.Drop.{shorter, dropHere, dropPlan, dropped, dropAfter, ownAt}
+use Rattle.rules.proofs.Logic.{if-either, not-most, and-0, and-1, if-T, if-F}
+use Rattle.rules.proofs.Moves.{SoundBy, SoundNow, used-in-range, in-range, buffer-pos, trim-move, reorder, slip-move, by-place}
+use Rattle.rules.proofs.Rank.{next-pos}
+use Rattle.rules.proofs.Release.{held-pos}
+use Rattle.rules.proofs.Build.{share-sound, still-shared, still-store, still-trans, Planned, plain-planned, old-sound, OwnTo, own-still}
+use Rattle.rules.proofs.Room.{free-pieces}
+use Rattle.rules.proofs.Chain.{AllUsed, chain-used}
+use mathlib.Core.Logic.{_≢_, ⊎-elim}
+use Rattle.rules.proofs.Meets.{Meets, stop, go, chain-meets, meets-low, Alike, alike, Agree, agree-all, agree-but, agree-meets, agree-stretches, Same, same-by, same-refl, same-trans, slip-same, shared-same, Safe, head-safe, own-apart}
+use Rattle.rules.proofs.Hang.{Gives, gives-as, old-gives}
+use Rattle.rules.proofs.Contents.{dropOut}
+
+drop-here : (T : Tables) (own : Bool) (d n : ℕ) → n < piece T d .len → 0 < piece T d .count → SoundNow T → Planned T (dropHere T own d n)
+unfolding dropHere
+drop-here T own d zero h u (rank, S) = record { still = still-shared T (suc d) (λ e q. subst (λ y. 0 < piece T y .count) (suc-inj q) u); good = tt; held = (rank, share-sound (suc d) (λ e q. subst (λ y. 0 < piece T y .count) (suc-inj q) u) S) }
+drop-here T own d (suc r) h u (rank, S) =
+    let T₁ = shared T (suc d) in
+    let up : (e : ℕ) → suc d ≡ suc e → 0 < piece T e .count = λ e q. subst (λ y. 0 < piece T y .count) (suc-inj q) u in
+    let S₁ : SoundBy rank (suc d ∷ []) T₁ = share-sound (suc d) up S in
+    let pos : 0 < piece T₁ d .count = held-pos d S₁ in
+    let same : piece T₁ d ≡ withCount (piece T d) (suc (piece T d .count)) = getD-set-same (T .pieces) d (withCount (piece T d) (suc (piece T d .count))) blank (used-in-range T d u) in
+    let len : piece T₁ d .len ≡ piece T d .len = ap (λ (q : Piece). q .len) same in
+    if-either (Planned T) own
+    (record { base = setPiece T₁ d (shorter (piece T₁ d) (suc r)); more = []; tail = suc d })
+    (record { base = shared T (piece T d .next); more = stretch (shorter (piece T d) (suc r)) ∷ []; tail = piece T d .next })
+    (λ _. record {
+      still = still-trans (still-shared T (suc d) up) (still-store T₁ d (shorter (piece T₁ d) (suc r)) pos);
+      good = tt;
+      held = (rank, trim-move d (piece T₁ d .offset + suc r) (piece T₁ d .len - suc r) pos (omega arith) (omega (arith, S₁ .fits d pos .inside)) S₁);
+    })
+    (λ _. record {
+      still = still-shared T (piece T d .next) (λ e q. next-pos d e S q);
+      good = (in-range (T .counts) 0 (λ n. n) (piece T d .buffer) refl (buffer-pos d u S), omega arith, omega (arith, S .fits d u .inside), tt);
+      held = (rank, share-sound (piece T d .next) (λ e q. next-pos d e S q) S);
+    })
+
+pub drop-planned : (T : Tables) (own : Bool) (ds : List ℕ) (n : ℕ) → AllUsed T ds → SoundNow T → Planned T (dropPlan T own ds n)
+unfolding dropPlan
+drop-planned T own [] n u S = plain-planned T [] tt S
+drop-planned T own (d ∷ ds) n u S =
+    let own′ = ownAt T own d in
+    if-either (Planned T) (leb (piece T d .len) n) (dropPlan T own′ ds (n - piece T d .len)) (dropHere T own′ d n)
+    (λ _. drop-planned T own′ ds (n - piece T d .len) (u .1) S)
+    (λ t. drop-here T own′ d n (not-most (piece T d .len) n t) (u .0) S)
+
+pub dropped-planned : (T : Tables) (s n : ℕ) → SoundNow T → Planned T (dropped T s n)
+dropped-planned T s n S = drop-planned T true (chain T s) n (chain-used T s S) S
+
+pub drop-sound : (s n : ℕ) (S : State) → s < slipTotal (S .tables) → SoundNow (S .tables) → SoundNow (dropAfter s n S .tables)
+unfolding dropAfter
+drop-sound s n S l h =
+    let T = S .tables in
+    if-either (λ (X : State). SoundNow (X .tables)) (eqb n 0) _ _ (λ _. h) (λ _. old-sound S (dropped T s n) (freePieces T) s (dropped-planned T s n h) (free-pieces T) l)
+
+-- ---- what drop leaves
+
+own-snoc : (j : ℕ) (T : Tables) (n d x : ℕ) → OwnTo j T n d → piece T d .next ≡ suc x → piece T x .count ≡ 1 → OwnTo (suc j) T n x
+own-snoc zero T n d x (e, c) q cx = (d, e, c, (q, cx))
+own-snoc (suc j) T n d x (y, e, c, o) q cx = (y, e, c, own-snoc j T (piece T y .next) d x o q cx)
+
+-- an own piece has count 1, and all before it are own
+own-at : (T : Tables) (own : Bool) (d : ℕ) → Is (ownAt T own d) → Is own × (piece T d .count ≡ 1)
+own-at T own d t = (and-0 own (eqb (piece T d .count) 1) t, eqb→eq (piece T d .count) 1 (and-1 own (eqb (piece T d .count) 1) t))
+
+-- where all before are own, a piece of count 1 to which the link n leads is own to s
+abbrev OwnNext : Tables → ℕ → Bool → ℕ → Type 0
+OwnNext T s own n = Is own → (x : ℕ) → n ≡ suc x → piece T x .count ≡ 1 → (j : ℕ) × OwnTo j T (headOf T s) x
+
+-- What a plan for the slip s leaves of it: its chain covers xs, and other slips keep theirs.
+pub record Leaves (T : Tables) (s : ℕ) (p : Plan) (xs : List Stretch) : Type 0 where
+  pub rest : List ℕ
+  pub meets : Meets (p .base) (p .tail) rest
+  pub covers : p .more ++ stretches (p .base) rest ≡ xs
+  pub others : (u : ℕ) → u ≢ s → Same T (p .base) (headOf T u)
+  pub used : AllUsed T rest
+
+-- the shortened piece stands in place
+own-leaves : (T : Tables) (s d r : ℕ) (ds : List ℕ) → s < slipTotal T → SoundNow T → Meets T (piece T d .next) ds → AllUsed T (d ∷ ds) → (j : ℕ) → OwnTo j T (headOf T s) d
+    → Leaves T s (record { base = setPiece (shared T (suc d)) d (shorter (piece (shared T (suc d)) d) (suc r)); more = []; tail = suc d })
+    (record { buffer = piece T d .buffer; offset = piece T d .offset + suc r; len = piece T d .len - suc r } ∷ stretches T ds)
+unfolding stretches
+own-leaves T s d r ds b (rank, h) c u j o =
+    let T₁ = shared T (suc d) in
+    let p₁ = withCount (piece T d) (suc (piece T d .count)) in
+    let here : piece T₁ d ≡ p₁ = getD-set-same (T .pieces) d p₁ blank (used-in-range T d (u .0)) in
+    let q = shorter (piece T₁ d) (suc r) in
+    let T₂ : Tables = setPiece T₁ d q in
+    let in₁ : d < length (T₁ .pieces) = omega (arith, used-in-range T d (u .0), length-set (T .pieces) d p₁) in
+    let new : piece T₂ d ≡ shorter p₁ (suc r) = getD-set-same (T₁ .pieces) d q blank in₁ ∙ ap (λ (y : Piece). shorter y (suc r)) here in
+    let old : (x : ℕ) → x ≢ d → Alike (piece T₂ x) (piece T x) = λ x ne. alike (getD-set-other (T₁ .pieces) d x q blank ne ∙ getD-set-other (T .pieces) d x p₁ blank ne) in
+    let out : List·Memᴰ d ds → ⊥ = λ m. omega (arith, meets-low rank (rank d) d (h .falls) (λ e w. h .falls d e w) c m) in
+    let a : Agree T T₂ ds = agree-but T T₂ d ds old out in
+    let T₀ : Tables = setSlip T s 0 in
+    let h₀ : SoundBy rank (headOf T s ∷ []) T₀ = slip-move {fl = []} s 0 b (reorder (λ x. omega arith) h) in
+    record {
+      rest = d ∷ ds;
+      meets = go (subst (λ n. Meets T₂ n ds) (sym (ap (λ (y : Piece). y .next) new)) (agree-meets c a));
+      covers = λ i. stretch (new i) ∷ agree-stretches T T₂ ds a i;
+      others = λ v ne. same-by T T₂ (λ l m. agree-but T T₂ d l old
+          (own-apart j (headOf T s) d (headOf T v) l (rank, h₀) (own-still j T T₀ (headOf T s) d (λ x y. (y, refl)) o)
+          (subst (λ x. Safe [] T₀ (pred x)) (getD-set-other (T .slips) s v 0 0 ne) (head-safe [] T₀ v)) (slip-same T s 0 (headOf T v) l m .0)));
+      used = u;
+    }
+
+here-leaves : (T : Tables) (s d n : ℕ) (ds : List ℕ) (own : Bool) → s < slipTotal T → SoundNow T → Meets T (piece T d .next) ds → AllUsed T (d ∷ ds) → (Is own → (j : ℕ) × OwnTo j T (headOf T s) d)
+    → Leaves T s (dropHere T own d n) (record { buffer = piece T d .buffer; offset = piece T d .offset + n; len = piece T d .len - n } ∷ stretches T ds)
+unfolding dropHere stretches
+here-leaves T s d zero ds own b (rank, h) c u o =
+    let up : (e : ℕ) → suc d ≡ suc e → 0 < piece T e .count = λ e q. subst (λ y. 0 < piece T y .count) (suc-inj q) (u .0) in
+    let r = shared-same T (suc d) (suc d) up (d ∷ ds) (go c) in
+    let z : piece T d .offset ≡ piece T d .offset + 0 = omega arith in
+    let y : piece T d .len ≡ piece T d .len - 0 = omega arith in
+    record {
+      rest = d ∷ ds;
+      meets = r .0;
+      covers = r .1 ∙ (λ i. record { buffer = piece T d .buffer; offset = z i; len = y i } ∷ stretches T ds);
+      others = λ v _. shared-same T (suc d) (headOf T v) up;
+      used = u;
+    }
+here-leaves T s d (suc r) ds own b (rank, h) c u o =
+    if-either (λ (p : Plan). Leaves T s p (record { buffer = piece T d .buffer; offset = piece T d .offset + suc r; len = piece T d .len - suc r } ∷ stretches T ds)) own _ _
+    (λ t. (let w = o t in own-leaves T s d r ds b (rank, h) c u (w .0) (w .1)))
+    (λ _. (
+    let k = shared-same T (piece T d .next) (piece T d .next) (λ e q. next-pos d e h q) ds c in
+    record {
+      rest = ds;
+      meets = k .0;
+      covers = ap {B = List Stretch} (λ xs. record { buffer = piece T d .buffer; offset = piece T d .offset + suc r; len = piece T d .len - suc r } ∷ xs) (k .1);
+      others = λ v _. shared-same T (piece T d .next) (headOf T v) (λ e q. next-pos d e h q);
+      used = u .1;
+    }))
+
+plan-leaves : (T : Tables) (s : ℕ) (own : Bool) (m : ℕ) (ds : List ℕ) (n : ℕ) → s < slipTotal T → SoundNow T → Meets T m ds → AllUsed T ds → OwnNext T s own m → Leaves T s (dropPlan T own ds n) (dropOut (stretches T ds) n)
+unfolding dropPlan dropOut stretches
+plan-leaves T s own m ds n b h stop u o = record { rest = []; meets = stop; covers = refl; others = λ v _. same-refl T (headOf T v); used = tt }
+plan-leaves T s own m ds n b h (go {d = d} {l = l} c) u o =
+    let own′ = ownAt T own d in
+    let mine : Is own′ → (j : ℕ) × OwnTo j T (headOf T s) d = λ t. (let w = own-at T own d t in o (w .0) d refl (w .1)) in
+    elim (decLe (piece T d .len) n) [
+      | yes k ↦
+          subst₂ (Leaves T s) (sym (if-T (leb (piece T d .len) n) (dropPlan T own′ l (n - piece T d .len)) (dropHere T own′ d n) (le→leb (piece T d .len) n k)))
+          (sym (if-T (leb (piece T d .len) n) (dropOut (stretches T l) (n - piece T d .len)) _ (le→leb (piece T d .len) n k)))
+          (plan-leaves T s own′ (piece T d .next) l (n - piece T d .len) b h c (u .1) (λ t x q cx. (let w = mine t in (suc (w .0), own-snoc (w .0) T (headOf T s) d x (w .1) q cx))))
+      | no k ↦
+          subst₂ (Leaves T s) (sym (if-F (leb (piece T d .len) n) (dropPlan T own′ l (n - piece T d .len)) (dropHere T own′ d n) (λ t. k (leb→le (piece T d .len) n t))))
+          (sym (if-F (leb (piece T d .len) n) (dropOut (stretches T l) (n - piece T d .len)) _ (λ t. k (leb→le (piece T d .len) n t))))
+          (here-leaves T s d n l own′ b h c u mine)
+    ]
+
+-- what drop of n leaves of the chain of s
+pub dropped-leaves : (T : Tables) (s n : ℕ) → s < slipTotal T → SoundNow T → Leaves T s (dropped T s n) (dropOut (spans T s) n)
+dropped-leaves T s n b h = plan-leaves T s true (headOf T s) (chain T s) n b h (chain-meets T s h) (chain-used T s h) (λ _ x q c. (0, (q, c)))
+
+pub drop-gives : (s n : ℕ) (S : State) (b : s < slipTotal (S .tables)) (h : SoundNow (S .tables)) → length (dropped (S .tables) s n .more) ≤ length (freePieces (S .tables))
+    → Gives (S .tables) (underOld S (dropped (S .tables) s n) (freePieces (S .tables)) s .tables) s
+    (take (length (dropped (S .tables) s n .more)) (freePieces (S .tables)) ++ dropped-leaves (S .tables) s n b h .rest) (dropOut (spans (S .tables) s) n)
+drop-gives s n S b h r =
+    let T = S .tables in
+    let v = dropped-leaves T s n b h in
+    gives-as refl (v .covers) (old-gives (dropped T s n) (freePieces T) (v .rest) (dropped-planned T s n h) (free-pieces T) r (v .meets) S s b (v .others))
+
+-- drop of no byte makes no new piece
+here-none : (T : Tables) (own : Bool) (d n : ℕ) → n ≡ 0 → dropHere T own d n .more ≡ []
+unfolding dropHere
+here-none T own d zero e = refl
+here-none T own d (suc n) e = absurd (omega arith)
+
+pub drop-none : (T : Tables) (own : Bool) (ds : List ℕ) (n : ℕ) → n ≡ 0 → dropPlan T own ds n .more ≡ []
+unfolding dropPlan
+drop-none T own [] n e = refl
+drop-none T own (d ∷ ds) n e =
+    let own′ = own && eqb (piece T d .count) 1 in
+    if-either (λ (p : Plan). p .more ≡ []) (leb (piece T d .len) n) _ _ (λ _. drop-none T own′ ds (n - piece T d .len) (omega arith)) (λ _. here-none T own′ d n e)

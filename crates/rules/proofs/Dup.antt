@@ -1,0 +1,60 @@
+-- dup: soundness is kept, and what its slip then holds. Assumes nothing.
+use mathlib.Core.Path.{_≡_, refl, sym, ap, subst, _∙_}
+use mathlib.Core.List.{[], _∷_, List, _++_}
+use Prim.Native.Nat.{ℕ, zero, suc, _<_, _≤_}
+use lib.ListN.{length, take, drop}
+use Rattle.rules.specs.Tables.{Tables, piece, headOf, slipTotal}
+use Rattle.rules.specs.Chain.{State, stretches, Stretch, chain, stretch, spans}
+use Rattle.rules.specs.Room.{vacantSlips, freePieces, newSlip}
+use Rattle.rules.specs.Dup.{dupPlan, dupAfter}
+use Rattle.rules.proofs.Moves.{SoundNow}
+use Rattle.rules.proofs.Rank.{next-pos, head-pos}
+use Rattle.rules.proofs.Build.{share-sound, still-shared, Planned, plain-planned, new-sound}
+use Rattle.rules.proofs.Room.{free-pieces, new-slip-ok}
+use Rattle.rules.proofs.Chain.{stretches-good}
+use native.Mathlib.Omega.{arith}
+use Rattle.rules.proofs.Meets.{Meets, stop, go, chain-meets, same-refl, shared-same}
+use Rattle.rules.proofs.Hang.{Gives, gives-as, new-gives}
+
+pub dup-planned : (T : Tables) (n : ℕ) → ((d : ℕ) → n ≡ suc d → 0 < piece T d .count) → SoundNow T → Planned T (dupPlan T n)
+unfolding dupPlan stretches
+dup-planned T zero h S = plain-planned T [] tt S
+dup-planned T (suc d) h (rank, S) = record {
+  still = still-shared T (piece T d .next) (λ e q. next-pos d e S q);
+  good = stretches-good (d ∷ []) S (h d refl, tt);
+  held = (rank, share-sound (piece T d .next) (λ e q. next-pos d e S q) S);
+}
+
+pub dup-sound : (s : ℕ) (S : State) → 0 < length (vacantSlips (S .tables)) → SoundNow (S .tables) → SoundNow (dupAfter s S .tables)
+unfolding dupAfter
+dup-sound s S h (rank, g) =
+    let T = S .tables in
+    new-sound (dupPlan T (headOf T s)) (freePieces T) (newSlip T) (dup-planned T (headOf T s) (λ d q. head-pos s d g q) (rank, g)) (free-pieces T) (new-slip-ok T h .0) (new-slip-ok T h .1)
+
+-- the chain before the new piece: what is behind the head
+dup-meets : (T : Tables) (n : ℕ) (l : List ℕ) → ((d : ℕ) → n ≡ suc d → 0 < piece T d .count) → SoundNow T → Meets T n l
+    → Meets (dupPlan T n .base) (dupPlan T n .tail) (drop (length (dupPlan T n .more)) l) × (dupPlan T n .more ++ stretches (dupPlan T n .base) (drop (length (dupPlan T n .more)) l) ≡ stretches T l)
+unfolding dupPlan stretches
+dup-meets T n l u S stop = (stop, refl)
+dup-meets T n l u (rank, S) (go {d = d} {l = l₁} c) =
+    let r = shared-same T (piece T d .next) (piece T d .next) (λ e q. next-pos d e S q) l₁ c in
+    (r .0, ap {B = List Stretch} (λ xs. stretch (piece T d) ∷ xs) (r .1))
+
+dup-others : (T : Tables) (n u : ℕ) → SoundNow T → ((l : List ℕ) → Meets T (headOf T u) l → Meets (dupPlan T n .base) (headOf T u) l × (stretches (dupPlan T n .base) l ≡ stretches T l))
+unfolding dupPlan
+dup-others T zero u S = same-refl T (headOf T u)
+dup-others T (suc d) u (rank, S) = shared-same T (piece T d .next) (headOf T u) (λ e q. next-pos d e S q)
+
+-- what dup leaves: the new slip holds a new piece for the head, and the rest of the same chain
+pub dup-gives : (s : ℕ) (S : State) → SoundNow (S .tables) → 0 < length (vacantSlips (S .tables)) → length (dupPlan (S .tables) (headOf (S .tables) s) .more) ≤ length (freePieces (S .tables))
+    → Gives (S .tables) (dupAfter s S .tables) (newSlip (S .tables))
+    (take (length (dupPlan (S .tables) (headOf (S .tables) s) .more)) (freePieces (S .tables)) ++ drop (length (dupPlan (S .tables) (headOf (S .tables) s) .more)) (chain (S .tables) s))
+    (spans (S .tables) s)
+unfolding dupAfter
+dup-gives s S (rank, g) v r =
+    let T = S .tables in
+    let n = headOf T s in
+    let u : (d : ℕ) → n ≡ suc d → 0 < piece T d .count = λ d q. head-pos s d g q in
+    let m = dup-meets T n (chain T s) u (rank, g) (chain-meets T s (rank, g)) in
+    gives-as refl (m .1)
+    (new-gives (dupPlan T n) (freePieces T) (drop (length (dupPlan T n .more)) (chain T s)) (dup-planned T n u (rank, g)) (free-pieces T) r (m .0) (newSlip T) (new-slip-ok T v .0) (λ u′ _. dup-others T n u′ (rank, g)))

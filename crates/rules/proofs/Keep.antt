@@ -1,0 +1,258 @@
+-- keep: soundness is kept, and what its slip then holds. Assumes nothing.
+use mathlib.Core.Path.{_≡_, refl, sym, ap, subst, _∙_}
+use mathlib.Core.List.{List, [], _∷_, _++_, List·Memᴰ, append-nil}
+use Prim.Native.Nat.{ℕ, zero, suc, _+_, _≤_, _<_, pred, _-_, min}
+use native.Mathlib.Omega.{arith}
+use lib.ListN.{length, getD, drop, take, take-append-drop, length-drop}
+use lib.Dec.{eqb, leb, leb→le}
+use Rattle.rules.specs.Basics.{if_then_else_, lastOf}
+use Rattle.rules.specs.Tables.{Piece, Tables, blank, piece, headOf, slipTotal, bufferTotal, setPiece, withPlace, slip, setSlip, pieceTotal}
+use Rattle.rules.specs.Chain.{State, Stretch, spans, lengthOf, chain, stretch, stretches, ownPieces, cutOut}
+use Rattle.rules.specs.Room.{freePieces}
+use Rattle.rules.specs.Release.{withTables}
+use Rattle.rules.specs.Build.{built, builtLink}
+use Rattle.rules.specs.Keep.{kept, keptOwn, keptNotOwn, shortened, keptBy, keepAfter}
+use Rattle.rules.proofs.Logic.{if-either, if-T, if-F}
+use Rattle.rules.proofs.Moves.{SoundBy, SoundNow, used-in-range, by-place, reorder, trim-move, SoundWith, slip-move}
+use Rattle.rules.proofs.Build.{OwnTo, OwnList, own-pieces, own-list-still, Good, built-sound, built-kept, behind-sound, own-still}
+use Rattle.rules.proofs.Room.{free-pieces}
+use Rattle.rules.proofs.Chain.{spans-good, cutOut-good, good-drop, good-last, built-own, AllUsed}
+use mathlib.Core.Logic.{_≢_}
+use lib.Seq.{getD-set-same, getD-set-other}
+use Rattle.rules.proofs.Rank.{head-pos}
+use Rattle.rules.proofs.Meets.{Meets, stop, alike, agree-but, agree-stretches, Same, same-by, same-refl, slip-same, Safe, head-safe, own-apart, built-same, built-meets, built-agree}
+use Rattle.rules.proofs.Hang.{Gives, gives-as, gives-from, behind-gives, Run, run-low, own-run, own-short, Ones, ones-used, own-ones, run-still, own-front, stretches-length}
+
+own-last : (j : ℕ) (T : Tables) (n l : ℕ) → OwnTo j T n l → piece T l .count ≡ 1
+own-last zero T n l o = o .1
+own-last (suc j) T n l (d, e, c, o) = own-last j T (piece T d .next) l o
+
+shortened-ok : (T : Tables) (n : ℕ) (own : List ℕ) (xs : List Stretch) → OwnList T n own → Good (length (T .counts)) xs → SoundNow T
+    → SoundNow (shortened T own xs) × (shortened T own xs .slips ≡ T .slips) × OwnList (shortened T own xs) n own
+unfolding shortened
+shortened-ok T n [] xs o g S = (S, refl, tt)
+shortened-ok T n (d ∷ ds) [] o g S = (S, refl, o)
+shortened-ok T n (d ∷ ds) (x ∷ xs) o g (rank, S) =
+    let l = lastOf d ds in
+    let y = lastOf x xs in
+    let c = own-last (o .0) T n l (o .1) in
+    let gl = good-last (length (T .counts)) x xs g in
+    let p : Piece = withPlace (piece T l) (y .offset) (y .len) in (
+      (rank, trim-move l (y .offset) (y .len) (omega arith) (gl .0) (gl .1) S),
+      refl,
+      own-list-still T (setPiece T l p) n (d ∷ ds)
+          (by-place (T .pieces) l p blank (used-in-range T l (omega arith)) (λ q e. piece T e .count ≡ 1 → (q .count ≡ 1) × (q .next ≡ piece T e .next)) (λ z. (z, refl)) (λ e _ z. (z, refl))) o,
+    )
+
+kept-by-sound : (S : State) (s : ℕ) (own : List ℕ) (xs rest : List Stretch) → s < slipTotal (S .tables) → OwnList (S .tables) (headOf (S .tables) s) own
+    → Good (bufferTotal (S .tables)) xs → Good (bufferTotal (S .tables)) rest → SoundNow (S .tables) → SoundNow (keptBy S s own xs rest .tables)
+unfolding keptBy
+kept-by-sound S s own xs [] l o g h f =
+    let T = S .tables in
+    let r = shortened-ok T (headOf T s) own xs o g f in
+    behind-sound (withTables S (shortened T own xs)) s 0 own (subst (λ (q : List ℕ). s < length q) (sym (r .1)) l)
+    (subst (λ (q : List ℕ). OwnList (shortened T own xs) (pred (getD q s 0)) own) (sym (r .1)) (r .2)) (r .0 .0, reorder (λ x. omega arith) (r .0 .1))
+kept-by-sound S s own xs (y ∷ ys) l o g h f =
+    let T = S .tables in
+    let fs = freePieces T in
+    let T₁ = built T fs (y ∷ ys) 0 in
+    let k = built-kept T fs (y ∷ ys) 0 .slips-kept in
+    behind-sound (withTables S T₁) s (builtLink fs (y ∷ ys) 0) own (subst (λ (q : List ℕ). s < length q) (sym k) l)
+    (subst (λ (q : List ℕ). OwnList T₁ (pred (getD q s 0)) own) (sym k) (own-list-still T T₁ (headOf T s) own (λ d c. built-own T fs (y ∷ ys) 0 (free-pieces T) d c) o))
+    (built-sound T fs (y ∷ ys) 0 (free-pieces T) h (f .0, reorder (λ x. omega arith) (f .1)))
+
+pub kept-good : (T : Tables) (s n : ℕ) → SoundNow T → Good (bufferTotal T) (kept T s n)
+kept-good T s n S = cutOut-good (bufferTotal T) (spans T s) 0 n (spans-good T s S)
+
+pub keep-sound : (s n : ℕ) (S : State) → s < slipTotal (S .tables) → SoundNow (S .tables) → SoundNow (keepAfter s n S .tables)
+unfolding keepAfter
+keep-sound s n S l h =
+    let T = S .tables in
+    let xs = kept T s n in
+    if-either (λ (X : State). SoundNow (X .tables)) (eqb n (lengthOf T s)) _ _ (λ _. h)
+    (λ _. kept-by-sound S s (keptOwn T s n) xs (keptNotOwn T s n) l (own-pieces (length xs) (headOf T s) T) (kept-good T s n h)
+    (good-drop (bufferTotal T) (length (keptOwn T s n)) xs (kept-good T s n h)) h)
+
+-- ---- the stretches that stay
+
+cut-cons : (y : Stretch) (ys : List Stretch) (n : ℕ) → 1 ≤ y .len
+    → cutOut (y ∷ ys) 0 (suc n) ≡ record { buffer = y .buffer; offset = y .offset + 0; len = min (suc n) (y .len - 0) } ∷ cutOut ys 0 (suc n - (y .len - 0))
+unfolding cutOut
+cut-cons y ys n h = if-F (leb (y .len) 0) _ _ (λ t. (let q = leb→le (y .len) 0 t in omega arith))
+
+cut-some : (ys : List Stretch) (off n : ℕ) → 0 < length (cutOut ys off n) → 0 < n
+unfolding cutOut
+cut-some [] off n h = absurd (omega arith)
+cut-some (y ∷ ys) off zero h = absurd (omega arith)
+cut-some (y ∷ ys) off (suc n) h = omega arith
+
+-- a stretch before another that stays is whole
+cut-whole : (y : Stretch) (ys : List Stretch) (n : ℕ) → 0 < length (cutOut ys 0 (suc n - (y .len - 0))) → _≡_ {A = Stretch} (record { buffer = y .buffer; offset = y .offset + 0; len = min (suc n) (y .len - 0) }) y
+cut-whole y ys n h =
+    let l = cut-some ys 0 (suc n - (y .len - 0)) h in
+    let o : y .offset + 0 ≡ y .offset = omega arith in
+    let z : min (suc n) (y .len - 0) ≡ y .len = omega arith in
+    λ i. record { buffer = y .buffer; offset = o i; len = z i }
+
+cut-front : (B k : ℕ) (ys : List Stretch) (n : ℕ) → Good B ys → k < length (cutOut ys 0 n) → take k (cutOut ys 0 n) ≡ take k ys
+unfolding cutOut
+cut-front B zero ys n g h = refl
+cut-front B (suc k) [] n g h = absurd (omega arith)
+cut-front B (suc k) (y ∷ ys) zero g h = absurd (omega arith)
+cut-front B (suc k) (y ∷ ys) (suc n) g h =
+    let c = cut-cons y ys n (g .1) in
+    let l = ap length c in
+    let i = cut-front B k ys (suc n - (y .len - 0)) (g .3) (omega arith) in
+    let w = cut-whole y ys n (omega arith) in
+    ap (take (suc k)) c ∙ (λ j. w j ∷ i j)
+
+-- The last of the pieces of a run takes the last stretch that stays; the others have theirs.
+covers-last : (rank : ℕ → ℕ) (T : Tables) (B n₀ d m : ℕ) (ds : List ℕ) (x : Stretch) (xs ys : List Stretch) (n : ℕ) → ((a e : ℕ) → piece T a .next ≡ suc e → rank e < rank a) → lastOf d ds < pieceTotal T
+    → Run T n₀ (d ∷ ds) m → Good B ys → stretches T (d ∷ ds) ≡ take (suc (length ds)) ys → cutOut ys 0 n ≡ x ∷ xs → length xs ≡ length ds
+    → stretches (setPiece T (lastOf d ds) (withPlace (piece T (lastOf d ds)) (lastOf x xs .offset) (lastOf x xs .len))) (d ∷ ds) ≡ x ∷ xs
+unfolding stretches
+covers-last rank T B n₀ d m ds x xs [] n f b r g e c l = absurd (let q = ap length e in omega arith)
+covers-last rank T B n₀ d m ds x xs (y ∷ ys) zero f b r g e c l = absurd (let q = cut-some (y ∷ ys) 0 zero (omega (arith, ap length c)) in omega arith)
+covers-last rank T B n₀ d m [] x [] (y ∷ ys) (suc n) f b r g e c l =
+    let p = withPlace (piece T d) (x .offset) (x .len) in
+    let here : piece (setPiece T d p) d ≡ p = getD-set-same (T .pieces) d p blank b in
+    let cut : Stretch = record { buffer = y .buffer; offset = y .offset + 0; len = min (suc n) (y .len - 0) } in
+    let c₂ : cut ∷ cutOut ys 0 (suc n - (y .len - 0)) ≡ x ∷ [] = sym (cut-cons y ys n (g .1)) ∙ c in
+    let first : cut ≡ x = cc in
+    let old : stretch (piece T d) ≡ y = cc in
+    let same : piece T d .buffer ≡ x .buffer = ap (λ (z : Stretch). z .buffer) old ∙ ap (λ (z : Stretch). z .buffer) first in
+    λ i. record { buffer = (ap (λ (q : Piece). q .buffer) here ∙ same) i; offset = here i .offset; len = here i .len } ∷ []
+covers-last rank T B n₀ d m [] x (x₂ ∷ xs) (y ∷ ys) (suc n) f b r g e c l = absurd (omega arith)
+covers-last rank T B n₀ d m (d₂ ∷ ds) x [] (y ∷ ys) (suc n) f b r g e c l = absurd (omega arith)
+covers-last rank T B n₀ d m (d₂ ∷ ds) x (x₂ ∷ xs) (y ∷ ys) (suc n) f b r g e c l =
+    let more = cutOut ys 0 (suc n - (y .len - 0)) in
+    let cut : Stretch = record { buffer = y .buffer; offset = y .offset + 0; len = min (suc n) (y .len - 0) } in
+    let c₂ : cut ∷ more ≡ x ∷ x₂ ∷ xs = sym (cut-cons y ys n (g .1)) ∙ c in
+    let first : cut ≡ x = cc in
+    let rest : more ≡ x₂ ∷ xs = cc in
+    let old : stretch (piece T d) ≡ y = cc in
+    let olds : stretches T (d₂ ∷ ds) ≡ take (suc (length ds)) ys = cc in
+    let w = cut-whole y ys n (omega (arith, ap length rest)) in
+    let e₂ = lastOf d₂ ds in
+    let q = withPlace (piece T e₂) (lastOf x₂ xs .offset) (lastOf x₂ xs .len) in
+    let ne : d ≢ e₂ = λ z. (let k = ap rank z in omega (arith, f d d₂ (r .1 .0), run-low rank T (piece T d .next) d₂ m ds f (r .1))) in
+    let here : stretch (piece (setPiece T e₂ q) d) ≡ x = ap stretch (getD-set-other (T .pieces) e₂ d q blank ne) ∙ old ∙ sym w ∙ first in
+    let i = covers-last rank T B (piece T d .next) d₂ m ds x₂ xs ys (suc n - (y .len - 0)) f b (r .1) (g .3) olds rest (omega arith) in
+    λ j. here j ∷ i j
+
+-- ---- what keep leaves
+
+-- the last own piece shortened: other slips keep their chains, and every piece its next
+shortened-others : (T : Tables) (s u : ℕ) (own : List ℕ) (xs : List Stretch) → s < slipTotal T → SoundNow T → OwnList T (headOf T s) own → u ≢ s → Same T (shortened T own xs) (headOf T u)
+unfolding shortened
+shortened-others T s u [] xs b h o n = same-refl T (headOf T u)
+shortened-others T s u (d ∷ ds) [] b h o n = same-refl T (headOf T u)
+shortened-others T s u (d ∷ ds) (x ∷ xs) b (rank, h) (j, o) n =
+    let e = lastOf d ds in
+    let p = withPlace (piece T e) (lastOf x xs .offset) (lastOf x xs .len) in
+    let T₀ : Tables = setSlip T s 0 in
+    let h₀ : SoundBy rank (headOf T s ∷ []) T₀ = slip-move {fl = []} s 0 b (reorder (λ y. omega arith) h) in
+    same-by T (setPiece T e p) (λ l m. agree-but T (setPiece T e p) e l (λ y ne. alike (getD-set-other (T .pieces) e y p blank ne))
+    (own-apart j (headOf T s) e (headOf T u) l (rank, h₀) (own-still j T T₀ (headOf T s) e (λ y c. (c, refl)) o)
+    (subst (λ y. Safe [] T₀ (pred y)) (getD-set-other (T .slips) s u 0 0 n) (head-safe [] T₀ u)) (slip-same T s 0 (headOf T u) l m .0)))
+
+shortened-nexts : (T : Tables) (n : ℕ) (own : List ℕ) (xs : List Stretch) → OwnList T n own → (d : ℕ) → piece (shortened T own xs) d .next ≡ piece T d .next
+unfolding shortened
+shortened-nexts T n [] xs o d = refl
+shortened-nexts T n (y ∷ ys) [] o d = refl
+shortened-nexts T n (y ∷ ys) (x ∷ xs) o d =
+    let e = lastOf y ys in
+    by-place (T .pieces) e (withPlace (piece T e) (lastOf x xs .offset) (lastOf x xs .len)) blank (used-in-range T e (omega (arith, own-last (o .0) T n e (o .1))))
+    (λ q i. q .next ≡ piece T i .next) refl (λ i _. refl) d
+
+record Stays (S : State) (s : ℕ) (own : List ℕ) (xs rest : List Stretch) : Type 0 where
+  in-range : s < slipTotal (S .tables)
+  held : 0 < slip (S .tables) s
+  sound : SoundNow (S .tables)
+  own-list : OwnList (S .tables) (headOf (S .tables) s) own
+  end : ℕ
+  run : Run (S .tables) (headOf (S .tables) s) own end
+  ones : Ones (S .tables) own
+  good : Good (bufferTotal (S .tables)) xs
+  rest-good : Good (bufferTotal (S .tables)) rest
+  room : length rest ≤ length (freePieces (S .tables))
+  all-own : length rest ≡ 0 → stretches (shortened (S .tables) own xs) own ≡ xs
+  replaced : 0 < length rest → stretches (S .tables) own ++ rest ≡ xs
+
+no-more : (T : Tables) (xs : List Stretch) → xs ++ stretches T [] ≡ xs
+unfolding stretches
+no-more T xs = append-nil xs
+
+kept-gives : (S : State) (s : ℕ) (own : List ℕ) (xs rest : List Stretch) → Stays S s own xs rest
+    → Gives (S .tables) (keptBy S s own xs rest .tables) s (own ++ take (length rest) (freePieces (S .tables))) xs
+unfolding keptBy
+kept-gives S s own xs [] h =
+    let T = S .tables in
+    let T₁ = shortened T own xs in
+    let r = shortened-ok T (headOf T s) own xs (h .own-list) (h .good) (h .sound) in
+    let k = r .1 in
+    let f = shortened-nexts T (headOf T s) own xs (h .own-list) in
+    let rn = run-still T T₁ (headOf T s) (h .end) own (λ d _. f d) (h .ones) (h .run) in
+    let g = behind-gives (withTables S T₁) s 0 (h .end) own [] (subst (λ (q : List ℕ). s < length q) (sym k) (h .in-range))
+    (subst (λ (q : List ℕ). OwnList T₁ (pred (getD q s 0)) own) (sym k) (r .2))
+    (subst (λ (q : List ℕ). Run T₁ (pred (getD q s 0)) own (h .end)) (sym k) rn)
+    (subst (λ (q : List ℕ). 0 < getD q s 0) (sym k) (h .held))
+    (r .0 .0, reorder (λ x. omega arith) (r .0 .1)) stop in
+    gives-from {T = T} (λ u n. ap (λ (q : List ℕ). getD q u 0) k) (λ u n. shortened-others T s u own xs (h .in-range) (h .sound) (h .own-list) n)
+    (gives-as refl (no-more T₁ (stretches T₁ own) ∙ h .all-own refl) g)
+kept-gives S s own xs (y ∷ ys) h =
+    let T = S .tables in
+    let fs = freePieces T in
+    let T₁ = built T fs (y ∷ ys) 0 in
+    let k = built-kept T fs (y ∷ ys) 0 .slips-kept in
+    let one : (d : ℕ) → piece T d .count ≡ 1 → (piece T₁ d .count ≡ 1) × (piece T₁ d .next ≡ piece T d .next) = λ d c. built-own T fs (y ∷ ys) 0 (free-pieces T) d c in
+    let m = built-meets T fs (y ∷ ys) 0 [] (free-pieces T) (h .room) tt stop in
+    let new = take (length (y ∷ ys)) fs in
+    let a = agree-stretches T T₁ own (built-agree T fs (y ∷ ys) 0 own (free-pieces T) (ones-used T own (h .ones))) in
+    let rn = run-still T T₁ (headOf T s) (h .end) own (λ d c. one d c .1) (h .ones) (h .run) in
+    let g = behind-gives (withTables S T₁) s (builtLink fs (y ∷ ys) 0) (h .end) own (new ++ []) (subst (λ (q : List ℕ). s < length q) (sym k) (h .in-range))
+    (subst (λ (q : List ℕ). OwnList T₁ (pred (getD q s 0)) own) (sym k) (own-list-still T T₁ (headOf T s) own one (h .own-list)))
+    (subst (λ (q : List ℕ). Run T₁ (pred (getD q s 0)) own (h .end)) (sym k) rn)
+    (subst (λ (q : List ℕ). 0 < getD q s 0) (sym k) (h .held))
+    (built-sound T fs (y ∷ ys) 0 (free-pieces T) (h .rest-good) (h .sound .0, reorder (λ x. omega arith) (h .sound .1))) (m .0) in
+    gives-from {T = T} (λ u n. ap (λ (q : List ℕ). getD q u 0) k) (λ u n. built-same T fs (y ∷ ys) 0 (headOf T u) (h .sound) (free-pieces T) (λ d q. head-pos u d (h .sound .1) q))
+    (gives-as (ap {B = List ℕ} (λ l. own ++ l) (append-nil new))
+    ((λ i. a i ++ (m .1 ∙ no-more T (y ∷ ys)) i) ∙ h .replaced (omega arith)) g)
+
+-- where all that stay are own, the shortened pieces cover them
+shortened-covers : (T : Tables) (s : ℕ) (own : List ℕ) (xs ys : List Stretch) (m n : ℕ) → SoundNow T → OwnList T (headOf T s) own → Run T (headOf T s) own m → Good (bufferTotal T) ys
+    → stretches T own ≡ take (length own) ys → cutOut ys 0 n ≡ xs → length xs ≡ length own → stretches (shortened T own xs) own ≡ xs
+unfolding shortened stretches
+shortened-covers T s [] [] ys m n h i r g f c l = refl
+shortened-covers T s [] (x ∷ xs) ys m n h i r g f c l = absurd (omega arith)
+shortened-covers T s (d ∷ ds) [] ys m n h i r g f c l = absurd (omega arith)
+shortened-covers T s (d ∷ ds) (x ∷ xs) ys m n (rank, h) i r g f c l = covers-last rank T (bufferTotal T) (headOf T s) d m ds x xs ys n (h .falls) (used-in-range T (lastOf d ds) (omega (arith, own-last (i .0) T (headOf T s) (lastOf d ds) (i .1)))) r g f c (omega arith)
+
+-- keep of a part of the chain
+pub keep-gives : (s n : ℕ) (S : State) → s < slipTotal (S .tables) → 0 < slip (S .tables) s → SoundNow (S .tables) → length (keptNotOwn (S .tables) s n) ≤ length (freePieces (S .tables))
+    → Gives (S .tables) (keptBy S s (keptOwn (S .tables) s n) (kept (S .tables) s n) (keptNotOwn (S .tables) s n) .tables) s
+    (keptOwn (S .tables) s n ++ take (length (keptNotOwn (S .tables) s n)) (freePieces (S .tables))) (kept (S .tables) s n)
+keep-gives s n S b z h r =
+    let T = S .tables in
+    let xs = kept T s n in
+    let own = keptOwn T s n in
+    let g = kept-good T s n h in
+    let run = own-run (length xs) (headOf T s) T in
+    let short = own-short (length xs) (headOf T s) T in
+    let ol = own-pieces (length xs) (headOf T s) T in
+    let front = own-front T s (length xs) h in
+    let ld = length-drop (length own) xs in
+    kept-gives S s own xs (keptNotOwn T s n) (record {
+      in-range = b;
+      held = z;
+      sound = h;
+      own-list = ol;
+      end = run .0;
+      run = run .1;
+      ones = own-ones (length xs) (headOf T s) T;
+      good = g;
+      rest-good = good-drop (bufferTotal T) (length own) xs g;
+      room = r;
+      all-own = λ e. shortened-covers T s own xs (spans T s) (run .0) n h ol (run .1) (spans-good T s h) front refl (omega arith);
+      replaced = λ l. ap {B = List Stretch} (λ ys. ys ++ drop (length own) xs) (front ∙ sym (cut-front (bufferTotal T) (length own) (spans T s) n (spans-good T s h) (omega arith))) ∙ take-append-drop (length own) xs;
+    })

@@ -1,0 +1,251 @@
+-- Any call on any bytes: a no alters nothing, a done call is its rule on bytes, and soundness is kept. Assumes nothing.
+use mathlib.Core.Path.{_≡_, refl, sym, ap, subst, _∙_}
+use mathlib.Core.Logic.{_≢_, ⊎-elim}
+use mathlib.Core.Bool.{Bool, true, false, not, _&&_}
+use mathlib.Core.List.{List, [], _∷_}
+use Prim.Native.Nat.{ℕ, zero, suc, _+_, _*_, _≤_, _<_}
+use native.Mathlib.Decide.{ℕ-discrete}
+use native.Mathlib.Omega.{arith}
+use lib.ListN.{length, replicate, length-replicate}
+use lib.Dec.{eqb, eqb→eq, leb, le→leb}
+use Rattle.kinds.specs.Limits.{mostBuffers, mostPieces, mostSlips, bufferSize, counted}
+use Rattle.kinds.specs.declared.Refusal.the-variants.{Counts, Torn}
+use Rattle.kinds.specs.Refusal.{refusalCode}
+use Rattle.rules.specs.Basics.{Is, if_then_else_}
+use Rattle.rules.specs.Layout.{storageLength}
+use Rattle.rules.specs.Tables.{Tables, slipTotal, pieceTotal, bufferTotal, vacant, blank, freshTables}
+use Rattle.rules.specs.Bytes.{buffersIn, piecesIn, slipsIn, decode, encode}
+use Rattle.rules.specs.Chain.{State, reads}
+use Rattle.rules.specs.Room.{isVacant}
+use Rattle.rules.specs.Sound.{Lent, headerOk, soundTables, sound}
+use Rattle.rules.specs.Rule.{Rule, noView, codeIn}
+use Rattle.rules.specs.Open.{openable}
+use Rattle.rules.specs.Step.{Operation, Call, Open, Do, rule, lentOut, Result, refused, stateIn, done, perform, step, next, run}
+use Rattle.rules.specs.After.{readsAfter, vacantAfter}
+use Rattle.rules.proofs.Logic.{if-T, if-F, if-either, and-intro, and-0, and-1, eq→eqb, is-dec}
+use Rattle.rules.proofs.Moves.{SoundNow}
+use Rattle.rules.proofs.Bytes.{Sized, SmallPiece, Header, header-facts, decode-slips, decode-pieces, decode-counts, decode-encode, encode-header, and-is, leb-is, eqb-is}
+use Rattle.rules.proofs.Bounds.{Small, small}
+use Rattle.rules.proofs.Sizes.{Sizes, rule-sizes, rule-storage}
+use Rattle.rules.proofs.Audit.{tables-pass, sound-now, fresh-sound}
+use Rattle.rules.proofs.Codes.{refusal-pos, allowed}
+use Rattle.rules.proofs.Sound.{rule-sound}
+use Rattle.rules.proofs.After.{reads-ok}
+
+-- ---- a no
+
+-- what a call is lent besides pool and storage
+abbrev pub lentTo : Call → List ℕ
+lentTo (Open B P S) = []
+lentTo (Do o) = lentOut o
+
+perform-refused : (o : Operation) (m : Lent) → perform o m .code ≢ 0 → perform o m ≡ refused (perform o m .code) m (lentOut o)
+unfolding perform done
+perform-refused o m h =
+    let r = rule o (stateIn m) in
+    let c = codeIn r (decode (m .pool)) in
+    if-either (λ (x : Result). x .code ≢ 0 → x ≡ refused (x .code) m (lentOut o)) (eqb c 0) (done r) (refused c m (lentOut o)) (λ _ n. absurd (n refl)) (λ _ _. refl) h
+
+-- A call that is not done answers its code and 0, and alters nothing.
+pub alters-nothing : (c : Call) (m : Lent) → step c m .code ≢ 0 → step c m ≡ refused (step c m .code) m (lentTo c)
+unfolding step
+alters-nothing (Open B P S) m h =
+    if-either (λ (x : Result). x .code ≢ 0 → x ≡ refused (x .code) m []) (openable B P S m) _ _ (λ _ n. absurd (n refl)) (λ _ _. refl) h
+alters-nothing (Do o) m h =
+    if-either (λ (x : Result). x .code ≢ 0 → x ≡ refused (x .code) m (lentOut o)) (sound m) (perform o m) (refused (refusalCode Torn) m (lentOut o))
+    (λ _ n. perform-refused o m n) (λ _ _. refl) h
+
+-- ---- a call that is done
+
+-- it found a sound pool, and is its rule
+pub record Did (o : Operation) (m : Lent) : Type 0 where
+  pub was-sound : Is (sound m)
+  pub allowed-code : codeIn (rule o (stateIn m)) (decode (m .pool)) ≡ 0
+  pub result : step (Do o) m ≡ done (rule o (stateIn m))
+
+pub step-sound-pool : (o : Operation) (m : Lent) → Is (sound m) → step (Do o) m ≡ perform o m
+unfolding step
+step-sound-pool o m t = if-T (sound m) (perform o m) (refused (refusalCode Torn) m (lentOut o)) t
+
+pub step-torn : (o : Operation) (m : Lent) → (Is (sound m) → ⊥) → step (Do o) m ≡ refused (refusalCode Torn) m (lentOut o)
+unfolding step
+step-torn o m t = if-F (sound m) (perform o m) (refused (refusalCode Torn) m (lentOut o)) t
+
+pub perform-done : (o : Operation) (m : Lent) → codeIn (rule o (stateIn m)) (decode (m .pool)) ≡ 0 → perform o m ≡ done (rule o (stateIn m))
+unfolding perform
+perform-done o m e = if-T (eqb (codeIn (rule o (stateIn m)) (decode (m .pool))) 0) _ _ (eq→eqb _ 0 e)
+
+pub perform-no : (o : Operation) (m : Lent) → codeIn (rule o (stateIn m)) (decode (m .pool)) ≢ 0 → perform o m ≡ refused (codeIn (rule o (stateIn m)) (decode (m .pool))) m (lentOut o)
+unfolding perform
+perform-no o m n = if-F (eqb (codeIn (rule o (stateIn m)) (decode (m .pool))) 0) _ _ (λ t. n (eqb→eq _ 0 t))
+
+-- where the pool is sound, the code is the rule's
+pub code-is : (o : Operation) (m : Lent) → Is (sound m) → step (Do o) m .code ≡ codeIn (rule o (stateIn m)) (decode (m .pool))
+unfolding done
+code-is o m t =
+    let c = codeIn (rule o (stateIn m)) (decode (m .pool)) in
+    ap (λ (x : Result). x .code) (step-sound-pool o m t)
+    ∙ elim (ℕ-discrete c 0) [ yes z ↦ ap (λ (x : Result). x .code) (perform-done o m z) ∙ sym z | no z ↦ ap (λ (x : Result). x .code) (perform-no o m z) ]
+
+pub did : (o : Operation) (m : Lent) → step (Do o) m .code ≡ 0 → Did o m
+did o m e =
+    ⊎-elim
+    (λ t. (
+    let z = sym (code-is o m t) ∙ e in
+    record { was-sound = t; allowed-code = z; result = step-sound-pool o m t ∙ perform-done o m z }))
+    (λ n. absurd (let q = ap (λ (x : Result). x .code) (step-torn o m n) in omega arith))
+    (is-dec (sound m))
+
+-- ---- soundness in bytes
+
+-- every entry of sound tables within the limits fits 16 bits
+pub sized : (T : Tables) → SoundNow T → bufferTotal T ≤ mostBuffers → pieceTotal T ≤ mostPieces → slipTotal T ≤ mostSlips → Sized T
+sized T h b p s =
+    let k = small T h in
+    record {
+      slips-small = λ i. omega (arith, k .slips-small i);
+      pieces-small = λ d. omega (arith, k .counts-small d, k .buffers-small d, k .places-small d, k .nexts-small d);
+      counts-small = λ i. omega (arith, k .buffer-counts-small i);
+      few-slips = omega arith;
+      few-pieces = omega arith;
+      few-buffers = omega arith;
+    }
+
+counted-is : (most n : ℕ) → 1 ≤ n → n ≤ most → Is (counted most n)
+counted-is most n a b = and-intro (leb 1 n) (leb n most) (le→leb 1 n a) (le→leb n most b)
+
+-- the sizes that open takes
+pub record Within (T : Tables) (st : List ℕ) : Type 0 where
+  pub some-buffers : 1 ≤ bufferTotal T
+  pub most-buffers : bufferTotal T ≤ mostBuffers
+  pub some-pieces : 1 ≤ pieceTotal T
+  pub most-pieces : pieceTotal T ≤ mostPieces
+  pub some-slips : 1 ≤ slipTotal T
+  pub most-slips : slipTotal T ≤ mostSlips
+  pub storage-fits : length st ≡ storageLength (bufferTotal T)
+
+pub within-sized : {T : Tables} {st : List ℕ} → SoundNow T → Within T st → Sized T
+within-sized {T} h w = sized T h (w .most-buffers) (w .most-pieces) (w .most-slips)
+
+-- the bytes of sound tables are a sound pool
+pub encode-sound : (T : Tables) (st : List ℕ) → SoundNow T → Within T st → Is (sound (record { pool = encode T; storage = st }))
+unfolding sound
+encode-sound T st h w =
+    let z = within-sized h w in
+    and-intro (headerOk (record { pool = encode T; storage = st })) (soundTables (decode (encode T)))
+    (encode-header T st z (counted-is mostBuffers (bufferTotal T) (w .some-buffers) (w .most-buffers)) (counted-is mostPieces (pieceTotal T) (w .some-pieces) (w .most-pieces)) (counted-is mostSlips (slipTotal T) (w .some-slips) (w .most-slips)) (w .storage-fits))
+    (subst (λ X. Is (soundTables X)) (sym (decode-encode T z)) (tables-pass T h))
+
+-- a sound pool is within the sizes
+pub sound-within : (m : Lent) → Is (sound m) → Within (decode (m .pool)) (m .storage)
+unfolding sound
+sound-within m t =
+    let h = header-facts m (and-0 (headerOk m) (soundTables (decode (m .pool))) t) in
+    let b = decode-counts (m .pool) in
+    let p = decode-pieces (m .pool) in
+    let s = decode-slips (m .pool) in
+    record {
+      some-buffers = omega (arith, h .some-buffers);
+      most-buffers = omega (arith, h .most-buffers);
+      some-pieces = omega (arith, h .some-pieces);
+      most-pieces = omega (arith, h .most-pieces);
+      some-slips = omega (arith, h .some-slips);
+      most-slips = omega (arith, h .most-slips);
+      storage-fits = h .storage-long ∙ ap storageLength (sym b);
+    }
+
+-- an operation that is done leaves the sizes
+pub rule-within : (o : Operation) (S : State) → Within (S .tables) (S .storage) → Within (rule o S .after .tables) (rule o S .after .storage)
+rule-within o S w =
+    let z = rule-sizes o S in
+    let b = z .counts-size in
+    let p = z .pieces-size in
+    let s = z .slips-size in
+    record {
+      some-buffers = omega (arith, w .some-buffers);
+      most-buffers = omega (arith, w .most-buffers);
+      some-pieces = omega (arith, w .some-pieces);
+      most-pieces = omega (arith, w .most-pieces);
+      some-slips = omega (arith, w .some-slips);
+      most-slips = omega (arith, w .most-slips);
+      storage-fits = rule-storage o S (w .storage-fits) ∙ w .storage-fits ∙ ap storageLength (sym b);
+    }
+
+-- The pool that a done open writes is sound.
+pub open-sound : (B P S : ℕ) (m : Lent) → Is (openable B P S m) → Is (sound (record { pool = encode (freshTables B P S); storage = m .storage }))
+unfolding openable
+open-sound B P S m t =
+    let f = simp (and-is, eqb-is, leb-is) at t in
+    let b = length-replicate {A = ℕ} B 0 in
+    let p = length-replicate P blank in
+    let s = length-replicate {A = ℕ} S 0 in
+    encode-sound (freshTables B P S) (m .storage) (fresh-sound B P S) (record {
+      some-buffers = omega arith;
+      most-buffers = omega arith;
+      some-pieces = omega arith;
+      most-pieces = omega arith;
+      some-slips = omega arith;
+      most-slips = omega arith;
+      storage-fits = f .1 .1 .1 .1 ∙ ap storageLength (sym b);
+    })
+
+-- ---- every call
+
+-- after an operation that is done, the bytes hold what its rule says
+pub after-state : (o : Operation) (m : Lent) → step (Do o) m .code ≡ 0 → stateIn (next (Do o) m) ≡ rule o (stateIn m) .after
+unfolding done
+after-state o m e =
+    let d = did o m e in
+    let S = stateIn m in
+    let h = rule-sound o S (sound-now m (d .was-sound)) (allowed (rule o S) (S .tables) (d .allowed-code)) in
+    let w = rule-within o S (sound-within m (d .was-sound)) in
+    let back : decode (encode (rule o S .after .tables)) ≡ rule o S .after .tables = decode-encode (rule o S .after .tables) (within-sized h w) in
+    ap (λ (x : Result). stateIn (record { pool = x .pool; storage = x .storage })) (d .result) ∙ (λ i. record { tables = back i; storage = rule o S .after .storage })
+
+next-refused : (c : Call) (m : Lent) → step c m .code ≢ 0 → next c m ≡ m
+next-refused c m n = ap (λ (x : Result). record { pool = x .pool; storage = x .storage }) (alters-nothing c m n)
+
+keeps-done : (o : Operation) (m : Lent) → step (Do o) m .code ≡ 0 → Is (sound (next (Do o) m))
+unfolding done
+keeps-done o m e =
+    let d = did o m e in
+    let S = stateIn m in
+    let h = rule-sound o S (sound-now m (d .was-sound)) (allowed (rule o S) (S .tables) (d .allowed-code)) in
+    let w = rule-within o S (sound-within m (d .was-sound)) in
+    subst (λ (x : Result). Is (sound (record { pool = x .pool; storage = x .storage }))) (sym (d .result)) (encode-sound (rule o S .after .tables) (rule o S .after .storage) h w)
+
+open-keeps : (B P S : ℕ) (m : Lent) → Is (sound m) → Is (sound (next (Open B P S) m))
+unfolding step
+open-keeps B P S m t =
+    if-either (λ (x : Result). Is (sound (record { pool = x .pool; storage = x .storage }))) (openable B P S m) _ _ (λ o. open-sound B P S m o) (λ _. t)
+
+-- A done open leaves a sound pool, whatever was there before.
+pub opened-sound : (B P S : ℕ) (m : Lent) → step (Open B P S) m .code ≡ 0 → Is (sound (next (Open B P S) m))
+unfolding step
+opened-sound B P S m e =
+    if-either (λ (x : Result). x .code ≡ 0 → Is (sound (record { pool = x .pool; storage = x .storage }))) (openable B P S m) _ _ (λ o _. open-sound B P S m o) (λ _ z. absurd (omega arith)) e
+
+-- Soundness is kept by every call, done or refused.
+pub step-keeps : (c : Call) (m : Lent) → Is (sound m) → Is (sound (next c m))
+step-keeps (Open B P S) m t = open-keeps B P S m t
+step-keeps (Do o) m t =
+    elim (ℕ-discrete (step (Do o) m .code) 0) [
+      | yes e ↦ keeps-done o m e
+      | no n ↦ subst (λ x. Is (sound x)) (sym (next-refused (Do o) m n)) t
+    ]
+
+-- ---- what slips read, in bytes
+
+pub slips-read : (o : Operation) (m : Lent) → step (Do o) m .code ≡ 0 → (t : ℕ) → reads (stateIn (next (Do o) m)) t ≡ readsAfter o (stateIn m) t
+slips-read o m e t =
+    let d = did o m e in
+    let S = stateIn m in
+    ap (λ (x : State). reads x t) (after-state o m e)
+    ∙ reads-ok o S (sound-now m (d .was-sound)) (sound-within m (d .was-sound) .storage-fits) (allowed (rule o S) (S .tables) (d .allowed-code)) .bytes t
+
+pub slips-vacant : (o : Operation) (m : Lent) → step (Do o) m .code ≡ 0 → (t : ℕ) → isVacant (decode (next (Do o) m .pool)) t ≡ vacantAfter o (stateIn m) t
+slips-vacant o m e t =
+    let d = did o m e in
+    let S = stateIn m in
+    ap (λ (x : State). isVacant (x .tables) t) (after-state o m e)
+    ∙ reads-ok o S (sound-now m (d .was-sound)) (sound-within m (d .was-sound) .storage-fits) (allowed (rule o S) (S .tables) (d .allowed-code)) .vacancy t

@@ -1,0 +1,45 @@
+-- append a, b: a reads as a then b; b is vacant.
+use mathlib.Core.Bool.{Bool, _||_}
+use mathlib.Core.List.{List, [], _∷_}
+use Prim.Native.Nat.{ℕ}
+use lib.ListN.{length, drop}
+use lib.Dec.{eqb}
+use Rattle.kinds.specs.declared.Refusal.the-variants.{Slip, Same}
+use Rattle.rules.specs.Basics.{if_then_else_}
+use Rattle.rules.specs.Tables.{Tables, slip, headOf, vacant, pieceTotal, setSlip}
+use Rattle.rules.specs.Chain.{State, Stretch, spans, ownPieces}
+use Rattle.rules.specs.Room.{freePieces}
+use Rattle.rules.specs.Release.{withTables}
+use Rattle.rules.specs.Build.{built, builtLink, behindOwn}
+use Rattle.rules.specs.Rule.{Rule, _⇐_, unnamed, want, alters}
+
+-- a's own pieces, by the counts at entry; and the stretches of the others, which are replaced
+abbrev pub ownOf : Tables → ℕ → List ℕ
+ownOf T a = ownPieces (pieceTotal T) T (headOf T a)
+
+abbrev pub notOwn : Tables → ℕ → List Stretch
+notOwn T a = drop (length (ownOf T a)) (spans T a)
+
+-- either chain is empty
+abbrev pub oneEmpty : Tables → ℕ → ℕ → Bool
+oneEmpty T a b = eqb (headOf T a) 0 || eqb (headOf T b) 0
+
+-- b's head behind the new pieces, and these behind a's own
+unfoldable pub joined : ℕ → ℕ → State → State
+joined a b S =
+    let T = S .tables in
+    let m = headOf T b in
+    behindOwn (withTables S (built (setSlip T b vacant) (freePieces T) (notOwn T a) m)) a (ownOf T a) (builtLink (freePieces T) (notOwn T a) m)
+
+-- an empty a takes b's head; with an empty b it stays
+unfoldable pub appendAfter : ℕ → ℕ → State → State
+appendAfter a b S =
+    let T = S .tables in
+    if eqb (headOf T a) 0 then withTables S (setSlip (setSlip T b vacant) a (slip T b))
+    else if eqb (headOf T b) 0 then withTables S (setSlip T b vacant)
+    else joined a b S
+
+abbrev pub append : ℕ → ℕ → State → Rule
+append a b S =
+    let T = S .tables in
+    alters ((Slip ⇐ (unnamed T a || unnamed T b)) ∷ (Same ⇐ eqb a b) ∷ []) (want 0 (if oneEmpty T a b then 0 else length (notOwn T a)) 0) 0 (appendAfter a b S)

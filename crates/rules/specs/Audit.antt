@@ -1,0 +1,7 @@
+-- audit: 0 or 2. Where the pool is sound there is nothing to refuse and nothing to do.
+use mathlib.Core.List.{[]}
+use Rattle.rules.specs.Chain.{State}
+use Rattle.rules.specs.Rule.{Rule, answers}
+
+abbrev pub audit : State → Rule
+audit S = answers [] 0 S

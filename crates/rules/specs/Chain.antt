@@ -1,0 +1,90 @@
+-- Chains: following next, the pieces that a slip's chain has, their stretches, and their bytes.
+use mathlib.Core.Bool.{Bool}
+use mathlib.Core.List.{List, [], _∷_, _++_}
+use Prim.Native.Nat.{ℕ, zero, suc, _+_, _-_, min}
+use lib.ListN.{length, take, drop}
+use lib.Dec.{eqb, leb}
+use Rattle.kinds.specs.Limits.{startOf}
+use Rattle.rules.specs.Basics.{if_then_else_}
+use Rattle.rules.specs.Tables.{Piece, Tables, piece, headOf, pieceTotal}
+
+-- the link that k follows of next lead to from the link n
+unfoldable pub follow : Tables → ℕ → ℕ → ℕ
+follow T zero n = n
+follow T (suc k) zero = zero
+follow T (suc k) (suc d) = follow T k (piece T d .next)
+
+-- the pieces met from the link n, at most k of them
+unfoldable pub walk : ℕ → Tables → ℕ → List ℕ
+walk zero T n = []
+walk (suc k) T zero = []
+walk (suc k) T (suc d) = d ∷ walk k T (piece T d .next)
+
+-- the pieces of a slip's chain, in order; in a sound pool none has more than P
+abbrev pub chain : Tables → ℕ → List ℕ
+chain T s = walk (pieceTotal T) T (headOf T s)
+
+-- Those pieces from the link n that are own: each has count 1, as all before it have; at most k.
+unfoldable pub ownPieces : ℕ → Tables → ℕ → List ℕ
+ownPieces zero T n = []
+ownPieces (suc k) T zero = []
+ownPieces (suc k) T (suc d) = if eqb (piece T d .count) 1 then d ∷ ownPieces k T (piece T d .next) else []
+
+-- A stretch is what a piece covers: len bytes of a buffer, from offset on.
+pub record Stretch : Type 0 where
+  pub buffer : ℕ
+  pub offset : ℕ
+  pub len : ℕ
+
+abbrev pub stretch : Piece → Stretch
+stretch p = record { buffer = p .buffer; offset = p .offset; len = p .len }
+
+unfoldable pub stretches : Tables → List ℕ → List Stretch
+stretches T [] = []
+stretches T (d ∷ ds) = stretch (piece T d) ∷ stretches T ds
+
+-- the stretches of a slip's chain
+abbrev pub spans : Tables → ℕ → List Stretch
+spans T s = stretches T (chain T s)
+
+-- the length of the first and the length of the rest, or zero
+unfoldable pub total : List Stretch → ℕ
+total [] = 0
+total (x ∷ xs) = x .len + total xs
+
+abbrev pub firstLength : List Stretch → ℕ
+firstLength [] = 0
+firstLength (x ∷ xs) = x .len
+
+-- a chain's length
+abbrev pub lengthOf : Tables → ℕ → ℕ
+lengthOf T s = total (spans T s)
+
+-- the stretches of the n bytes from off on: one for each stretch that the range overlaps
+unfoldable pub cutOut : List Stretch → ℕ → ℕ → List Stretch
+cutOut [] off n = []
+cutOut (x ∷ xs) off zero = []
+cutOut (x ∷ xs) off (suc n) =
+    if leb (x .len) off
+    then cutOut xs (off - x .len) (suc n)
+    else (record { buffer = x .buffer; offset = x .offset + off; len = min (suc n) (x .len - off) } ∷ cutOut xs 0 (suc n - (x .len - off)))
+
+-- where a stretch starts in storage, and its bytes there
+abbrev pub positionOf : Stretch → ℕ
+positionOf x = startOf (x .buffer) + x .offset
+
+abbrev pub bytesOf : List ℕ → Stretch → List ℕ
+bytesOf st x = take (x .len) (drop (positionOf x) st)
+
+unfoldable pub contents : List ℕ → List Stretch → List ℕ
+contents st [] = []
+contents st (x ∷ xs) = bytesOf st x ++ contents st xs
+
+-- What a call works on: the tables and the storage.
+pub record State : Type 0 where
+  pub tables : Tables
+  pub storage : List ℕ
+
+-- the bytes of the chain of slip s: its pieces' bytes in order
+abbrev pub reads : State → ℕ → List ℕ
+reads S s = contents (S .storage) (spans (S .tables) s)

@@ -1,0 +1,53 @@
+-- Demand 3: one claim about any list of calls on one pool.
+use mathlib.Core.Path.{_≡_}
+use mathlib.Core.Logic.{_≢_, _↔_}
+use mathlib.Core.Bool.{not}
+use mathlib.Core.List.{List, [], _∷_}
+use Prim.Native.Nat.{ℕ, _≤_, _<_}
+use Rattle.kinds.specs.declared.Refusal.the-variants.{Counts, Torn, Slips, Pieces, Buffers}
+use Rattle.kinds.specs.Refusal.{refusalCode}
+use Rattle.rules.specs.Bytes.{decode}
+use Rattle.rules.specs.Sound.{Lent, sound}
+use Rattle.rules.specs.Rule.{Rule, Wants, want, _⇐_, firstCode}
+use Rattle.rules.specs.Open.{openable}
+use Rattle.rules.specs.Step.{Call, Open, Do, rule, step, stateIn, next, run}
+use Rattle.rules.specs.Recount.{Recount, recounted, leaves}
+
+-- the code judged before room, or 0
+unfoldable pub early : Call → Lent → ℕ
+early (Open B P S) m = firstCode ((Counts ⇐ not (openable B P S m)) ∷ [])
+early (Do o) m = firstCode ((Torn ⇐ not (sound m)) ∷ rule o (stateIn m) .judged)
+
+-- what a call wants by its rule, where every count goes by the references found
+unfoldable pub wanted : Call → Lent → Wants
+wanted (Open B P S) m = want 0 0 0
+wanted (Do o) m = rule o (record { tables = recounted (decode (m .pool)); storage = m .storage }) .wants
+
+-- what the recount just before a call leaves
+abbrev pub left : Lent → Wants
+left m = leaves (decode (m .pool))
+
+-- The code is not 2; and it is 8, 9 or 10 exactly when no code judged before that one applies
+-- and more is wanted than the recount leaves.
+pub record CallOk (c : Call) (m : Lent) : Type 0 where
+  pub not-torn : step c m .code ≢ refusalCode Torn
+  pub slips-full : (step c m .code ≡ refusalCode Slips) ↔ ((early c m ≡ 0) × (left m .slips < wanted c m .slips))
+  pub pieces-full : (step c m .code ≡ refusalCode Pieces)
+      ↔ ((early c m ≡ 0) × (wanted c m .slips ≤ left m .slips) × (left m .pieces < wanted c m .pieces))
+  pub buffers-full : (step c m .code ≡ refusalCode Buffers)
+      ↔ ((early c m ≡ 0) × (wanted c m .slips ≤ left m .slips) × (wanted c m .pieces ≤ left m .pieces) × (left m .buffers < wanted c m .buffers))
+
+-- each call of a list, on the pool as the calls before it leave it
+abbrev pub Each : List Call → Lent → Type 0
+Each [] m = Unit {0}
+Each (c ∷ cs) m = CallOk c m × Each cs (next c m)
+
+-- The claim about a list of calls that begins on m.
+pub record Demand3 (cs : List Call) (m : Lent) : Type 0 where
+  pub each : Each cs m
+  pub recount : Recount (decode (run cs m .pool))
+
+-- The claim itself, proved in proofs/Demand.antt: m is any pool and storage on which an open
+-- was done, cs any list of calls.
+abbrev pub DemandThree : Type 0
+DemandThree = (B P S : ℕ) (m : Lent) (cs : List Call) → step (Open B P S) m .code ≡ 0 → Demand3 cs (next (Open B P S) m)

@@ -1,0 +1,50 @@
+-- drop s, n: the first n bytes go.
+use mathlib.Core.Bool.{Bool, true, false, _&&_}
+use mathlib.Core.List.{List, [], _∷_}
+use Prim.Native.Nat.{ℕ, zero, suc, _+_, _-_}
+use lib.ListN.{length}
+use lib.Dec.{ltb, eqb, leb}
+use Rattle.kinds.specs.declared.Refusal.the-variants.{Slip, Range}
+use Rattle.rules.specs.Basics.{if_then_else_}
+use Rattle.rules.specs.Tables.{Piece, Tables, piece, setPiece, withPlace}
+use Rattle.rules.specs.Chain.{State, stretch, chain, lengthOf}
+use Rattle.rules.specs.Room.{freePieces}
+use Rattle.rules.specs.Release.{shared}
+use Rattle.rules.specs.Build.{Plan, plain, underOld}
+use Rattle.rules.specs.Rule.{Rule, _⇐_, unnamed, want, alters}
+
+-- a piece without its first n bytes
+abbrev pub shorter : Piece → ℕ → Piece
+shorter p n = withPlace p (p .offset + n) (p .len - n)
+
+-- The cut falls n bytes into piece d. At its border the piece stays; inside, it is shortened
+-- in place if own, else an equal new one is shortened and takes its place.
+unfoldable pub dropHere : Tables → Bool → ℕ → ℕ → Plan
+dropHere T own d zero = record { base = shared T (suc d); more = []; tail = suc d }
+dropHere T own d (suc r) =
+    if own
+    then record { base = setPiece (shared T (suc d)) d (shorter (piece (shared T (suc d)) d) (suc r)); more = []; tail = suc d }
+    else record { base = shared T (piece T d .next); more = stretch (shorter (piece T d) (suc r)) ∷ []; tail = piece T d .next }
+
+-- piece d is own where all before it are and its count is 1
+abbrev pub ownAt : Tables → Bool → ℕ → Bool
+ownAt T own d = own && eqb (piece T d .count) 1
+
+-- what stays of the pieces ds without their first n bytes; own: all before are own
+unfoldable pub dropPlan : Tables → Bool → List ℕ → ℕ → Plan
+unfolding dropHere
+dropPlan T own [] n = plain T []
+dropPlan T own (d ∷ ds) n =
+    if leb (piece T d .len) n then dropPlan T (ownAt T own d) ds (n - piece T d .len) else dropHere T (ownAt T own d) d n
+
+-- what drop of n leaves of the chain of s
+abbrev pub dropped : Tables → ℕ → ℕ → Plan
+dropped T s n = dropPlan T true (chain T s) n
+
+unfoldable pub dropAfter : ℕ → ℕ → State → State
+dropAfter s n S = let T = S .tables in if eqb n 0 then S else underOld S (dropped T s n) (freePieces T) s
+
+abbrev pub dropFirst : ℕ → ℕ → State → Rule
+dropFirst s n S =
+    let T = S .tables in
+    alters ((Slip ⇐ unnamed T s) ∷ (Range ⇐ ltb (lengthOf T s) n) ∷ []) (want 0 (length (dropped T s n .more)) 0) 0 (dropAfter s n S)

@@ -1,0 +1,24 @@
+-- dup s: a new slip on one new piece equal to the head, sharing its next and buffer (bf_dupacc).
+use mathlib.Core.List.{List, [], _∷_}
+use Prim.Native.Nat.{ℕ, zero, suc}
+use lib.ListN.{length}
+use Rattle.kinds.specs.declared.Refusal.the-variants.{Slip}
+use Rattle.rules.specs.Tables.{Tables, piece, headOf}
+use Rattle.rules.specs.Chain.{State, stretch}
+use Rattle.rules.specs.Room.{freePieces, newSlip}
+use Rattle.rules.specs.Release.{withTables, shared}
+use Rattle.rules.specs.Build.{Plan, plain, underNew}
+use Rattle.rules.specs.Rule.{Rule, _⇐_, unnamed, want, alters}
+
+-- a second chain like that of the link n; an empty chain needs no piece
+unfoldable pub dupPlan : Tables → ℕ → Plan
+dupPlan T zero = plain T []
+dupPlan T (suc d) = record { base = shared T (piece T d .next); more = stretch (piece T d) ∷ []; tail = piece T d .next }
+
+unfoldable pub dupAfter : ℕ → State → State
+dupAfter s S = let T = S .tables in withTables S (underNew (dupPlan T (headOf T s)) (freePieces T) (newSlip T))
+
+abbrev pub dup : ℕ → State → Rule
+dup s S =
+    let T = S .tables in
+    alters ((Slip ⇐ unnamed T s) ∷ []) (want 1 (length (dupPlan T (headOf T s) .more)) 0) (newSlip T) (dupAfter s S)

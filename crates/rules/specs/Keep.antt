@@ -1,0 +1,52 @@
+-- keep s, n: the first n bytes stay.
+use mathlib.Core.List.{List, [], _∷_}
+use Prim.Native.Nat.{ℕ}
+use lib.ListN.{length, drop}
+use lib.Dec.{ltb, eqb}
+use Rattle.kinds.specs.declared.Refusal.the-variants.{Slip, Range}
+use Rattle.rules.specs.Basics.{if_then_else_, lastOf}
+use Rattle.rules.specs.Tables.{Tables, piece, headOf, setPiece, withPlace}
+use Rattle.rules.specs.Chain.{State, Stretch, spans, lengthOf, ownPieces, cutOut}
+use Rattle.rules.specs.Room.{freePieces}
+use Rattle.rules.specs.Release.{withTables}
+use Rattle.rules.specs.Build.{built, builtLink, behindOwn}
+use Rattle.rules.specs.Rule.{Rule, _⇐_, unnamed, want, alters}
+
+-- the stretches that stay, the last one shortened
+abbrev pub kept : Tables → ℕ → ℕ → List Stretch
+kept T s n = cutOut (spans T s) 0 n
+
+-- those of their pieces that are own; and the stretches of the others, which are replaced
+abbrev pub keptOwn : Tables → ℕ → ℕ → List ℕ
+keptOwn T s n = ownPieces (length (kept T s n)) T (headOf T s)
+
+abbrev pub keptNotOwn : Tables → ℕ → ℕ → List Stretch
+keptNotOwn T s n = drop (length (keptOwn T s n)) (kept T s n)
+
+-- the last of the own pieces ds takes the place of the last of the stretches xs
+unfoldable pub shortened : Tables → List ℕ → List Stretch → Tables
+shortened T [] xs = T
+shortened T (d ∷ ds) [] = T
+shortened T (d ∷ ds) (x ∷ xs) =
+    let l = lastOf d ds in
+    let y = lastOf x xs in
+    setPiece T l (withPlace (piece T l) (y .offset) (y .len))
+
+-- Where all that stay are own the last is shortened in place; else the others are replaced.
+unfoldable pub keptBy : State → ℕ → List ℕ → List Stretch → List Stretch → State
+keptBy S s own xs [] = behindOwn (withTables S (shortened (S .tables) own xs)) s own 0
+keptBy S s own xs (y ∷ ys) =
+    let fs = freePieces (S .tables) in
+    behindOwn (withTables S (built (S .tables) fs (y ∷ ys) 0)) s own (builtLink fs (y ∷ ys) 0)
+
+unfoldable pub keepAfter : ℕ → ℕ → State → State
+unfolding keptBy
+keepAfter s n S =
+    let T = S .tables in
+    if eqb n (lengthOf T s) then S else keptBy S s (keptOwn T s n) (kept T s n) (keptNotOwn T s n)
+
+abbrev pub keep : ℕ → ℕ → State → Rule
+keep s n S =
+    let T = S .tables in
+    alters ((Slip ⇐ unnamed T s) ∷ (Range ⇐ ltb (lengthOf T s) n) ∷ [])
+    (want 0 (if eqb n (lengthOf T s) then 0 else length (keptNotOwn T s n)) 0) 0 (keepAfter s n S)

@@ -1,0 +1,9 @@
+-- length s: the byte count of the chain.
+use mathlib.Core.List.{[], _∷_}
+use Prim.Native.Nat.{ℕ}
+use Rattle.kinds.specs.declared.Refusal.the-variants.{Slip}
+use Rattle.rules.specs.Chain.{State, lengthOf}
+use Rattle.rules.specs.Rule.{Rule, _⇐_, unnamed, answers}
+
+abbrev pub chainLength : ℕ → State → Rule
+chainLength s S = answers ((Slip ⇐ unnamed (S .tables) s) ∷ []) (lengthOf (S .tables) s) S

@@ -1,0 +1,95 @@
+-- The ten marked rows of document 01's morning, and its edges: pool B 4, P 6, S 4; data byte i
+-- is i mod 251.
+use mathlib.Core.List.{List, [], _∷_, _++_, map}
+use Prim.Native.Nat.{ℕ, zero, suc, _-_, _%_}
+use lib.ListN.{length, replicate}
+use Rattle.rules.specs.Tables.{Piece, Tables, blank, freshTables, pieceTotal}
+use Rattle.rules.specs.Bytes.{decode, encode}
+use Rattle.rules.specs.Sound.{Lent}
+use Rattle.rules.specs.Chain.{reads}
+use Rattle.rules.specs.Room.{freePieces}
+use Rattle.rules.specs.Step.{Do, Operation, Put, Free, Dup, Cut, Append, Drop, Keep, Pullup, Pack, step, stateIn, run}
+
+-- A row: the call, its answer, the tables after it, and the bytes that a slip then reads.
+pub record Row : Type 0 where
+  pub call : Operation
+  pub code : ℕ
+  pub number : ℕ
+  pub tables : Tables
+  pub slip : ℕ
+  pub bytes : List ℕ
+
+-- the data bytes from byte a on, n of them
+abbrev pub byteRun : ℕ → ℕ → List ℕ
+byteRun a zero = []
+byteRun a (suc n) = a % 251 ∷ byteRun (suc a) n
+
+-- a piece, the tables, and a row whose call is done
+abbrev pub p : ℕ → ℕ → ℕ → ℕ → ℕ → Piece
+p c b o l n = record { count = c; buffer = b; offset = o; len = l; next = n }
+
+abbrev pub state : List ℕ → List Piece → List ℕ → Tables
+state s ps c = record { slips = s; pieces = ps; counts = c }
+
+abbrev pub row : Operation → ℕ → Tables → ℕ → List ℕ → Row
+row o n T s xs = record { call = o; code = 0; number = n; tables = T; slip = s; bytes = xs }
+
+-- what open 4, 6, 4 leaves over zeroed storage
+abbrev pub fresh4 : Lent
+fresh4 = record { pool = encode (freshTables 4 6 4); storage = replicate 2048 0 }
+
+-- The rows: the call; its number; slips, pieces and counts after it; a slip and its bytes.
+abbrev pub rows : List Row
+rows =
+    row (Put (byteRun 0 600)) 0 (state (2 ∷ 0 ∷ 0 ∷ 0 ∷ []) (p 1 0 0 512 2 ∷ p 1 1 0 88 0 ∷ blank ∷ blank ∷ blank ∷ blank ∷ []) (1 ∷ 1 ∷ 0 ∷ 0 ∷ [])) 0 (byteRun 0 600)
+    ∷ row (Cut 0 500 50) 1 (state (2 ∷ 4 ∷ 0 ∷ 0 ∷ []) (p 1 0 0 512 2 ∷ p 1 1 0 88 0 ∷ p 1 0 500 12 4 ∷ p 1 1 0 38 0 ∷ blank ∷ blank ∷ []) (2 ∷ 2 ∷ 0 ∷ 0 ∷ [])) 1 (byteRun 500 50)
+    ∷ row (Dup 0) 2 (state (2 ∷ 4 ∷ 6 ∷ 0 ∷ []) (p 1 0 0 512 2 ∷ p 2 1 0 88 0 ∷ p 1 0 500 12 4 ∷ p 1 1 0 38 0 ∷ p 1 0 0 512 2 ∷ blank ∷ []) (3 ∷ 2 ∷ 0 ∷ 0 ∷ [])) 2 (byteRun 0 600)
+    ∷ row (Free 0) 0 (state (0 ∷ 4 ∷ 6 ∷ 0 ∷ []) (blank ∷ p 1 1 0 88 0 ∷ p 1 0 500 12 4 ∷ p 1 1 0 38 0 ∷ p 1 0 0 512 2 ∷ blank ∷ []) (2 ∷ 2 ∷ 0 ∷ 0 ∷ [])) 0 []
+    ∷ row (Drop 2 520) 0 (state (0 ∷ 4 ∷ 3 ∷ 0 ∷ []) (blank ∷ p 1 1 8 80 0 ∷ p 1 0 500 12 4 ∷ p 1 1 0 38 0 ∷ blank ∷ blank ∷ []) (1 ∷ 2 ∷ 0 ∷ 0 ∷ [])) 2 (byteRun 520 80)
+    ∷ row (Append 1 2) 0 (state (0 ∷ 4 ∷ 0 ∷ 0 ∷ []) (blank ∷ p 1 1 8 80 0 ∷ p 1 0 500 12 4 ∷ p 1 1 0 38 2 ∷ blank ∷ blank ∷ []) (1 ∷ 2 ∷ 0 ∷ 0 ∷ [])) 1 (byteRun 500 50 ++ byteRun 520 80)
+    ∷ row (Keep 1 40) 0 (state (0 ∷ 4 ∷ 0 ∷ 0 ∷ []) (blank ∷ blank ∷ p 1 0 500 12 4 ∷ p 1 1 0 28 0 ∷ blank ∷ blank ∷ []) (1 ∷ 1 ∷ 0 ∷ 0 ∷ [])) 1 (byteRun 500 40)
+    ∷ row (Pullup 1 20) 0 (state (0 ∷ 2 ∷ 0 ∷ 0 ∷ []) (p 1 2 0 20 4 ∷ blank ∷ blank ∷ p 1 1 8 20 0 ∷ blank ∷ blank ∷ []) (0 ∷ 1 ∷ 1 ∷ 0 ∷ [])) 1 (byteRun 500 40)
+    ∷ row (Pack 1) 0 (state (0 ∷ 3 ∷ 0 ∷ 0 ∷ []) (blank ∷ p 1 0 0 40 0 ∷ blank ∷ blank ∷ blank ∷ blank ∷ []) (1 ∷ 0 ∷ 0 ∷ 0 ∷ [])) 1 (249 ∷ 250 ∷ byteRun 0 38)
+    ∷ row (Free 1) 0 (freshTables 4 6 4) 1 [] ∷ []
+
+-- what the rules give along a list of rows' calls
+unfoldable pub given : List Row → Lent → List Row
+given [] m = []
+given (r ∷ rs) m =
+    let a = step (Do (r .call)) m in
+    let m′ : Lent = record { pool = a .pool; storage = a .storage } in
+    record { call = r .call; code = a .code; number = a .number; tables = decode (a .pool); slip = r .slip; bytes = reads (stateIn m′) (r .slip) } ∷ given rs m′
+
+-- An edge: the calls before it in a fresh pool, the call, its answer, and after it the slips
+-- and the number of pieces in use.
+pub record Edge : Type 0 where
+  pub before : List Operation
+  pub call : Operation
+  pub code : ℕ
+  pub number : ℕ
+  pub slips : List ℕ
+  pub used : ℕ
+
+abbrev pub edge : List Operation → Operation → ℕ → ℕ → List ℕ → ℕ → Edge
+edge os o c n s u = record { before = os; call = o; code = c; number = n; slips = s; used = u }
+
+-- the edges, each in a fresh pool
+abbrev pub edges : List Edge
+edges =
+    edge [] (Put (byteRun 0 512)) 0 0 (2 ∷ 0 ∷ 0 ∷ 0 ∷ []) 1
+    ∷ edge [] (Put (byteRun 0 513)) 0 0 (2 ∷ 0 ∷ 0 ∷ 0 ∷ []) 2
+    ∷ edge [] (Put (byteRun 0 2048)) 0 0 (2 ∷ 0 ∷ 0 ∷ 0 ∷ []) 4
+    ∷ edge [] (Put (byteRun 0 2049)) 10 0 (0 ∷ 0 ∷ 0 ∷ 0 ∷ []) 0
+    ∷ edge (Put (byteRun 0 600) ∷ []) (Cut 0 600 0) 0 1 (2 ∷ 1 ∷ 0 ∷ 0 ∷ []) 2
+    ∷ edge (Put (byteRun 0 600) ∷ []) (Cut 0 601 0) 6 0 (2 ∷ 0 ∷ 0 ∷ 0 ∷ []) 2
+    ∷ edge (Put (byteRun 0 10) ∷ []) (Pullup 0 513) 5 0 (2 ∷ 0 ∷ 0 ∷ 0 ∷ []) 1
+    ∷ edge (Put (byteRun 0 10) ∷ []) (Append 0 0) 4 0 (2 ∷ 0 ∷ 0 ∷ 0 ∷ []) 1
+    ∷ edge [] (Append 0 0) 3 0 (0 ∷ 0 ∷ 0 ∷ 0 ∷ []) 0 ∷ []
+
+-- what the rules give for each of a list of edges
+unfoldable pub tried : List Edge → Lent → List Edge
+tried [] m = []
+tried (e ∷ es) m =
+    let a = step (Do (e .call)) (run (map Do (e .before)) m) in
+    let T = decode (a .pool) in
+    edge (e .before) (e .call) (a .code) (a .number) (T .slips) (pieceTotal T - length (freePieces T)) ∷ tried es m

@@ -1,0 +1,36 @@
+-- pullup s, n: the first n bytes in one piece.
+use mathlib.Core.List.{List, [], _∷_, _++_}
+use Prim.Native.Nat.{ℕ, suc}
+use lib.ListN.{length, take}
+use lib.Dec.{ltb, leb}
+use Rattle.kinds.specs.Limits.{bufferSize}
+use Rattle.kinds.specs.declared.Refusal.the-variants.{Slip, Long, Range}
+use Rattle.rules.specs.Basics.{if_then_else_}
+use Rattle.rules.specs.Tables.{Tables}
+use Rattle.rules.specs.Chain.{State, spans, firstLength, lengthOf, reads}
+use Rattle.rules.specs.Room.{freePieces, newBuffers}
+use Rattle.rules.specs.Build.{Plan, underOld, laid, stored}
+use Rattle.rules.specs.Drop.{dropped}
+use Rattle.rules.specs.Rule.{Rule, _⇐_, unnamed, Wants, want, alters}
+
+-- n bytes on a new buffer, before what drop of n leaves
+abbrev pub pulled : Tables → ℕ → ℕ → Plan
+pulled T s n =
+    let p = dropped T s n in
+    record { base = p .base; more = laid (newBuffers T 1) n ++ p .more; tail = p .tail }
+
+-- Where the first piece has the n bytes, or n is 0, nothing changes. Else they are copied to
+-- a new buffer, and the rest of it is zero.
+unfoldable pub pullupAfter : ℕ → ℕ → State → State
+pullupAfter s n S =
+    let T = S .tables in
+    if leb n (firstLength (spans T s)) then S
+    else underOld (record { tables = T; storage = stored (S .storage) (newBuffers T 1) (take n (reads S s)) }) (pulled T s n) (freePieces T) s
+
+unfoldable pub pullupWants : Tables → ℕ → ℕ → Wants
+pullupWants T s n = if leb n (firstLength (spans T s)) then want 0 0 0 else want 0 (suc (length (dropped T s n .more))) 1
+
+abbrev pub pullup : ℕ → ℕ → State → Rule
+pullup s n S =
+    let T = S .tables in
+    alters ((Slip ⇐ unnamed T s) ∷ (Long ⇐ ltb bufferSize n) ∷ (Range ⇐ ltb (lengthOf T s) n) ∷ []) (pullupWants T s n) 0 (pullupAfter s n S)

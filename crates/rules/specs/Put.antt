@@ -1,0 +1,19 @@
+-- put input: the bytes go into fresh pieces on fresh buffers, under a new slip.
+use mathlib.Core.List.{List, []}
+use Prim.Native.Nat.{ℕ}
+use lib.ListN.{length}
+use Rattle.rules.specs.Chain.{State}
+use Rattle.rules.specs.Room.{freePieces, newSlip, newBuffers}
+use Rattle.rules.specs.Build.{plain, underNew, buffersFor, laid, stored}
+use Rattle.rules.specs.Rule.{Rule, want, alters}
+
+unfoldable pub putAfter : List ℕ → State → State
+putAfter input S =
+    let T = S .tables in
+    let bs = newBuffers T (buffersFor (length input)) in
+    record { tables = underNew (plain T (laid bs (length input))) (freePieces T) (newSlip T); storage = stored (S .storage) bs input }
+
+abbrev pub put : List ℕ → State → Rule
+put input S =
+    let k = buffersFor (length input) in
+    alters [] (want 1 k k) (newSlip (S .tables)) (putAfter input S)

@@ -1,0 +1,24 @@
+-- read s, off, len into a lent output: the bytes are copied to its front, and the rest of it is unchanged.
+use mathlib.Core.List.{List, [], _∷_, _++_}
+use Prim.Native.Nat.{ℕ, _+_}
+use lib.ListN.{length, take, drop}
+use lib.Dec.{ltb}
+use Rattle.kinds.specs.declared.Refusal.the-variants.{Slip, Range, Narrow}
+use Rattle.rules.specs.Chain.{State, lengthOf, reads}
+use Rattle.rules.specs.Rule.{Rule, _⇐_, unnamed, want, noView}
+
+-- xs at the front of a lent output
+abbrev pub copied : List ℕ → List ℕ → List ℕ
+copied xs out = xs ++ drop (length xs) out
+
+abbrev pub read : ℕ → ℕ → ℕ → List ℕ → State → Rule
+read s off n out S =
+    let T = S .tables in
+    record {
+      judged = (Slip ⇐ unnamed T s) ∷ (Range ⇐ ltb (lengthOf T s) (off + n)) ∷ (Narrow ⇐ ltb (length out) n) ∷ [];
+      wants = want 0 0 0;
+      after = S;
+      number = n;
+      output = copied (take n (drop off (reads S s))) out;
+      view = noView;
+    }

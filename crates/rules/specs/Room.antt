@@ -1,0 +1,33 @@
+-- The free numbers, lowest first, and the new numbers that a call takes.
+use mathlib.Core.Bool.{Bool}
+use mathlib.Core.List.{List}
+use Prim.Native.Nat.{ℕ}
+use lib.ListN.{getD, take}
+use lib.Dec.{eqb}
+use Rattle.rules.specs.Basics.{places}
+use Rattle.rules.specs.Tables.{Tables, slip, piece, bufferCount, vacant, slipTotal, pieceTotal, bufferTotal}
+
+abbrev pub isVacant : Tables → ℕ → Bool
+isVacant T s = eqb (slip T s) vacant
+
+abbrev pub isFree : Tables → ℕ → Bool
+isFree T d = eqb (piece T d .count) 0
+
+abbrev pub isUnheld : Tables → ℕ → Bool
+isUnheld T b = eqb (bufferCount T b) 0
+
+abbrev pub vacantSlips : Tables → List ℕ
+vacantSlips T = places (isVacant T) 0 (slipTotal T)
+
+abbrev pub freePieces : Tables → List ℕ
+freePieces T = places (isFree T) 0 (pieceTotal T)
+
+abbrev pub freeBuffers : Tables → List ℕ
+freeBuffers T = places (isUnheld T) 0 (bufferTotal T)
+
+-- a new slip is the lowest vacant one; the k new buffers are the lowest k free
+abbrev pub newSlip : Tables → ℕ
+newSlip T = getD (vacantSlips T) 0 0
+
+abbrev pub newBuffers : Tables → ℕ → List ℕ
+newBuffers T k = take k (freeBuffers T)

@@ -1,0 +1,78 @@
+-- What a call's rule says of it, where the pool is sound.
+use mathlib.Core.Bool.{Bool, not, _&&_}
+use mathlib.Core.List.{List, [], _∷_, _++_}
+use Prim.Native.Nat.{ℕ}
+use lib.ListN.{length}
+use lib.Dec.{ltb}
+use Rattle.kinds.specs.declared.Refusal.{Refusal}
+use Rattle.kinds.specs.declared.Refusal.the-variants.{Slips, Pieces, Buffers}
+use Rattle.kinds.specs.Refusal.{refusalCode}
+use Rattle.rules.specs.Basics.{if_then_else_}
+use Rattle.rules.specs.Tables.{Tables, slipTotal}
+use Rattle.rules.specs.Chain.{State}
+use Rattle.rules.specs.Room.{isVacant, vacantSlips, freePieces, freeBuffers}
+
+-- A refusal, and whether its cause is there.
+pub record Judged : Type 0 where
+  pub refusal : Refusal
+  pub applies : Bool
+
+abbrev pub _⇐_ : Refusal → Bool → Judged
+r ⇐ b = record { refusal = r; applies = b }
+
+infixl 40 _⇐_
+-- the code of the first refusal whose cause is there, or 0
+unfoldable pub firstCode : List Judged → ℕ
+firstCode [] = 0
+firstCode (j ∷ js) = if j .applies then refusalCode (j .refusal) else firstCode js
+
+-- slip s is S or more, or vacant
+abbrev pub unnamed : Tables → ℕ → Bool
+unnamed T s = not (ltb s (slipTotal T) && not (isVacant T s))
+
+-- How many new slips, pieces and buffers; also how many there are.
+pub record Wants : Type 0 where
+  pub slips : ℕ
+  pub pieces : ℕ
+  pub buffers : ℕ
+
+abbrev pub want : ℕ → ℕ → ℕ → Wants
+want s p b = record { slips = s; pieces = p; buffers = b }
+
+-- the room at entry
+abbrev pub room : Tables → Wants
+room T = want (length (vacantSlips T)) (length (freePieces T)) (length (freeBuffers T))
+
+-- Where show's view starts: in the scratch (1) or in storage (0), and at which byte.
+pub record View : Type 0 where
+  pub inScratch : ℕ
+  pub start : ℕ
+
+abbrev pub noView : View
+noView = record { inScratch = 0; start = 0 }
+
+-- The rule of one call: the refusals judged before room, in order; what it wants; and, once it
+-- is done, the tables and storage, the number, the lent output or scratch, and the view.
+pub record Rule : Type 0 where
+  pub judged : List Judged
+  pub wants : Wants
+  pub after : State
+  pub number : ℕ
+  pub output : List ℕ
+  pub view : View
+
+-- "full": more is wanted than there is
+abbrev pub full : Wants → Wants → List Judged
+full w r = (Slips ⇐ ltb (r .slips) (w .slips)) ∷ (Pieces ⇐ ltb (r .pieces) (w .pieces)) ∷ (Buffers ⇐ ltb (r .buffers) (w .buffers)) ∷ []
+
+-- the rule of a call that is lent no output
+abbrev pub alters : List Judged → Wants → ℕ → State → Rule
+alters js w n S = record { judged = js; wants = w; after = S; number = n; output = []; view = noView }
+
+-- the rule of a call that alters nothing either
+abbrev pub answers : List Judged → ℕ → State → Rule
+answers js n S = alters js (want 0 0 0) n S
+
+-- the code of a call where the pool is sound
+abbrev pub codeIn : Rule → Tables → ℕ
+codeIn r T = firstCode (r .judged ++ full (r .wants) (room T))

@@ -1,0 +1,100 @@
+-- When a pool is sound: document 01's list, and the same list as a test that computes.
+use mathlib.Core.Path.{_≡_}
+use mathlib.Core.Bool.{Bool, true, false, _&&_}
+use mathlib.Core.List.{List}
+use Prim.Native.Nat.{ℕ, zero, suc, _+_, _*_, _≤_, _<_}
+use lib.ListN.{length, getD}
+use lib.Dec.{ltb, eqb, leb}
+use Rattle.kinds.specs.Limits.{mostBuffers, mostPieces, mostSlips, counted, sizeOf}
+use Rattle.rules.specs.Basics.{Is, if_then_else_, bit, sumTo, allTo}
+use Rattle.rules.specs.Layout.{version, poolLength, storageLength}
+use Rattle.rules.specs.Tables.{Piece, Tables, piece, bufferCount, isBlank, headOf, slipTotal, pieceTotal, bufferTotal}
+use Rattle.rules.specs.Bytes.{versionIn, buffersIn, piecesIn, slipsIn, decode}
+use Rattle.rules.specs.Chain.{follow}
+
+-- What every call is lent, in bytes: the pool and its storage.
+pub record Lent : Type 0 where
+  pub pool : List ℕ
+  pub storage : List ℕ
+
+abbrev pub inUse : Piece → Bool
+inUse p = ltb 0 (p .count)
+
+-- the link n leads to piece d
+abbrev pub leads : ℕ → ℕ → Bool
+leads zero d = false
+leads (suc e) d = eqb e d
+
+-- ---- what is counted
+
+-- the number of slips heading piece d
+unfoldable pub heads : Tables → ℕ → ℕ
+heads T d = sumTo (slipTotal T) (λ s. bit (leads (headOf T s) d))
+
+-- the number of pieces in use whose next is piece d
+unfoldable pub nexts : Tables → ℕ → ℕ
+nexts T d = sumTo (pieceTotal T) (λ c. bit (inUse (piece T c) && leads (piece T c .next) d))
+
+-- the number of pieces in use lying on buffer b
+unfoldable pub lying : Tables → ℕ → ℕ
+lying T b = sumTo (pieceTotal T) (λ c. bit (inUse (piece T c) && eqb (piece T c .buffer) b))
+
+-- ---- the conditions on one entry
+
+-- no piece, or a piece below P with a count above 0
+abbrev pub linkOk : Tables → ℕ → Bool
+linkOk T zero = true
+linkOk T (suc d) = ltb d (pieceTotal T) && inUse (piece T d)
+
+-- all zero, or a buffer below B, a length of at least 1, inside the buffer, and a good next
+abbrev pub pieceOk : Tables → Piece → Bool
+pieceOk T p =
+    if eqb (p .count) 0
+    then isBlank p
+    else (ltb (p .buffer) (bufferTotal T) && (leb 1 (p .len) && (leb (p .offset + p .len) (sizeOf (p .buffer)) && linkOk T (p .next))))
+
+-- mark, version, counts and both lengths fit
+unfoldable pub headerOk : Lent → Bool
+headerOk m =
+    let p = m .pool in
+    eqb (getD p 0 0) 83 && (eqb (getD p 1 0) 76 && (eqb (getD p 2 0) 80 && (eqb (versionIn p) version
+    && (counted mostBuffers (buffersIn p) && (counted mostPieces (piecesIn p) && (counted mostSlips (slipsIn p)
+    && (eqb (length p) (poolLength (buffersIn p) (piecesIn p) (slipsIn p)) && eqb (length (m .storage)) (storageLength (buffersIn p)))))))))
+
+-- ---- the list
+
+-- Following next never comes back to a piece already met: from a piece in use, each piece is
+-- met after one number of follows only.
+abbrev pub NeverBack : Tables → Type 0
+NeverBack T = (d e i j : ℕ) → Is (inUse (piece T d)) → follow T i (suc d) ≡ suc e → follow T j (suc d) ≡ suc e → i ≡ j
+
+-- the conditions on the tables
+pub record SoundTables (T : Tables) : Type 0 where
+  pub pieces-ok : (d : ℕ) → d < pieceTotal T → Is (pieceOk T (piece T d))
+  pub slips-ok : (s : ℕ) → s < slipTotal T → Is (linkOk T (headOf T s))
+  pub piece-counts : (d : ℕ) → d < pieceTotal T → piece T d .count ≡ heads T d + nexts T d
+  pub buffer-counts : (b : ℕ) → b < bufferTotal T → bufferCount T b ≡ lying T b
+  pub never-back : NeverBack T
+
+-- a pool and its storage are sound
+pub record Sound (m : Lent) : Type 0 where
+  pub header-ok : Is (headerOk m)
+  pub tables-ok : SoundTables (decode (m .pool))
+
+-- ---- the test
+
+-- following next from each piece ends within P follows
+unfoldable pub acyclic : Tables → Bool
+acyclic T = allTo (pieceTotal T) (λ d. eqb (follow T (pieceTotal T) (suc d)) 0)
+
+unfoldable pub soundTables : Tables → Bool
+soundTables T =
+    allTo (pieceTotal T) (λ d. pieceOk T (piece T d))
+    && (allTo (slipTotal T) (λ s. linkOk T (headOf T s))
+    && (allTo (pieceTotal T) (λ d. eqb (piece T d .count) (heads T d + nexts T d))
+    && (allTo (bufferTotal T) (λ b. eqb (bufferCount T b) (lying T b))
+    && acyclic T)))
+
+-- What the audit computes. proofs/Audit.antt shows that it passes exactly where Sound holds.
+unfoldable pub sound : Lent → Bool
+sound m = headerOk m && soundTables (decode (m .pool))

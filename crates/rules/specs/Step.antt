@@ -1,0 +1,124 @@
+-- Any call on any bytes, and a list of calls.
+use mathlib.Core.Bool.{Bool, not}
+use mathlib.Core.List.{List, [], _∷_}
+use Prim.Native.Nat.{ℕ}
+use lib.Dec.{eqb}
+use Rattle.kinds.specs.declared.Refusal.the-variants.{Counts, Torn}
+use Rattle.kinds.specs.Refusal.{refusalCode}
+use Rattle.rules.specs.Basics.{if_then_else_}
+use Rattle.rules.specs.Tables.{freshTables}
+use Rattle.rules.specs.Bytes.{decode, encode}
+use Rattle.rules.specs.Chain.{State}
+use Rattle.rules.specs.Sound.{Lent, sound}
+use Rattle.rules.specs.Rule.{Rule, View, noView, codeIn}
+use Rattle.rules.specs.Open.{openable}
+use Rattle.rules.specs.Audit.{audit}
+use Rattle.rules.specs.Put.{put}
+use Rattle.rules.specs.Free.{free}
+use Rattle.rules.specs.Dup.{dup}
+use Rattle.rules.specs.Cut.{cut}
+use Rattle.rules.specs.Append.{append}
+use Rattle.rules.specs.Drop.{dropFirst}
+use Rattle.rules.specs.Keep.{keep}
+use Rattle.rules.specs.Pullup.{pullup}
+use Rattle.rules.specs.Pack.{pack}
+use Rattle.rules.specs.Length.{chainLength}
+use Rattle.rules.specs.Read.{read}
+use Rattle.rules.specs.Show.{show}
+
+-- The calls that ask a sound pool, with what they are lent besides pool and storage.
+pub data Operation : Type 0 where
+  Audit : Operation
+  Put : List ℕ → Operation
+  Free : ℕ → Operation
+  Dup : ℕ → Operation
+  Cut : ℕ → ℕ → ℕ → Operation
+  Append : ℕ → ℕ → Operation
+  Drop : ℕ → ℕ → Operation
+  Keep : ℕ → ℕ → Operation
+  Pullup : ℕ → ℕ → Operation
+  Pack : ℕ → Operation
+  Length : ℕ → Operation
+  Read : ℕ → ℕ → ℕ → List ℕ → Operation
+  Show : ℕ → ℕ → List ℕ → Operation
+
+-- A call opens the pool anew with counts B, P and S, or does an operation.
+pub data Call : Type 0 where
+  Open : ℕ → ℕ → ℕ → Call
+  Do : Operation → Call
+
+-- each operation's rule
+unfoldable pub rule : Operation → State → Rule
+rule Audit S = audit S
+rule (Put input) S = put input S
+rule (Free s) S = free s S
+rule (Dup s) S = dup s S
+rule (Cut s off n) S = cut s off n S
+rule (Append a b) S = append a b S
+rule (Drop s n) S = dropFirst s n S
+rule (Keep s n) S = keep s n S
+rule (Pullup s n) S = pullup s n S
+rule (Pack s) S = pack s S
+rule (Length s) S = chainLength s S
+rule (Read s off n out) S = read s off n out S
+rule (Show s n scratch) S = show s n scratch S
+
+-- the lent output or scratch
+abbrev pub lentOut : Operation → List ℕ
+lentOut Audit = []
+lentOut (Put input) = []
+lentOut (Free s) = []
+lentOut (Dup s) = []
+lentOut (Cut s off n) = []
+lentOut (Append a b) = []
+lentOut (Drop s n) = []
+lentOut (Keep s n) = []
+lentOut (Pullup s n) = []
+lentOut (Pack s) = []
+lentOut (Length s) = []
+lentOut (Read s off n out) = out
+lentOut (Show s n scratch) = scratch
+
+-- What a call answers, and every byte after it.
+pub record Result : Type 0 where
+  pub code : ℕ
+  pub number : ℕ
+  pub pool : List ℕ
+  pub storage : List ℕ
+  pub output : List ℕ
+  pub view : View
+
+-- a no: the code, the number 0, and nothing altered
+abbrev pub refused : ℕ → Lent → List ℕ → Result
+refused c m out = record { code = c; number = 0; pool = m .pool; storage = m .storage; output = out; view = noView }
+
+-- what a sound pool holds
+abbrev pub stateIn : Lent → State
+stateIn m = record { tables = decode (m .pool); storage = m .storage }
+
+-- the rule carried out on bytes
+unfoldable pub done : Rule → Result
+done r = record { code = 0; number = r .number; pool = encode (r .after .tables); storage = r .after .storage; output = r .output; view = r .view }
+
+-- the operation where the pool is sound: it judges codes 3 to 10 and acts
+unfoldable pub perform : Operation → Lent → Result
+perform o m =
+    let r = rule o (stateIn m) in
+    let c = codeIn r (decode (m .pool)) in
+    if eqb c 0 then done r else refused c m (lentOut o)
+
+-- one call
+unfoldable pub step : Call → Lent → Result
+step (Open B P S) m =
+    if openable B P S m
+    then record { code = 0; number = 0; pool = encode (freshTables B P S); storage = m .storage; output = []; view = noView }
+    else refused (refusalCode Counts) m []
+step (Do o) m = if sound m then perform o m else refused (refusalCode Torn) m (lentOut o)
+
+-- pool and storage after a call, and after a list of calls
+abbrev pub next : Call → Lent → Lent
+next c m = let r = step c m in record { pool = r .pool; storage = r .storage }
+
+abbrev pub run : List Call → Lent → Lent
+run [] m = m
+run (c ∷ cs) m = run cs (next c m)

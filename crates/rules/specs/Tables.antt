@@ -1,0 +1,84 @@
+-- The pool's three tables as lists, and their entries.
+use mathlib.Core.Bool.{Bool, _&&_}
+use mathlib.Core.List.{List}
+use Prim.Native.Nat.{ℕ, zero, suc, pred}
+use lib.ListN.{length, getD, set, replicate}
+use lib.Dec.{eqb}
+
+-- A link names a piece or none, as a next does in bytes: 0 none, 1 + d piece d.
+
+-- A piece is a segment descriptor (an mbuf, an accessor): a reference count, and the stretch
+-- of one buffer that it covers; next is a link to the piece after it.
+pub record Piece : Type 0 where
+  pub count : ℕ
+  pub buffer : ℕ
+  pub offset : ℕ
+  pub len : ℕ
+  pub next : ℕ
+
+-- A slip is a handle, the caller's one name for a chain. Its entry is 0 vacant, 1 empty,
+-- 2 + d heading piece d. `counts` has the reference count of each buffer.
+pub record Tables : Type 0 where
+  pub slips : List ℕ
+  pub pieces : List Piece
+  pub counts : List ℕ
+
+-- a free piece: its ten bytes are zero
+abbrev pub blank : Piece
+blank = record { count = 0; buffer = 0; offset = 0; len = 0; next = 0 }
+
+abbrev pub isBlank : Piece → Bool
+isBlank p = eqb (p .count) 0 && (eqb (p .buffer) 0 && (eqb (p .offset) 0 && (eqb (p .len) 0 && eqb (p .next) 0)))
+
+-- the entries; past its end a table reads as zero
+abbrev pub slip : Tables → ℕ → ℕ
+slip T s = getD (T .slips) s 0
+
+abbrev pub piece : Tables → ℕ → Piece
+piece T d = getD (T .pieces) d blank
+
+abbrev pub bufferCount : Tables → ℕ → ℕ
+bufferCount T b = getD (T .counts) b 0
+
+-- the link that a slip's entry holds, and the entry of a slip that holds the link n
+abbrev pub headOf : Tables → ℕ → ℕ
+headOf T s = pred (slip T s)
+
+abbrev pub holding : ℕ → ℕ
+holding n = suc n
+
+abbrev pub vacant : ℕ
+vacant = 0
+
+-- S, P and B
+abbrev pub slipTotal : Tables → ℕ
+slipTotal T = length (T .slips)
+
+abbrev pub pieceTotal : Tables → ℕ
+pieceTotal T = length (T .pieces)
+
+abbrev pub bufferTotal : Tables → ℕ
+bufferTotal T = length (T .counts)
+
+-- the stores
+abbrev pub setSlip : Tables → ℕ → ℕ → Tables
+setSlip T s v = record { slips = set (T .slips) s v; pieces = T .pieces; counts = T .counts }
+
+abbrev pub setPiece : Tables → ℕ → Piece → Tables
+setPiece T d p = record { slips = T .slips; pieces = set (T .pieces) d p; counts = T .counts }
+
+abbrev pub setPieceCount : Tables → ℕ → Piece → ℕ → ℕ → Tables
+setPieceCount T d p b n = record { slips = T .slips; pieces = set (T .pieces) d p; counts = set (T .counts) b n }
+
+abbrev pub withCount : Piece → ℕ → Piece
+withCount p n = record { count = n; buffer = p .buffer; offset = p .offset; len = p .len; next = p .next }
+
+abbrev pub withNext : Piece → ℕ → Piece
+withNext p n = record { count = p .count; buffer = p .buffer; offset = p .offset; len = p .len; next = n }
+
+abbrev pub withPlace : Piece → ℕ → ℕ → Piece
+withPlace p off n = record { count = p .count; buffer = p .buffer; offset = off; len = n; next = p .next }
+
+-- the tables that open writes
+abbrev pub freshTables : ℕ → ℕ → ℕ → Tables
+freshTables B P S = record { slips = replicate S vacant; pieces = replicate P blank; counts = replicate B 0 }

@@ -1,0 +1,2 @@
+-- The laws of word.
+pub mod Laws
