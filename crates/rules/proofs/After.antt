@@ -8,9 +8,8 @@ use native.Mathlib.Decide.{ℕ-discrete}
 use native.Mathlib.Omega.{arith}
 use lib.ListN.{length, getD, set, take, drop, length-set, length-take, take-append-drop}
 use lib.Seq.{getD-set-same, getD-set-other, take-all}
-use lib.Dec.{ltb, eqb, eqb→eq, leb}
+use lib.Dec.{eqb, eqb→eq, leb}
 use Rattle.kinds.specs.Limits.{bufferSize, sizeOf}
-use Rattle.kinds.specs.declared.Refusal.the-variants.{Slip, Same, Long, Range}
 use Rattle.rules.specs.Basics.{Is, if_then_else_}
 use Rattle.rules.specs.Layout.{storageLength}
 use Rattle.rules.specs.Tables.{Tables, slip, piece, bufferCount, headOf, vacant, slipTotal, pieceTotal, bufferTotal, setSlip}
@@ -18,7 +17,7 @@ use Rattle.rules.specs.Chain.{Stretch, State, walk, chain, stretch, stre
 use Rattle.rules.specs.Room.{isVacant, isUnheld, vacantSlips, freePieces, freeBuffers, newSlip, newBuffers}
 use Rattle.rules.specs.Release.{withTables, turned}
 use Rattle.rules.specs.Build.{Plan, plain, underOld, behindOwn, buffersFor, laid, stored}
-use Rattle.rules.specs.Rule.{Judged, _⇐_, firstCode, unnamed, Rule, Wants, want}
+use Rattle.rules.specs.Rule.{Wants, want}
 use Rattle.rules.specs.Put.{putAfter}
 use Rattle.rules.specs.Dup.{dupAfter}
 use Rattle.rules.specs.Cut.{cutAfter}
@@ -29,7 +28,7 @@ use Rattle.rules.specs.Pullup.{pulled, pullupAfter, pullupWants}
 use Rattle.rules.specs.Pack.{packAfter, packWants}
 use Rattle.rules.specs.Step.{Operation, Audit, Put, Free, Dup, Cut, Append, Drop, Keep, Pullup, Pack, Length, Read, Show, rule}
 use Rattle.rules.specs.After.{at, readsAfter, vacantAfter, ReadsOk}
-use Rattle.rules.proofs.Logic.{if-T, if-F, if-either, is-true, is-false, eq→eqb, not-zero, not-less, not-most, or-cases}
+use Rattle.rules.proofs.Logic.{if-T, if-F, if-either, is-true, is-false, eq→eqb, not-most, or-cases}
 use Rattle.rules.proofs.Moves.{SoundBy, SoundWith, SoundNow, buffer-pos, reorder, slip-move}
 use Rattle.rules.proofs.Release.{turned-storage}
 use Rattle.rules.proofs.Build.{Good}
@@ -39,7 +38,7 @@ use Rattle.rules.proofs.Meets.{Meets, chain-meets, slip-same}
 use Rattle.rules.proofs.Hang.{Gives, gives-spans, moved-spans, turned-entry, turned-entries, turned-others}
 use Rattle.rules.proofs.Contents.{Fit, contents-length, contents-append, cutOut-contents, dropOut, dropOut-contents, Off, stored-others, stored-laid}
 use Rattle.rules.proofs.Sizes.{old-storage, behind-storage}
-use Rattle.rules.proofs.Codes.{first-zero, Allowed, named}
+use Rattle.rules.proofs.Codes.{Allowed, no-cause}
 use Rattle.rules.proofs.Sound.{first-named, both-named, rule-sound}
 use Rattle.rules.proofs.Put.{put-gives}
 use Rattle.rules.proofs.Dup.{dup-gives}
@@ -52,10 +51,11 @@ use Rattle.rules.proofs.Pack.{pack-gives}
 
 -- ---- one slip changes
 
-at-here : {A : Type 0} (s t : ℕ) (x : A) (f : ℕ → A) → t ≡ s → at s x f t ≡ x
+-- at s the new value, elsewhere that of f
+pub at-here : {A : Type 0} (s t : ℕ) (x : A) (f : ℕ → A) → t ≡ s → at s x f t ≡ x
 at-here s t x f e = if-T (eqb t s) x (f t) (eq→eqb t s e)
 
-at-there : {A : Type 0} (s t : ℕ) (x : A) (f : ℕ → A) → t ≢ s → at s x f t ≡ f t
+pub at-there : {A : Type 0} (s t : ℕ) (x : A) (f : ℕ → A) → t ≢ s → at s x f t ≡ f t
 at-there s t x f n = if-F (eqb t s) x (f t) (λ e. n (eqb→eq t s e))
 
 -- the value of f itself changes nothing
@@ -134,7 +134,8 @@ module _ (S : State) (h : SoundNow (S .tables)) (f : Fit (bufferTotal (S .tables
       stored-laid (isUnheld (S .tables)) 0 (bufferTotal (S .tables)) (newBuffers (S .tables) k) (S .storage) xs (new-buffers-in (S .tables) k) f
       (omega (arith, length-take k (freeBuffers (S .tables))))
 
-  reads-length : (s : ℕ) → length (reads S s) ≡ lengthOf (S .tables) s
+  -- a slip reads as many bytes as its chain is long
+  pub reads-length : (s : ℕ) → length (reads S s) ≡ lengthOf (S .tables) s
   reads-length s = contents-length (bufferTotal (S .tables)) (S .storage) (spans (S .tables) s) f (spans-good (S .tables) s h)
 
 -- ---- each operation
@@ -340,20 +341,13 @@ keep-reading s n S h f al =
     (ap (λ (q : List ℕ). contents q (kept T s n)) st ∙ cutOut-contents (bufferTotal T) (S .storage) (spans T s) 0 n f (spans-good T s h))))
     (rule-sound (Keep s n) S h al)
 
--- the causes of Long and Range are not there
-in-range-of : (T : Tables) (s n : ℕ) → firstCode ((Slip ⇐ unnamed T s) ∷ (Long ⇐ ltb bufferSize n) ∷ (Range ⇐ ltb (lengthOf T s) n) ∷ []) ≡ 0 → (n ≤ bufferSize) × (n ≤ lengthOf T s)
-in-range-of T s n e =
-    let a = first-zero (Slip ⇐ unnamed T s) _ e in
-    let b = first-zero (Long ⇐ ltb bufferSize n) _ (a .1) in
-    (not-less bufferSize n (b .0), not-less (lengthOf T s) n (first-zero (Range ⇐ ltb (lengthOf T s) n) [] (b .1) .0))
-
 pullup-reading : (s n : ℕ) (S : State) → SoundNow (S .tables) → Fit (bufferTotal (S .tables)) (S .storage) → Allowed (rule (Pullup s n) S) (S .tables)
     → Reading S (pullupAfter s n S) (reads S) (isVacant (S .tables))
 unfolding pullupAfter pullupWants rule
 pullup-reading s n S h f al =
     let T = S .tables in
     let m = first-named T s _ (al .early) in
-    let i = in-range-of T s n (al .early) in
+    let i = simp no-cause at (al .early) in
     let P : State → Type 0 = λ X. SoundNow (X .tables) → Reading S X (reads S) (isVacant T) in
     let stays = leb n (firstLength (spans T s)) in
     if-either P stays _ _ (λ _ _. unchanged S)
@@ -365,9 +359,9 @@ pullup-reading s n S h f al =
     let S₁ : State = record { tables = T; storage = stored (S .storage) (newBuffers T 1) front } in
     let S′ = underOld S₁ (pulled T s n) (freePieces T) s in
     let st = old-storage S₁ (pulled T s n) (freePieces T) s in
-    let long : length front ≡ n = omega (arith, length-take n (reads S s), reads-length S h f s, i .1) in
+    let long : length front ≡ n = omega (arith, length-take n (reads S s), reads-length S h f s) in
     let bs = newBuffers T 1 in
-    let fst : contents (S₁ .storage) (laid bs n) ≡ front = ap (λ k. contents (S₁ .storage) (laid bs k)) (sym long) ∙ new-here S h f 1 front rb (omega (arith, i .0)) in
+    let fst : contents (S₁ .storage) (laid bs n) ≡ front = ap (λ k. contents (S₁ .storage) (laid bs k)) (sym long) ∙ new-here S h f 1 front rb (omega arith) in
     let rst : contents (S₁ .storage) (dropOut (spans T s) n) ≡ drop n (reads S s) =
     stored-others (isUnheld T) 0 (bufferTotal T) bs (S .storage) front (dropOut (spans T s) n) (new-buffers-in T 1) f (good-dropOut (bufferTotal T) (spans T s) n (spans-good T s h)) (off-drop bs (spans T s) n (spans-off T 1 s h))
     ∙ dropOut-contents (bufferTotal T) (S .storage) (spans T s) n f (spans-good T s h) in

@@ -10,6 +10,8 @@ use lib.Dec.{eqb, leb, eqb→eq, eqb-refl, leb→le, le→leb}
 use lib.ListN.{length, getD, set, drop, replicate, length-append, drop-of-length-le, length-replicate, replicate-append-replicate}
 use lib.Seq.{drop-cons, getD-append-add}
 use Rattle.word.specs.Word.{get16, bytes16}
+use Rattle.word.proofs.Laws.{get16-past as load-past}
+pub use Rattle.word.proofs.Laws.{length-bytes16, get16-run}
 use Rattle.kinds.specs.Limits.{mostBuffers, mostPieces, mostSlips, counted}
 use Rattle.rules.specs.Basics.{Is, table}
 use Rattle.rules.specs.Layout.{mark, version, slipAt, pieceAt, countAt, poolLength, storageLength}
@@ -71,32 +73,17 @@ module _ {A : Type 0} where
 abbrev pub AllBytes : List ℕ → Type 0
 AllBytes p = (i : ℕ) → getD p i 0 < 256
 
-pub length-bytes16 : (vs : List ℕ) → length (bytes16 vs) ≡ 2 * length vs
-length-bytes16 [] = refl
-length-bytes16 (v ∷ vs) = let e = length-bytes16 vs in omega arith
-
 -- a number is its two bytes
-pub two-bytes : (v : ℕ) → v < 65536 → v % 256 + v / 256 % 256 * 256 ≡ v
+two-bytes : (v : ℕ) → v < 65536 → v % 256 + v / 256 % 256 * 256 ≡ v
 two-bytes v h = omega arith
 
 pub get16-small : (p : List ℕ) (a : ℕ) → AllBytes p → get16 p a < 65536
 unfolding get16
 get16-small p a byte = let lo = byte a in let hi = byte (a + 1) in omega arith
 
--- a number past a prefix
+-- a number past a prefix, at an address that is given
 pub get16-past : (p l : List ℕ) (a b : ℕ) → b ≡ length p + a → get16 (p ++ l) b ≡ get16 l a
-unfolding get16
-get16-past p l a b e =
-    let f : b + 1 ≡ length p + (a + 1) = omega arith in
-    rw (f, e, getD-append-add p l a 0, getD-append-add p l (a + 1) 0)
-
--- the number at i of a run
-pub get16-run : (vs l : List ℕ) (i : ℕ) → ((j : ℕ) → getD vs j 0 < 65536) → i < length vs → get16 (bytes16 vs ++ l) (2 * i) ≡ getD vs i 0
-unfolding get16
-get16-run [] l i h b = absurd (omega arith)
-get16-run (v ∷ vs) l zero h b = two-bytes v (h 0)
-get16-run (v ∷ vs) l (suc i) h b =
-    get16-past (bytes16 (v ∷ [])) (bytes16 vs ++ l) (2 * i) (2 * suc i) (omega arith) ∙ get16-run vs l i (λ j. h (suc j)) (le-of-suc-le-suc b)
+get16-past p l a b e = ap (get16 (p ++ l)) e ∙ load-past p l a
 
 module _ (p : List ℕ) (byte : AllBytes p) where
   -- the two bytes at a, and what follows

@@ -6,7 +6,7 @@ use mathlib.Core.List.{List, [], _∷_, _++_}
 use Prim.Native.Nat.{ℕ, zero, suc, _+_, _≤_, _<_}
 use native.Mathlib.Decide.{ℕ-discrete, decLt}
 use native.Mathlib.Omega.{arith}
-use lib.Dec.{T-not, ltb, ltb→lt, lt→ltb, eqb, eqb→eq}
+use lib.Dec.{T-not, not-T, leb, leb→le, ltb, ltb→lt, lt→ltb, eqb, eqb→eq}
 use Rattle.kinds.specs.declared.Refusal.{Refusal}
 use Rattle.kinds.specs.declared.Refusal.the-variants.{Counts, Torn, Slip, Same, Long, Range, Narrow, Slips, Pieces, Buffers}
 use Rattle.kinds.specs.Refusal.{refusalCode}
@@ -15,7 +15,7 @@ use Rattle.rules.specs.Tables.{Tables, slip, slipTotal}
 use Rattle.rules.specs.Chain.{State}
 use Rattle.rules.specs.Rule.{Judged, _⇐_, firstCode, unnamed, Wants, want, room, Rule, full, codeIn}
 use Rattle.rules.specs.Step.{Operation, Audit, Put, Free, Dup, Cut, Append, Drop, Keep, Pullup, Pack, Length, Read, Show, rule}
-use Rattle.rules.proofs.Logic.{if-T, if-F, if-either, and-0, and-1, not-not, not-zero, eq→eqb}
+use Rattle.rules.proofs.Logic.{if-T, if-F, if-either, and-0, and-1, not-not, not-zero, not-most, eq→eqb}
 
 pub refusal-pos : (r : Refusal) → 0 < refusalCode r
 refusal-pos Counts = omega arith
@@ -162,3 +162,21 @@ all-early (Show s n scratch) S = omega arith
 
 pub judged-early : (o : Operation) (S : State) → (firstCode (rule o S .judged) ≢ refusalCode Torn) × (firstCode (rule o S .judged) < refusalCode Slips)
 judged-early o S = early-list (rule o S .judged) (all-early o S)
+
+-- ---- the bounds of a call that is done
+
+-- no refusal is given just where the first has no cause and none behind it is given
+pub first-is : (r : Refusal) (b : Bool) (js : List Judged) → (firstCode ((r ⇐ b) ∷ js) ≡ 0) ↔ (Is (not b) × (firstCode js ≡ 0))
+first-is r b js = (λ e. (let z = first-zero (r ⇐ b) js e in (not-T b (z .0), z .1)), λ z. first-no (r ⇐ b) js (T-not b (z .0)) ∙ z .1)
+
+-- an order test fails just where the order is the other way round
+pub not-leb-is : (m n : ℕ) → Is (not (leb m n)) ↔ (n < m)
+not-leb-is m n = (λ t. not-most m n (T-not (leb m n) t), λ h. not-T (leb m n) (λ t. (let l = leb→le m n t in omega arith)))
+
+-- not both tests pass just where the first excludes the second
+pub not-and-is : (a b : Bool) → Is (not (a && b)) ↔ (Is a → Is (not b))
+not-and-is true b = (λ t _. t, λ f. f tt)
+not-and-is false b = (λ _ t. absurd t, λ _. tt)
+
+-- what the judged refusals of a done call say of the numbers that they test
+pub ruleset no-cause = (first-is, not-leb-is, not-and-is)

@@ -8,4 +8,4 @@ use Rattle.rules.proofs.Moves.{SoundNow, reorder}
 use Rattle.rules.proofs.Release.{turned-sound}
 
 pub free-sound : (s : ℕ) (S : State) → s < slipTotal (S .tables) → SoundNow (S .tables) → SoundNow (freeAfter s S .tables)
-free-sound s S l (rank, h) = turned-sound S s 0 l (rank, reorder (λ d. omega arith) h)
+free-sound s S l (rank, h) = turned-sound S s _ l (rank, reorder (λ d. omega arith) h)

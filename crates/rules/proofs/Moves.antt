@@ -281,7 +281,7 @@ take-move {rank} {fl} {T} i p l z one bl ft S =
       there = l;
       others = λ x e. omega (arith, hit-other i x e, hn x);
       itself = omega (arith, hit-same i, hn i);
-      buffers = by-place (T .counts) (p .buffer) (suc (bufferCount T (p .buffer))) 0 bl
+      buffers = by-place (T .counts) (p .buffer) _ 0 bl
           (λ n x. n + lies (piece T i) x ≡ bufferCount T x + lies p x)
           (omega (arith, hb (p .buffer), lies-own p pos))
           (λ x e. omega (arith, hb x, lies-other p x pos e));

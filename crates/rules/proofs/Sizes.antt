@@ -149,7 +149,7 @@ pub rule-sizes : (o : Operation) (S : State) → Sizes (S .tables) (rule o S .af
 unfolding rule putAfter dupAfter cutAfter appendAfter dropAfter keepAfter pullupAfter packAfter
 rule-sizes Audit S = same (S .tables)
 rule-sizes (Put input) S = new-sizes (plain (S .tables) _) (freePieces (S .tables)) (newSlip (S .tables)) (same (S .tables))
-rule-sizes (Free s) S = turned-sizes S s vacant
+rule-sizes (Free s) S = turned-sizes S s _
 rule-sizes (Dup s) S =
     let T = S .tables in
     new-sizes (dupPlan T (headOf T s)) (freePieces T) (newSlip T) (dup-sizes T (headOf T s))
@@ -206,7 +206,7 @@ pub rule-storage : (o : Operation) (S : State) → length (S .storage) ≡ stora
 unfolding rule putAfter dupAfter cutAfter dropAfter keepAfter pullupAfter packAfter
 rule-storage Audit S h = refl
 rule-storage (Put input) S h = new-length S (buffersFor (length input)) input h
-rule-storage (Free s) S h = ap length (turned-storage S s vacant)
+rule-storage (Free s) S h = ap length (turned-storage S s _)
 rule-storage (Dup s) S h = refl
 rule-storage (Cut s off n) S h = refl
 rule-storage (Append a b) S h = ap length (append-storage a b S)

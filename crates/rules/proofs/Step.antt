@@ -31,6 +31,18 @@ use Rattle.rules.proofs.Audit.{tables-pass, sound-now, fresh-sound}
 use Rattle.rules.proofs.Codes.{refusal-pos, allowed}
 use Rattle.rules.proofs.Sound.{rule-sound}
 use Rattle.rules.proofs.After.{reads-ok}
+use Rattle.rules.specs.Takes.{Took, target}
+use Rattle.rules.proofs.Takes.{takes}
+
+-- ---- the operation on a sound pool
+
+pub perform-done : (o : Operation) (m : Lent) → codeIn (rule o (stateIn m)) (decode (m .pool)) ≡ 0 → perform o m ≡ done (rule o (stateIn m))
+unfolding perform
+perform-done o m e = if-T (eqb (codeIn (rule o (stateIn m)) (decode (m .pool))) 0) _ _ (eq→eqb _ 0 e)
+
+pub perform-no : (o : Operation) (m : Lent) → codeIn (rule o (stateIn m)) (decode (m .pool)) ≢ 0 → perform o m ≡ refused (codeIn (rule o (stateIn m)) (decode (m .pool))) m (lentOut o)
+unfolding perform
+perform-no o m n = if-F (eqb (codeIn (rule o (stateIn m)) (decode (m .pool))) 0) _ _ (λ t. n (eqb→eq _ 0 t))
 
 -- ---- a no
 
@@ -40,19 +52,20 @@ lentTo (Open B P S) = []
 lentTo (Do o) = lentOut o
 
 perform-refused : (o : Operation) (m : Lent) → perform o m .code ≢ 0 → perform o m ≡ refused (perform o m .code) m (lentOut o)
-unfolding perform done
+unfolding done
 perform-refused o m h =
-    let r = rule o (stateIn m) in
-    let c = codeIn r (decode (m .pool)) in
-    if-either (λ (x : Result). x .code ≢ 0 → x ≡ refused (x .code) m (lentOut o)) (eqb c 0) (done r) (refused c m (lentOut o)) (λ _ n. absurd (n refl)) (λ _ _. refl) h
+    elim (ℕ-discrete (codeIn (rule o (stateIn m)) (decode (m .pool))) 0) [
+      | yes z ↦ absurd (h (ap (λ (x : Result). x .code) (perform-done o m z)))
+      | no z ↦ (let e = perform-no o m z in e ∙ ap (λ c. refused c m (lentOut o)) (sym (ap (λ (x : Result). x .code) e)))
+    ]
 
 -- A call that is not done answers its code and 0, and alters nothing.
 pub alters-nothing : (c : Call) (m : Lent) → step c m .code ≢ 0 → step c m ≡ refused (step c m .code) m (lentTo c)
 unfolding step
 alters-nothing (Open B P S) m h =
-    if-either (λ (x : Result). x .code ≢ 0 → x ≡ refused (x .code) m []) (openable B P S m) _ _ (λ _ n. absurd (n refl)) (λ _ _. refl) h
+    if-either (λ (x : Result). x .code ≢ 0 → x ≡ refused (x .code) m []) _ _ _ (λ _ n. absurd (n refl)) (λ _ _. refl) h
 alters-nothing (Do o) m h =
-    if-either (λ (x : Result). x .code ≢ 0 → x ≡ refused (x .code) m (lentOut o)) (sound m) (perform o m) (refused (refusalCode Torn) m (lentOut o))
+    if-either (λ (x : Result). x .code ≢ 0 → x ≡ refused (x .code) m (lentOut o)) _ _ _
     (λ _ n. perform-refused o m n) (λ _ _. refl) h
 
 -- ---- a call that is done
@@ -70,14 +83,6 @@ step-sound-pool o m t = if-T (sound m) (perform o m) (refused (refusalCode Torn)
 pub step-torn : (o : Operation) (m : Lent) → (Is (sound m) → ⊥) → step (Do o) m ≡ refused (refusalCode Torn) m (lentOut o)
 unfolding step
 step-torn o m t = if-F (sound m) (perform o m) (refused (refusalCode Torn) m (lentOut o)) t
-
-pub perform-done : (o : Operation) (m : Lent) → codeIn (rule o (stateIn m)) (decode (m .pool)) ≡ 0 → perform o m ≡ done (rule o (stateIn m))
-unfolding perform
-perform-done o m e = if-T (eqb (codeIn (rule o (stateIn m)) (decode (m .pool))) 0) _ _ (eq→eqb _ 0 e)
-
-pub perform-no : (o : Operation) (m : Lent) → codeIn (rule o (stateIn m)) (decode (m .pool)) ≢ 0 → perform o m ≡ refused (codeIn (rule o (stateIn m)) (decode (m .pool))) m (lentOut o)
-unfolding perform
-perform-no o m n = if-F (eqb (codeIn (rule o (stateIn m)) (decode (m .pool))) 0) _ _ (λ t. n (eqb→eq _ 0 t))
 
 -- where the pool is sound, the code is the rule's
 pub code-is : (o : Operation) (m : Lent) → Is (sound m) → step (Do o) m .code ≡ codeIn (rule o (stateIn m)) (decode (m .pool))
@@ -249,3 +254,13 @@ slips-vacant o m e t =
     let S = stateIn m in
     ap (λ (x : State). isVacant (x .tables) t) (after-state o m e)
     ∙ reads-ok o S (sound-now m (d .was-sound)) (sound-within m (d .was-sound) .storage-fits) (allowed (rule o S) (S .tables) (d .allowed-code)) .vacancy t
+
+-- ---- what is taken, in bytes
+
+pub slips-took : (o : Operation) (m : Lent) → step (Do o) m .code ≡ 0
+    → Took (decode (m .pool)) (decode (next (Do o) m .pool)) (rule o (stateIn m) .wants) (target o (decode (m .pool)))
+slips-took o m e =
+    let d = did o m e in
+    let S = stateIn m in
+    subst (λ (X : State). Took (S .tables) (X .tables) (rule o S .wants) (target o (S .tables))) (sym (after-state o m e))
+    (takes o S (sound-now m (d .was-sound)) (allowed (rule o S) (S .tables) (d .allowed-code)))

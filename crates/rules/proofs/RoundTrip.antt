@@ -1,0 +1,136 @@
+-- What the answered slips and all other slips read, and that what is put is read again, in bytes. Assumes nothing.
+use mathlib.Core.Path.{_≡_, refl, sym, ap, subst, _∙_}
+use mathlib.Core.Logic.{_≢_, _⊎_, inl, inr}
+use mathlib.Core.Bool.{false, not, _&&_}
+use mathlib.Core.List.{List, [], _++_}
+use Prim.Native.Nat.{ℕ, _+_, _≤_, _<_}
+use native.Mathlib.Omega.{arith}
+use lib.ListN.{length, take, drop}
+use lib.Seq.{take-length}
+use lib.Dec.{ltb, lt→ltb, T-not, not-T}
+use Rattle.rules.specs.Basics.{Is}
+use Rattle.rules.specs.Tables.{Tables, slip, slipTotal}
+use Rattle.rules.specs.Bytes.{decode}
+use Rattle.rules.specs.Chain.{State, reads}
+use Rattle.rules.specs.Room.{isVacant, vacantSlips, newSlip}
+use Rattle.rules.specs.Sound.{Lent, sound}
+use Rattle.rules.specs.Rule.{unnamed}
+use Rattle.rules.specs.Read.{copied}
+use Rattle.rules.specs.Step.{Operation, Audit, Put, Free, Dup, Cut, Append, Drop, Keep, Pullup, Pack, Length, Read, Show, Do, rule, Result, stateIn, done, step, next}
+use Rattle.rules.specs.After.{at, readsAfter, vacantAfter}
+use Rattle.rules.proofs.Logic.{and-intro, not-zero, eq→eqb}
+use Rattle.rules.proofs.Moves.{in-range}
+use Rattle.rules.proofs.Room.{new-slip-ok}
+use Rattle.rules.proofs.Audit.{sound-now}
+use Rattle.rules.proofs.Codes.{first-none, Allowed, allowed, no-cause}
+use Rattle.rules.proofs.After.{at-here, at-there, reads-length}
+use Rattle.rules.proofs.Step.{code-is, did, sound-within, step-keeps, slips-read, slips-vacant}
+
+-- ---- what a done call answers
+
+-- its number and its output are its rule's
+number-is : (o : Operation) (m : Lent) → step (Do o) m .code ≡ 0 → step (Do o) m .number ≡ rule o (stateIn m) .number
+unfolding done
+number-is o m e = ap (λ (x : Result). x .number) (did o m e .result)
+
+output-is : (o : Operation) (m : Lent) → step (Do o) m .code ≡ 0 → step (Do o) m .output ≡ rule o (stateIn m) .output
+unfolding done
+output-is o m e = ap (λ (x : Result). x .output) (did o m e .result)
+
+-- the slip that put answers reads the input
+pub put-answers : (input : List ℕ) (m : Lent) → step (Do (Put input)) m .code ≡ 0 → reads (stateIn (next (Do (Put input)) m)) (step (Do (Put input)) m .number) ≡ input
+unfolding rule readsAfter
+put-answers input m e = slips-read (Put input) m e _ ∙ at-here _ _ input (reads (stateIn m)) (number-is (Put input) m e)
+
+-- and it is held
+pub put-held : (input : List ℕ) (m : Lent) → step (Do (Put input)) m .code ≡ 0 → Is (not (isVacant (decode (next (Do (Put input)) m .pool)) (step (Do (Put input)) m .number)))
+unfolding rule vacantAfter
+put-held input m e = subst (λ b. Is (not b)) (sym (slips-vacant (Put input) m e _ ∙ at-here _ _ false (isVacant (decode (m .pool))) (number-is (Put input) m e))) tt
+
+-- the slip that dup answers reads what s reads
+pub dup-answers : (s : ℕ) (m : Lent) → step (Do (Dup s)) m .code ≡ 0 → reads (stateIn (next (Do (Dup s)) m)) (step (Do (Dup s)) m .number) ≡ reads (stateIn m) s
+unfolding rule readsAfter
+dup-answers s m e = slips-read (Dup s) m e _ ∙ at-here _ _ _ (reads (stateIn m)) (number-is (Dup s) m e)
+
+-- the slip that cut answers reads the n bytes of s from off on
+pub cut-answers : (s off n : ℕ) (m : Lent) → step (Do (Cut s off n)) m .code ≡ 0
+    → reads (stateIn (next (Do (Cut s off n)) m)) (step (Do (Cut s off n)) m .number) ≡ take n (drop off (reads (stateIn m) s))
+unfolding rule readsAfter
+cut-answers s off n m e = slips-read (Cut s off n) m e _ ∙ at-here _ _ _ (reads (stateIn m)) (number-is (Cut s off n) m e)
+
+-- ---- what is put is read again
+
+-- a held slip may be named
+held-named : (T : Tables) (s : ℕ) → Is (not (isVacant T s)) → Is (not (unnamed T s))
+held-named T s v =
+    let l = in-range (T .slips) 0 (λ n. n) s refl (not-zero (slip T s) (T-not (isVacant T s) v)) in
+    let b = ltb s (slipTotal T) && not (isVacant T s) in
+    not-T (unnamed T s) (λ u. T-not b u (and-intro (ltb s (slipTotal T)) (not (isVacant T s)) (lt→ltb s (slipTotal T) l) v))
+
+-- a read of a held slip, within its bytes and the output, is done
+pub read-done : (s off n : ℕ) (out : List ℕ) (m : Lent) → Is (sound m) → Is (not (isVacant (decode (m .pool)) s)) → off + n ≤ length (reads (stateIn m) s) → n ≤ length out
+    → step (Do (Read s off n out)) m .code ≡ 0
+unfolding rule
+read-done s off n out m t v r l =
+    let k = reads-length (stateIn m) (sound-now m t) (sound-within m t .storage-fits) s in
+    code-is (Read s off n out) m t ∙ simp no-cause (held-named (decode (m .pool)) s v, omega (arith, first-none))
+
+-- what was put is read again by the slip that put answered
+pub put-read : (input out : List ℕ) (m : Lent) → step (Do (Put input)) m .code ≡ 0 → length input ≤ length out
+    → (step (Do (Read (step (Do (Put input)) m .number) 0 (length input) out)) (next (Do (Put input)) m) .code ≡ 0)
+    × (step (Do (Read (step (Do (Put input)) m .number) 0 (length input) out)) (next (Do (Put input)) m) .output ≡ input ++ drop (length input) out)
+unfolding rule
+put-read input out m e l =
+    let q = put-answers input m e in
+    let t = step-keeps (Do (Put input)) m (did (Put input) m e .was-sound) in
+    let c = read-done (step (Do (Put input)) m .number) 0 (length input) out (next (Do (Put input)) m) t (put-held input m e) (omega (arith, ap length q)) l in
+    (c, output-is _ _ c ∙ ap (λ xs. copied xs out) (ap (take (length input)) q ∙ take-length input))
+
+-- ---- the slips that a call does not name
+
+-- the slips that a call names
+abbrev pub Names : Operation → ℕ → Type 0
+Names Audit t = ⊥
+Names (Put input) t = ⊥
+Names (Free s) t = t ≡ s
+Names (Dup s) t = t ≡ s
+Names (Cut s off n) t = t ≡ s
+Names (Append a b) t = (t ≡ a) ⊎ (t ≡ b)
+Names (Drop s n) t = t ≡ s
+Names (Keep s n) t = t ≡ s
+Names (Pullup s n) t = t ≡ s
+Names (Pack s) t = t ≡ s
+Names (Length s) t = t ≡ s
+Names (Read s off n out) t = t ≡ s
+Names (Show s n scratch) t = t ≡ s
+
+-- a new slip was vacant, so a held slip is not it
+not-new : (T : Tables) (t : ℕ) → 0 < length (vacantSlips T) → Is (not (isVacant T t)) → t ≢ newSlip T
+not-new T t h v q = T-not (isVacant T t) v (eq→eqb (slip T t) 0 (ap (slip T) q ∙ new-slip-ok T h .1))
+
+-- a done operation changes no held slip that it does not name
+others-same : (o : Operation) (S : State) → Allowed (rule o S) (S .tables) → (t : ℕ) → (Names o t → ⊥) → Is (not (isVacant (S .tables) t))
+    → (readsAfter o S t ≡ reads S t) × (vacantAfter o S t ≡ isVacant (S .tables) t)
+unfolding rule readsAfter vacantAfter
+others-same Audit S a t n v = (refl, refl)
+others-same (Put input) S a t n v = (let w = not-new (S .tables) t (a .slips-room) v in (at-there _ t _ (reads S) w, at-there _ t _ (isVacant (S .tables)) w))
+others-same (Free s) S a t n v = (at-there s t _ (reads S) n, at-there s t _ (isVacant (S .tables)) n)
+others-same (Dup s) S a t n v = (let w = not-new (S .tables) t (a .slips-room) v in (at-there _ t _ (reads S) w, at-there _ t _ (isVacant (S .tables)) w))
+others-same (Cut s off k) S a t n v = (let w = not-new (S .tables) t (a .slips-room) v in (at-there _ t _ (reads S) w, at-there _ t _ (isVacant (S .tables)) w))
+others-same (Append x y) S a t n v = (let w : t ≢ y = λ q. n (inr q) in (at-there x t _ (at y [] (reads S)) (λ q. n (inl q)) ∙ at-there y t [] (reads S) w, at-there y t _ (isVacant (S .tables)) w))
+others-same (Drop s k) S a t n v = (at-there s t _ (reads S) n, refl)
+others-same (Keep s k) S a t n v = (at-there s t _ (reads S) n, refl)
+others-same (Pullup s k) S a t n v = (refl, refl)
+others-same (Pack s) S a t n v = (refl, refl)
+others-same (Length s) S a t n v = (refl, refl)
+others-same (Read s off k out) S a t n v = (refl, refl)
+others-same (Show s k scratch) S a t n v = (refl, refl)
+
+module _ (o : Operation) (m : Lent) (e : step (Do o) m .code ≡ 0) (t : ℕ) (n : Names o t → ⊥) (v : Is (not (isVacant (decode (m .pool)) t))) where
+  -- every held slip that a done call does not name reads as before
+  pub others-read : reads (stateIn (next (Do o) m)) t ≡ reads (stateIn m) t
+  others-read = slips-read o m e t ∙ others-same o (stateIn m) (allowed _ _ (did o m e .allowed-code)) t n v .0
+
+  -- and it stays held
+  pub others-held : Is (not (isVacant (decode (next (Do o) m .pool)) t))
+  others-held = subst (λ b. Is (not b)) (sym (slips-vacant o m e t ∙ others-same o (stateIn m) (allowed _ _ (did o m e .allowed-code)) t n v .1)) v

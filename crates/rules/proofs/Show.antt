@@ -1,0 +1,78 @@
+-- show: its view shows the first bytes, and what of the scratch stays. Assumes nothing.
+use mathlib.Core.Path.{_≡_, refl, sym, ap, _∙_}
+use mathlib.Core.Bool.{Bool, true, false}
+use mathlib.Core.List.{List, [], _∷_}
+use Prim.Native.Nat.{ℕ, zero, suc, _≤_}
+use native.Mathlib.Omega.{arith}
+use lib.ListN.{length, take, drop, length-take}
+use lib.Seq.{take-append-le, take-take}
+use lib.Dec.{eqb, eqb→eq, leb, leb→le}
+use Rattle.rules.specs.Basics.{Is, if_then_else_}
+use Rattle.rules.specs.Tables.{bufferTotal}
+use Rattle.rules.specs.Chain.{Stretch, State, spans, total, firstLength, positionOf, bytesOf, contents, reads}
+use Rattle.rules.specs.Rule.{View}
+use Rattle.rules.specs.Read.{copied}
+use Rattle.rules.specs.Show.{scattered, viewOf}
+use Rattle.rules.specs.Step.{Show, rule}
+use Rattle.rules.specs.After.{seen}
+use Rattle.rules.proofs.Logic.{if-F, if-either, not-not}
+use Rattle.rules.proofs.Moves.{SoundNow}
+use Rattle.rules.proofs.Build.{Good}
+use Rattle.rules.proofs.Chain.{spans-good}
+use Rattle.rules.proofs.Contents.{Fit, bytes-length}
+use Rattle.rules.proofs.Codes.{Allowed, not-leb-is, no-cause}
+use Rattle.rules.proofs.After.{reads-length}
+use Rattle.rules.proofs.Read.{copied-front, copied-rest, copied-length}
+
+-- a view of the scratch, or of storage from p on
+seen-either : (b : Bool) (p n : ℕ) (st xs scratch ys : List ℕ) → (Is b → take n xs ≡ ys) → ((Is b → ⊥) → take n (drop p st) ≡ ys)
+    → seen (if b then record { inScratch = 1; start = 0 } else record { inScratch = 0; start = p }) n st (if b then xs else scratch) ≡ ys
+unfolding if_then_else_
+seen-either true p n st xs scratch ys f g = f tt
+seen-either false p n st xs scratch ys f g = g (λ t. t)
+
+-- the view of stretches shows their first n bytes
+seen-first : (B : ℕ) (st scratch : List ℕ) (xs : List Stretch) (n : ℕ) → Fit B st → Good B xs → n ≤ total xs → length (take n (contents st xs)) ≡ n
+    → seen (viewOf xs n) n st (if scattered xs n then copied (take n (contents st xs)) scratch else scratch) ≡ take n (contents st xs)
+unfolding viewOf contents total
+seen-first B st scratch [] zero f g l e = refl
+seen-first B st scratch [] (suc n) f g l e = absurd (omega arith)
+seen-first B st scratch (x ∷ xs) zero f g l e = refl
+seen-first B st scratch (x ∷ xs) (suc n) f g l e =
+    let c = contents st (x ∷ xs) in
+    let b = scattered (x ∷ xs) (suc n) in
+    ap (λ (v : View). seen v (suc n) st (if b then copied (take (suc n) c) scratch else scratch)) (if-F (eqb (suc n) 0) _ _ (λ t. omega (arith, eqb→eq (suc n) 0 t)))
+    ∙ seen-either b (positionOf x) (suc n) st (copied (take (suc n) c) scratch) scratch (take (suc n) c) (λ _. copied-front (suc n) (take (suc n) c) scratch e)
+    (λ t. (
+    let u = leb→le (suc n) (x .len) (not-not (leb (suc n) (x .len)) t) in
+    let k = bytes-length B st x f (g .0) (g .2) in
+    sym (take-append-le (suc n) (bytesOf st x) (contents st xs) (omega arith) ∙ take-take (suc n) (x .len) (drop (positionOf x) st) u)))
+
+module _ (s n : ℕ) (scratch : List ℕ) (S : State) (h : SoundNow (S .tables)) (f : Fit (bufferTotal (S .tables)) (S .storage)) (a : Allowed (rule (Show s n scratch) S) (S .tables)) where
+  -- a done show stays within the chain: it shows n bytes, not fewer
+  pub show-exact : length (take n (reads S s)) ≡ n
+  unfolding rule
+  show-exact = let c = simp no-cause at (a .early) in let l = reads-length S h f s in simp length-take (omega arith)
+
+  -- the view shows the first n bytes
+  pub show-seen : seen (rule (Show s n scratch) S .view) n (S .storage) (rule (Show s n scratch) S .output) ≡ take n (reads S s)
+  unfolding rule
+  show-seen = let c = simp no-cause at (a .early) in seen-first (bufferTotal (S .tables)) (S .storage) scratch (spans (S .tables) s) n f (spans-good (S .tables) s h) (omega arith) show-exact
+
+  -- the scratch keeps its length
+  pub show-length : length (rule (Show s n scratch) S .output) ≡ length scratch
+  unfolding rule
+  show-length =
+      let c = simp no-cause at (a .early) in
+      if-either (λ (q : List ℕ). length q ≡ length scratch) (scattered (spans (S .tables) s) n) _ _
+      (λ t. copied-length n (take n (reads S s)) scratch show-exact (let w = c .1 .1 .1 .0 (simp not-leb-is at t) in omega arith)) (λ _. refl)
+
+  -- the scratch past the first n bytes is unchanged
+  pub show-rest : drop n (rule (Show s n scratch) S .output) ≡ drop n scratch
+  unfolding rule
+  show-rest = if-either (λ (q : List ℕ). drop n q ≡ drop n scratch) (scattered (spans (S .tables) s) n) _ _ (λ _. copied-rest n (take n (reads S s)) scratch show-exact) (λ _. refl)
+
+-- where the first piece has the n bytes the scratch is unchanged
+pub show-unchanged : (s n : ℕ) (scratch : List ℕ) (S : State) → n ≤ firstLength (spans (S .tables) s) → rule (Show s n scratch) S .output ≡ scratch
+unfolding rule
+show-unchanged s n scratch S l = if-F (scattered (spans (S .tables) s) n) _ _ (λ t. (let k = simp not-leb-is at t in omega arith))
