@@ -132,36 +132,45 @@ named T s h =
 
 -- ---- the codes judged before room are 3 to 7
 
-abbrev AllEarly : List Judged → Type 0
-AllEarly [] = Unit {0}
-AllEarly (j ∷ js) = (refusalCode Torn < refusalCode (j .refusal)) × (refusalCode (j .refusal) < refusalCode Slips) × AllEarly js
+-- the codes of the list rise from c on, and all stand before "full"
+abbrev pub Rising : ℕ → List Judged → Type 0
+Rising c [] = c < refusalCode Slips
+Rising c (j ∷ js) = (c < refusalCode (j .refusal)) × Rising (refusalCode (j .refusal)) js
 
-early-list : (js : List Judged) → AllEarly js → (firstCode js ≢ refusalCode Torn) × (firstCode js < refusalCode Slips)
+rising-low : (c : ℕ) (js : List Judged) → Rising c js → c < refusalCode Slips
+rising-low c [] a = a
+rising-low c (j ∷ js) a = omega (arith, a .0, rising-low (refusalCode (j .refusal)) js (a .1))
+
+rising-first : (c : ℕ) (js : List Judged) → Rising c js → (firstCode js ≢ 0 → c < firstCode js) × (firstCode js < refusalCode Slips)
 unfolding firstCode
-early-list [] a = omega arith
-early-list (j ∷ js) a =
-    let r = early-list js (a .2) in
-    if-either (λ (c : ℕ). (c ≢ refusalCode Torn) × (c < refusalCode Slips)) (j .applies) (refusalCode (j .refusal)) (firstCode js)
-    (λ _. omega (arith, a .0, a .1)) (λ _. r)
+rising-first c [] a = (λ n. absurd (n refl), omega arith)
+rising-first c (j ∷ js) a =
+    let r = rising-first (refusalCode (j .refusal)) js (a .1) in
+    if-either (λ (x : ℕ). (x ≢ 0 → c < x) × (x < refusalCode Slips)) (j .applies) (refusalCode (j .refusal)) (firstCode js)
+    (λ _. (λ _. a .0, rising-low (refusalCode (j .refusal)) js (a .1)))
+    (λ _. (λ n. omega (arith, a .0, r .0 n), r .1))
 
-all-early : (o : Operation) (S : State) → AllEarly (rule o S .judged)
+-- Each call's refusals rise from 2 on: where several apply, the lowest code is given.
+pub lowest-first : (o : Operation) (S : State) → Rising (refusalCode Torn) (rule o S .judged)
 unfolding rule
-all-early Audit S = tt
-all-early (Put input) S = tt
-all-early (Free s) S = omega arith
-all-early (Dup s) S = omega arith
-all-early (Cut s off n) S = omega arith
-all-early (Append a b) S = omega arith
-all-early (Drop s n) S = omega arith
-all-early (Keep s n) S = omega arith
-all-early (Pullup s n) S = omega arith
-all-early (Pack s) S = omega arith
-all-early (Length s) S = omega arith
-all-early (Read s off n out) S = omega arith
-all-early (Show s n scratch) S = omega arith
+lowest-first Audit S = omega arith
+lowest-first (Put input) S = omega arith
+lowest-first (Free s) S = omega arith
+lowest-first (Dup s) S = omega arith
+lowest-first (Cut s off n) S = omega arith
+lowest-first (Append a b) S = omega arith
+lowest-first (Drop s n) S = omega arith
+lowest-first (Keep s n) S = omega arith
+lowest-first (Pullup s n) S = omega arith
+lowest-first (Pack s) S = omega arith
+lowest-first (Length s) S = omega arith
+lowest-first (Read s off n out) S = omega arith
+lowest-first (Show s n scratch) S = omega arith
 
 pub judged-early : (o : Operation) (S : State) → (firstCode (rule o S .judged) ≢ refusalCode Torn) × (firstCode (rule o S .judged) < refusalCode Slips)
-judged-early o S = early-list (rule o S .judged) (all-early o S)
+judged-early o S =
+    let r = rising-first (refusalCode Torn) (rule o S .judged) (lowest-first o S) in
+    (λ e. (let q = r .0 (omega arith) in omega arith), r .1)
 
 -- ---- the bounds of a call that is done
 
