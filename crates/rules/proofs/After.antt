@@ -13,7 +13,7 @@ use Rattle.kinds.specs.Limits.{bufferSize, sizeOf}
 use Rattle.rules.specs.Basics.{Is, if_then_else_}
 use Rattle.rules.specs.Layout.{storageLength}
 use Rattle.rules.specs.Tables.{Tables, slip, piece, bufferCount, headOf, vacant, slipTotal, pieceTotal, bufferTotal, setSlip}
-use Rattle.rules.specs.Chain.{Stretch, State, walk, chain, stretch, stretches, spans, total, firstLength, lengthOf, cutOut, contents, reads}
+use Rattle.rules.specs.Chain.{Stretch, State, walk, chain, stretch, stretches, spans, total, firstLength, lengthOf, cutOut, contents, reads, bytesOf}
 use Rattle.rules.specs.Room.{isVacant, isUnheld, vacantSlips, freePieces, freeBuffers, newSlip, newBuffers}
 use Rattle.rules.specs.Release.{withTables, turned}
 use Rattle.rules.specs.Build.{Plan, plain, underOld, behindOwn, buffersFor, laid, stored}
@@ -36,7 +36,7 @@ use Rattle.rules.proofs.Room.{AllIn, new-buffers-in, new-slip-ok}
 use Rattle.rules.proofs.Chain.{AllUsed, chain-used, spans-good}
 use Rattle.rules.proofs.Meets.{Meets, chain-meets, slip-same}
 use Rattle.rules.proofs.Hang.{Gives, gives-spans, moved-spans, turned-entry, turned-entries, turned-others}
-use Rattle.rules.proofs.Contents.{Fit, contents-length, contents-append, cutOut-contents, dropOut, dropOut-contents, Off, stored-others, stored-laid}
+use Rattle.rules.proofs.Contents.{Fit, contents-length, contents-append, cutOut-contents, dropOut, dropOut-contents, Off, stored-others, stored-laid, stored-other}
 use Rattle.rules.proofs.Sizes.{old-storage, behind-storage}
 use Rattle.rules.proofs.Codes.{Allowed, no-cause}
 use Rattle.rules.proofs.Sound.{first-named, both-named, rule-sound}
@@ -414,3 +414,50 @@ reads-ok (Pack s) S h f a = (let r = pack-reading s S h f a in record { bytes = 
 reads-ok (Length s) S h f a = record { bytes = λ t. refl; vacancy = λ t. refl }
 reads-ok (Read s off n out) S h f a = record { bytes = λ t. refl; vacancy = λ t. refl }
 reads-ok (Show s n scratch) S h f a = record { bytes = λ t. refl; vacancy = λ t. refl }
+
+-- ---- bytes that stay
+
+-- the whole of buffer b
+abbrev pub wholeOf : ℕ → Stretch
+wholeOf b = record { buffer = b; offset = 0; len = sizeOf b }
+
+-- Every byte of a buffer that was held at entry stays, whatever the operation.
+module _ (S : State) (f : Fit (bufferTotal (S .tables)) (S .storage)) (b : ℕ) (l : b < bufferTotal (S .tables)) (h : 0 < bufferCount (S .tables) b) where
+  abbrev Stays : State → Type 0
+  Stays X = bytesOf (X .storage) (wholeOf b) ≡ bytesOf (S .storage) (wholeOf b)
+
+  stays-as : {st : List ℕ} → st ≡ S .storage → bytesOf st (wholeOf b) ≡ bytesOf (S .storage) (wholeOf b)
+  stays-as e = ap (λ (q : List ℕ). bytesOf q (wholeOf b)) e
+
+  stays-new : {st : List ℕ} (k : ℕ) (xs : List ℕ) → st ≡ stored (S .storage) (newBuffers (S .tables) k) xs → bytesOf st (wholeOf b) ≡ bytesOf (S .storage) (wholeOf b)
+  stays-new k xs e =
+      let T = S .tables in
+      ap (λ (q : List ℕ). bytesOf q (wholeOf b)) e
+      ∙ stored-other (isUnheld T) 0 (bufferTotal T) (newBuffers T k) (S .storage) xs (wholeOf b) (new-buffers-in T k) f l (omega arith) (not-free T 0 (bufferTotal T) b (newBuffers T k) (new-buffers-in T k) h)
+
+  pub held-stays : (o : Operation) → bytesOf (rule o S .after .storage) (wholeOf b) ≡ bytesOf (S .storage) (wholeOf b)
+  unfolding rule putAfter dupAfter cutAfter appendAfter dropAfter keepAfter pullupAfter packAfter
+  held-stays Audit = refl
+  held-stays (Put input) = stays-new (buffersFor (length input)) input refl
+  held-stays (Free s) = stays-as (turned-storage S s _)
+  held-stays (Dup s) = refl
+  held-stays (Cut s off n) = refl
+  held-stays (Append x y) =
+      if-either Stays (eqb (headOf (S .tables) x) 0) _ _ (λ _. refl)
+      (λ _. if-either Stays (eqb (headOf (S .tables) y) 0) _ _ (λ _. refl) (λ _. stays-as (joined-storage x y S)))
+  held-stays (Drop s n) = if-either Stays (eqb n 0) _ _ (λ _. refl) (λ _. stays-as (old-storage S (dropped (S .tables) s n) (freePieces (S .tables)) s))
+  held-stays (Keep s n) =
+      let T = S .tables in
+      if-either Stays (eqb n (lengthOf T s)) _ _ (λ _. refl) (λ _. stays-as (kept-storage S s (keptOwn T s n) (kept T s n) (keptNotOwn T s n)))
+  held-stays (Pullup s n) =
+      let T = S .tables in
+      if-either Stays (leb n (firstLength (spans T s))) _ _ (λ _. refl)
+      (λ _. stays-new 1 (take n (reads S s)) (old-storage (record { tables = T; storage = stored (S .storage) (newBuffers T 1) (take n (reads S s)) }) (pulled T s n) (freePieces T) s))
+  held-stays (Pack s) =
+      let T = S .tables in
+      let k = buffersFor (lengthOf T s) in
+      if-either Stays (leb (length (chain T s)) 1) _ _ (λ _. refl)
+      (λ _. stays-new k (reads S s) (old-storage (record { tables = T; storage = stored (S .storage) (newBuffers T k) (reads S s) }) (plain T (laid (newBuffers T k) (lengthOf T s))) (freePieces T) s))
+  held-stays (Length s) = refl
+  held-stays (Read s off n out) = refl
+  held-stays (Show s n scratch) = refl

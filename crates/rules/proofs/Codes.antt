@@ -29,6 +29,13 @@ refusal-pos Slips = omega arith
 refusal-pos Pieces = omega arith
 refusal-pos Buffers = omega arith
 
+-- a code that is given is a refusal's
+pub first-listed : (js : List Judged) → firstCode js ≢ 0 → (r : Refusal) × (firstCode js ≡ refusalCode r)
+unfolding firstCode
+first-listed [] n = absurd (n refl)
+first-listed (j ∷ js) n =
+    if-either (λ (c : ℕ). c ≢ 0 → (r : Refusal) × (c ≡ refusalCode r)) (j .applies) (refusalCode (j .refusal)) (firstCode js) (λ _ _. (j .refusal, refl)) (λ _ k. first-listed js k) n
+
 -- ---- none is given
 
 pub first-zero : (j : Judged) (js : List Judged) → firstCode (j ∷ js) ≡ 0 → (Is (j .applies) → ⊥) × (firstCode js ≡ 0)

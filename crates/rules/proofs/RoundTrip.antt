@@ -17,7 +17,7 @@ use Rattle.rules.specs.Sound.{Lent, sound}
 use Rattle.rules.specs.Rule.{unnamed}
 use Rattle.rules.specs.Read.{copied}
 use Rattle.rules.specs.Step.{Operation, Audit, Put, Free, Dup, Cut, Append, Drop, Keep, Pullup, Pack, Length, Read, Show, Do, rule, Result, stateIn, done, step, next}
-use Rattle.rules.specs.After.{at, readsAfter, vacantAfter}
+use Rattle.rules.specs.After.{at, readsAfter, vacantAfter, Names}
 use Rattle.rules.proofs.Logic.{and-intro, not-zero, eq→eqb}
 use Rattle.rules.proofs.Moves.{in-range}
 use Rattle.rules.proofs.Room.{new-slip-ok}
@@ -87,22 +87,6 @@ put-read input out m e l =
     (c, output-is _ _ c ∙ ap (λ xs. copied xs out) (ap (take (length input)) q ∙ take-length input))
 
 -- ---- the slips that a call does not name
-
--- the slips that a call names
-abbrev pub Names : Operation → ℕ → Type 0
-Names Audit t = ⊥
-Names (Put input) t = ⊥
-Names (Free s) t = t ≡ s
-Names (Dup s) t = t ≡ s
-Names (Cut s off n) t = t ≡ s
-Names (Append a b) t = (t ≡ a) ⊎ (t ≡ b)
-Names (Drop s n) t = t ≡ s
-Names (Keep s n) t = t ≡ s
-Names (Pullup s n) t = t ≡ s
-Names (Pack s) t = t ≡ s
-Names (Length s) t = t ≡ s
-Names (Read s off n out) t = t ≡ s
-Names (Show s n scratch) t = t ≡ s
 
 -- a new slip was vacant, so a held slip is not it
 not-new : (T : Tables) (t : ℕ) → 0 < length (vacantSlips T) → Is (not (isVacant T t)) → t ≢ newSlip T

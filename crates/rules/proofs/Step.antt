@@ -1,6 +1,6 @@
 -- Any call on any bytes: a no alters nothing, a done call is its rule on bytes, and soundness is kept. Assumes nothing.
 use mathlib.Core.Path.{_≡_, refl, sym, ap, subst, _∙_}
-use mathlib.Core.Logic.{_≢_, ⊎-elim}
+use mathlib.Core.Logic.{_≢_, _↔_, ⊎-elim}
 use mathlib.Core.Bool.{Bool, true, false, not, _&&_}
 use mathlib.Core.List.{List, [], _∷_}
 use Prim.Native.Nat.{ℕ, zero, suc, _+_, _*_, _≤_, _<_}
@@ -9,18 +9,19 @@ use native.Mathlib.Omega.{arith}
 use lib.ListN.{length, replicate, length-replicate}
 use lib.Dec.{eqb, eqb→eq, leb, le→leb}
 use Rattle.kinds.specs.Limits.{mostBuffers, mostPieces, mostSlips, bufferSize, counted}
+use Rattle.kinds.specs.declared.Refusal.{Refusal}
 use Rattle.kinds.specs.declared.Refusal.the-variants.{Counts, Torn}
 use Rattle.kinds.specs.Refusal.{refusalCode}
 use Rattle.rules.specs.Basics.{Is, if_then_else_}
 use Rattle.rules.specs.Layout.{storageLength}
-use Rattle.rules.specs.Tables.{Tables, slipTotal, pieceTotal, bufferTotal, vacant, blank, freshTables}
+use Rattle.rules.specs.Tables.{Tables, slipTotal, pieceTotal, bufferTotal, vacant, blank, freshTables, bufferCount}
 use Rattle.rules.specs.Bytes.{buffersIn, piecesIn, slipsIn, decode, encode}
-use Rattle.rules.specs.Chain.{State, reads}
+use Rattle.rules.specs.Chain.{State, reads, bytesOf}
 use Rattle.rules.specs.Room.{isVacant}
 use Rattle.rules.specs.Sound.{Lent, headerOk, soundTables, sound}
 use Rattle.rules.specs.Rule.{Rule, noView, codeIn}
 use Rattle.rules.specs.Open.{openable}
-use Rattle.rules.specs.Step.{Operation, Call, Open, Do, rule, lentOut, Result, refused, stateIn, done, perform, step, next, run}
+use Rattle.rules.specs.Step.{Operation, Call, Open, Do, rule, lentOut, Result, refused, stateIn, done, perform, step, next, run, lentTo}
 use Rattle.rules.specs.After.{readsAfter, vacantAfter}
 use Rattle.rules.proofs.Logic.{if-T, if-F, if-either, and-intro, and-0, and-1, eq→eqb, is-dec}
 use Rattle.rules.proofs.Moves.{SoundNow}
@@ -28,9 +29,9 @@ use Rattle.rules.proofs.Bytes.{Sized, SmallPiece, Header, header-facts,
 use Rattle.rules.proofs.Bounds.{Small, small}
 use Rattle.rules.proofs.Sizes.{Sizes, rule-sizes, rule-storage}
 use Rattle.rules.proofs.Audit.{tables-pass, sound-now, fresh-sound}
-use Rattle.rules.proofs.Codes.{refusal-pos, allowed}
+use Rattle.rules.proofs.Codes.{refusal-pos, allowed, first-listed}
 use Rattle.rules.proofs.Sound.{rule-sound}
-use Rattle.rules.proofs.After.{reads-ok}
+use Rattle.rules.proofs.After.{reads-ok, wholeOf, held-stays}
 use Rattle.rules.specs.Takes.{Took, target}
 use Rattle.rules.proofs.Takes.{takes}
 
@@ -45,11 +46,6 @@ unfolding perform
 perform-no o m n = if-F (eqb (codeIn (rule o (stateIn m)) (decode (m .pool))) 0) _ _ (λ t. n (eqb→eq _ 0 t))
 
 -- ---- a no
-
--- what a call is lent besides pool and storage
-abbrev pub lentTo : Call → List ℕ
-lentTo (Open B P S) = []
-lentTo (Do o) = lentOut o
 
 perform-refused : (o : Operation) (m : Lent) → perform o m .code ≢ 0 → perform o m ≡ refused (perform o m .code) m (lentOut o)
 unfolding done
@@ -99,6 +95,30 @@ did o m e =
     let z = sym (code-is o m t) ∙ e in
     record { was-sound = t; allowed-code = z; result = step-sound-pool o m t ∙ perform-done o m z }))
     (λ n. absurd (let q = ap (λ (x : Result). x .code) (step-torn o m n) in omega arith))
+    (is-dec (sound m))
+
+-- open is done exactly where its counts and both lengths fit
+pub open-code : (B P S : ℕ) (m : Lent) → (step (Open B P S) m .code ≡ 0) ↔ Is (openable B P S m)
+unfolding step
+open-code B P S m =
+    if-either (λ (x : Result). (x .code ≡ 0) ↔ Is (openable B P S m)) (openable B P S m) _ _
+    (λ t. (λ _. t, λ _. refl)) (λ n. (λ z. absurd (omega arith), λ t. absurd (n t)))
+
+open-listed : (B P S : ℕ) (m : Lent) → step (Open B P S) m .code ≢ 0 → (r : Refusal) × (step (Open B P S) m .code ≡ refusalCode r)
+unfolding step
+open-listed B P S m =
+    if-either (λ (x : Result). x .code ≢ 0 → (r : Refusal) × (x .code ≡ refusalCode r)) (openable B P S m) _ _ (λ _ n. absurd (n refl)) (λ _ _. (Counts, refl))
+
+-- A code other than 0 is one of the list.
+pub code-listed : (c : Call) (m : Lent) → step c m .code ≢ 0 → (r : Refusal) × (step c m .code ≡ refusalCode r)
+code-listed (Open B P S) m n = open-listed B P S m n
+code-listed (Do o) m n =
+    ⊎-elim
+    (λ t. (
+    let e = code-is o m t in
+    let r = first-listed _ (λ z. n (e ∙ z)) in
+    (r .0, e ∙ r .1)))
+    (λ t. (Torn, ap (λ (x : Result). x .code) (step-torn o m t)))
     (is-dec (sound m))
 
 -- ---- soundness in bytes
@@ -264,3 +284,13 @@ slips-took o m e =
     let S = stateIn m in
     subst (λ (X : State). Took (S .tables) (X .tables) (rule o S .wants) (target o (S .tables))) (sym (after-state o m e))
     (takes o S (sound-now m (d .was-sound)) (allowed (rule o S) (S .tables) (d .allowed-code)))
+
+-- ---- bytes that stay
+
+-- A done operation leaves every byte of a buffer that was held.
+pub storage-stays : (o : Operation) (m : Lent) → step (Do o) m .code ≡ 0 → (b : ℕ) → b < bufferTotal (decode (m .pool)) → 0 < bufferCount (decode (m .pool)) b
+    → bytesOf (next (Do o) m .storage) (wholeOf b) ≡ bytesOf (m .storage) (wholeOf b)
+storage-stays o m e b l h =
+    let d = did o m e in
+    ap (λ (x : State). bytesOf (x .storage) (wholeOf b)) (after-state o m e)
+    ∙ held-stays (stateIn m) (sound-within m (d .was-sound) .storage-fits) b l h o

@@ -1,5 +1,6 @@
 -- What every slip reads once an operation is done, and which slips are then vacant.
 use mathlib.Core.Path.{_≡_}
+use mathlib.Core.Logic.{_⊎_}
 use mathlib.Core.Bool.{Bool, true, false}
 use mathlib.Core.List.{List, [], _++_}
 use Prim.Native.Nat.{ℕ}
@@ -52,6 +53,22 @@ vacantAfter (Show s n scratch) S = isVacant (S .tables)
 pub record ReadsOk (o : Operation) (S : State) : Type 0 where
   pub bytes : (t : ℕ) → reads (rule o S .after) t ≡ readsAfter o S t
   pub vacancy : (t : ℕ) → isVacant (rule o S .after .tables) t ≡ vacantAfter o S t
+
+-- the slips that a call names
+abbrev pub Names : Operation → ℕ → Type 0
+Names Audit t = ⊥
+Names (Put input) t = ⊥
+Names (Free s) t = t ≡ s
+Names (Dup s) t = t ≡ s
+Names (Cut s off n) t = t ≡ s
+Names (Append a b) t = (t ≡ a) ⊎ (t ≡ b)
+Names (Drop s n) t = t ≡ s
+Names (Keep s n) t = t ≡ s
+Names (Pullup s n) t = t ≡ s
+Names (Pack s) t = t ≡ s
+Names (Length s) t = t ≡ s
+Names (Read s off n out) t = t ≡ s
+Names (Show s n scratch) t = t ≡ s
 
 -- the n bytes that a view shows
 abbrev pub seen : View → ℕ → List ℕ → List ℕ → List ℕ

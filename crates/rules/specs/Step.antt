@@ -79,6 +79,11 @@ lentOut (Length s) = []
 lentOut (Read s off n out) = out
 lentOut (Show s n scratch) = scratch
 
+-- what a call is lent besides pool and storage
+abbrev pub lentTo : Call → List ℕ
+lentTo (Open B P S) = []
+lentTo (Do o) = lentOut o
+
 -- What a call answers, and every byte after it.
 pub record Result : Type 0 where
   pub code : ℕ
