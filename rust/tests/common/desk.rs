@@ -1,0 +1,208 @@
+//! A pool and its storage under one engine, with calls that assert their answers.
+
+use super::compare::differences;
+use super::model::{self, pool_length, Call, Outcome, NO_VIEW};
+
+/// What does one call on any bytes: the model or the library.
+pub type Engine = fn(&[u8], &[u8], &Call) -> Outcome;
+
+/// The model as an engine.
+pub fn by_model(pool: &[u8], storage: &[u8], call: &Call) -> Outcome {
+    model::TRUE.step(pool, storage, call)
+}
+
+/// Data byte i is i mod 251.
+pub fn data(n: usize) -> Vec<u8> {
+    (0..n).map(|i| (i % 251) as u8).collect()
+}
+
+pub struct Desk {
+    pub engine: Engine,
+    pub pool: Vec<u8>,
+    pub storage: Vec<u8>,
+}
+
+impl Desk {
+    /// An opened pool over bytes that are not zero.
+    pub fn open(engine: Engine, buffers: u16, pieces: u16, slips: u16) -> Desk {
+        let length = pool_length(buffers as u64, pieces as u64, slips as u64);
+        let mut desk = Desk {
+            engine,
+            pool: vec![0xDD; length as usize],
+            storage: vec![0xEE; 512 * buffers as usize],
+        };
+        desk.done(
+            Call::Open {
+                buffers,
+                pieces,
+                slips,
+            },
+            0,
+        );
+        desk
+    }
+
+    /// Makes the call and goes on from what it leaves.
+    pub fn call(&mut self, call: Call) -> Outcome {
+        let outcome = (self.engine)(&self.pool, &self.storage, &call);
+        self.pool = outcome.pool.clone();
+        self.storage = outcome.storage.clone();
+        outcome
+    }
+
+    /// The call is done and answers the number.
+    pub fn done(&mut self, call: Call, number: u64) -> Outcome {
+        let brief = call.brief();
+        let outcome = self.call(call);
+        assert_eq!((outcome.code, outcome.number), (0, number), "{brief}");
+        outcome
+    }
+
+    /// The call is done and not one byte of pool or storage changes.
+    pub fn done_unchanged(&mut self, call: Call, number: u64) -> Outcome {
+        let (pool, storage) = (self.pool.clone(), self.storage.clone());
+        let brief = call.brief();
+        let outcome = self.done(call, number);
+        assert_eq!(outcome.pool, pool, "{brief}");
+        assert_eq!(outcome.storage, storage, "{brief}");
+        outcome
+    }
+
+    /// The call is refused with the code: number 0, no view, and not one lent byte changes.
+    pub fn refused(&mut self, call: Call, code: u16) {
+        let (pool, storage) = (self.pool.clone(), self.storage.clone());
+        let lent = call.lent().to_vec();
+        let brief = call.brief();
+        let outcome = self.call(call);
+        assert_eq!((outcome.code, outcome.number), (code, 0), "{brief}");
+        assert_eq!(outcome.view, NO_VIEW, "{brief}");
+        assert_eq!(outcome.pool, pool, "{brief}");
+        assert_eq!(outcome.storage, storage, "{brief}");
+        assert_eq!(outcome.lent, lent, "{brief}");
+    }
+
+    pub fn put(&mut self, n: usize, slip: u64) {
+        self.done(Call::Put { data: data(n) }, slip);
+    }
+
+    pub fn free(&mut self, slip: u16) {
+        self.done(Call::Free { slip }, 0);
+    }
+
+    pub fn dup(&mut self, slip: u16, new: u64) {
+        self.done(Call::Dup { slip }, new);
+    }
+
+    pub fn cut(&mut self, slip: u16, offset: u32, length: u32, new: u64) {
+        self.done(cut(slip, offset, length), new);
+    }
+
+    pub fn append(&mut self, a: u16, b: u16) {
+        self.done(Call::Append { a, b }, 0);
+    }
+
+    pub fn drop(&mut self, slip: u16, n: u32) {
+        self.done(Call::Drop { slip, n }, 0);
+    }
+
+    pub fn keep(&mut self, slip: u16, n: u32) {
+        self.done(Call::Keep { slip, n }, 0);
+    }
+
+    pub fn pullup(&mut self, slip: u16, n: u32) {
+        self.done(Call::Pullup { slip, n }, 0);
+    }
+
+    pub fn pack(&mut self, slip: u16) {
+        self.done(Call::Pack { slip }, 0);
+    }
+
+    pub fn length(&mut self, slip: u16, n: u64) {
+        self.done_unchanged(Call::Length { slip }, n);
+    }
+
+    /// The chain reads as these bytes, and output past them is unchanged.
+    pub fn reads(&mut self, slip: u16, bytes: &[u8]) {
+        self.length(slip, bytes.len() as u64);
+        let mut output = vec![0x99; bytes.len() + 3];
+        let call = Call::Read {
+            slip,
+            offset: 0,
+            length: bytes.len() as u32,
+            output: output.clone(),
+        };
+        let outcome = self.done_unchanged(call, bytes.len() as u64);
+        output[..bytes.len()].copy_from_slice(bytes);
+        assert_eq!(outcome.lent, output, "bytes of slip {slip}");
+    }
+
+    /// The pool is exactly these tables: slips, pieces as (count, buffer, offset, length, next),
+    /// buffer counts, each as its stored word.
+    pub fn tables(&self, slips: &[u16], pieces: &[[u16; 5]], buffers: &[u16]) {
+        let mut pool = b"SLP".to_vec();
+        let header = [
+            1,
+            buffers.len() as u16,
+            pieces.len() as u16,
+            slips.len() as u16,
+        ];
+        let words = header
+            .iter()
+            .chain(slips)
+            .chain(pieces.iter().flatten())
+            .chain(buffers);
+        for word in words {
+            pool.extend(word.to_le_bytes());
+        }
+        let text = differences("pool", &pool, &self.pool);
+        assert!(text.is_empty(), "{text}");
+    }
+
+    /// Buffer b is exactly these bytes, then zeros.
+    pub fn buffer_holds(&self, b: usize, bytes: &[u8]) {
+        let mut whole = bytes.to_vec();
+        whole.resize(512, 0);
+        let text = differences("buffer", &whole, &self.storage[512 * b..512 * b + 512]);
+        assert!(text.is_empty(), "{text}");
+    }
+
+    /// The free pieces by number.
+    pub fn free_pieces(&self) -> Vec<usize> {
+        let tables = model::Tables::parse(&self.pool, &self.storage).expect("sound");
+        (0..tables.pieces.len())
+            .filter(|d| tables.pieces[*d].count == 0)
+            .collect()
+    }
+
+    /// Sets one word of the pool.
+    pub fn set(&mut self, at: usize, word: u16) {
+        self.pool[at..at + 2].copy_from_slice(&word.to_le_bytes());
+    }
+}
+
+pub fn cut(slip: u16, offset: u32, length: u32) -> Call {
+    Call::Cut {
+        slip,
+        offset,
+        length,
+    }
+}
+
+/// A read into so many lent bytes.
+pub fn read(slip: u16, offset: u32, length: u32, output: usize) -> Call {
+    Call::Read {
+        slip,
+        offset,
+        length,
+        output: vec![0x99; output],
+    }
+}
+
+/// A show with so many lent bytes.
+pub fn show(slip: u16, n: u32, scratch: usize) -> Call {
+    Call::Show {
+        slip,
+        n,
+        scratch: vec![0x99; scratch],
+    }
+}

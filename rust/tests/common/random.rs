@@ -1,0 +1,448 @@
+//! Seeded numbers, pool shapes, and random calls with arguments at the borders.
+
+use super::model::{pool_length, Call, Slip, Tables};
+
+/// Splitmix64: the same seed gives the same numbers everywhere.
+pub struct Random {
+    state: u64,
+}
+
+impl Random {
+    pub fn new(seed: u64) -> Random {
+        Random { state: seed }
+    }
+
+    pub fn number(&mut self) -> u64 {
+        self.state = self.state.wrapping_add(0x9E37_79B9_7F4A_7C15);
+        let mut z = self.state;
+        z = (z ^ (z >> 30)).wrapping_mul(0xBF58_476D_1CE4_E5B9);
+        z = (z ^ (z >> 27)).wrapping_mul(0x94D0_49BB_1331_11EB);
+        z ^ (z >> 31)
+    }
+
+    /// A number below `limit`, which is above 0.
+    pub fn below(&mut self, limit: u64) -> u64 {
+        self.number() % limit
+    }
+
+    /// A number from `low` to `high`, both included.
+    pub fn between(&mut self, low: u64, high: u64) -> u64 {
+        low + self.below(high - low + 1)
+    }
+
+    /// True once in `times`.
+    pub fn once_in(&mut self, times: u64) -> bool {
+        self.below(times) == 0
+    }
+
+    pub fn pick<T: Copy>(&mut self, from: &[T]) -> T {
+        from[self.below(from.len() as u64) as usize]
+    }
+
+    pub fn bytes(&mut self, length: usize) -> Vec<u8> {
+        let mut bytes = Vec::with_capacity(length + 8);
+        while bytes.len() < length {
+            bytes.extend(self.number().to_le_bytes());
+        }
+        bytes.truncate(length);
+        bytes
+    }
+}
+
+/// Buffers, pieces and slips of a pool.
+pub type Shape = (u16, u16, u16);
+
+/// Shapes that are always tried, from the smallest to the largest.
+pub const SHAPES: &[Shape] = &[
+    (1, 1, 1),
+    (1, 1, 2),
+    (1, 2, 1),
+    (2, 1, 2),
+    (1, 8, 4),
+    (2, 3, 3),
+    (3, 4, 2),
+    (4, 6, 4),
+    (2, 12, 6),
+    (6, 10, 5),
+    (8, 16, 8),
+    (12, 40, 10),
+    (32, 48, 16),
+    (3, 256, 64),
+    (128, 130, 9),
+    (128, 256, 64),
+];
+
+/// A shape: mostly small, now and then a large one, where lists are longer and each call dearer.
+pub fn shape(random: &mut Random) -> Shape {
+    match random.below(1_000) {
+        0..=1 => (128, 256, 64),
+        2..=4 => random.pick(&SHAPES[11..]),
+        5..=399 => random.pick(&SHAPES[..11]),
+        400..=449 => (
+            random.between(1, 40) as u16,
+            random.between(1, 60) as u16,
+            random.between(1, 20) as u16,
+        ),
+        // Few slips, few pieces or few buffers, so that each of them runs out first somewhere.
+        450..=649 => (
+            random.between(4, 12) as u16,
+            random.between(2, 9) as u16,
+            random.between(6, 14) as u16,
+        ),
+        650..=749 => (
+            random.between(1, 4) as u16,
+            random.between(8, 24) as u16,
+            random.between(6, 14) as u16,
+        ),
+        // Room enough for long chains that share their pieces.
+        750..=899 => (
+            random.between(5, 14) as u16,
+            random.between(18, 44) as u16,
+            random.between(7, 16) as u16,
+        ),
+        _ => (
+            random.between(1, 10) as u16,
+            random.between(1, 20) as u16,
+            random.between(1, 9) as u16,
+        ),
+    }
+}
+
+/// Random bytes for pool and storage, of the lengths that open asks.
+pub fn unopened(random: &mut Random, shape: Shape) -> (Vec<u8>, Vec<u8>) {
+    let length = pool_length(shape.0 as u64, shape.1 as u64, shape.2 as u64);
+    (
+        random.bytes(length as usize),
+        random.bytes(512 * shape.0 as usize),
+    )
+}
+
+/// How often each kind of call comes in one sequence, so that some fill the pool and some drain it.
+pub struct Mood {
+    weights: [u64; 14],
+    /// Puts of at most this many bytes, but for the borders.
+    put_up_to: u64,
+    /// Once in this many a wild argument is taken.
+    wild: u64,
+}
+
+impl Mood {
+    pub fn new(random: &mut Random, shape: Shape) -> Mood {
+        let mut weights = [0; 14];
+        for weight in &mut weights {
+            *weight = random.between(1, 12);
+        }
+        // Open empties the pool and audit changes nothing: both stay rare.
+        weights[0] = u64::from(random.once_in(4));
+        weights[1] = 1;
+        // Put, dup and append make the chains that the others work on.
+        weights[2] += 4;
+        weights[4] += 4;
+        weights[6] += 4;
+        // Most of the sequences free seldom, so that slips, pieces and buffers run out.
+        if !random.once_in(3) {
+            weights[3] = 2;
+        }
+        let put_up_to = match random.below(3) {
+            0 => 40,
+            1 => 700,
+            _ => 512 * (1 + shape.0 as u64 / 4),
+        };
+        Mood {
+            weights,
+            put_up_to,
+            wild: random.pick(&[6, 20, 60]),
+        }
+    }
+
+    fn kind(&self, random: &mut Random) -> usize {
+        let mut left = random.below(self.weights.iter().sum::<u64>() * 4);
+        for (kind, weight) in self.weights.iter().enumerate() {
+            // Open counts once where the others count four times.
+            let share = if kind == 0 { *weight } else { 4 * weight };
+            if left < share {
+                return kind;
+            }
+            left -= share;
+        }
+        2
+    }
+}
+
+/// A chain seen from outside: its length and the places where a piece ends.
+struct Seen {
+    length: u64,
+    borders: Vec<u64>,
+}
+
+fn seen(tables: &Tables, slip: u16) -> Seen {
+    let chain = match tables.held(slip) {
+        Some(state) => tables.chain(state),
+        None => Vec::new(),
+    };
+    Seen {
+        length: tables.length(&chain),
+        borders: tables.spans(&chain).iter().map(|(_, end)| *end).collect(),
+    }
+}
+
+/// A byte count for a chain, mostly at a border.
+fn amount(random: &mut Random, seen: &Seen, wild: u64) -> u32 {
+    if random.once_in(wild) {
+        let far = [
+            seen.length + 1,
+            seen.length + 1,
+            seen.length + 600,
+            513,
+            65_536,
+            u32::MAX as u64,
+            u32::MAX as u64 - random.below(3),
+            1 << 31,
+        ];
+        return random.pick(&far) as u32;
+    }
+    let n = match random.below(24) {
+        0 => 0,
+        1..=2 => 1,
+        3..=4 => seen.length.saturating_sub(1),
+        5 => seen.length,
+        6..=7 => random.between(511, 513),
+        8..=17 if !seen.borders.is_empty() => {
+            let border = random.pick(&seen.borders);
+            match random.below(4) {
+                0 => border.saturating_sub(1),
+                1 => border + 1,
+                _ => border,
+            }
+        }
+        18..=20 => random.below(20),
+        _ => random.below(seen.length + 1),
+    };
+    // Past the end comes with the wild ones, here only now and then.
+    if n > seen.length && !random.once_in(8) {
+        return random.below(seen.length + 1) as u32;
+    }
+    n as u32
+}
+
+/// A slip number: mostly held, and rather one with a long chain; now and then vacant or S or more.
+fn slip(random: &mut Random, tables: &Tables, wild: u64) -> u16 {
+    let s = tables.slips.len() as u64;
+    if random.once_in(wild) {
+        let any = random.below(s);
+        return random.pick(&[any, any, s, s + 1, 64, 65_535]) as u16;
+    }
+    let held: Vec<u64> = (0..s)
+        .filter(|i| tables.slips[*i as usize] != Slip::Vacant)
+        .collect();
+    if held.is_empty() {
+        return random.below(s) as u16;
+    }
+    let (one, other) = (random.pick(&held), random.pick(&held));
+    let pieces = |i: u64| tables.chain(tables.slips[i as usize]).len();
+    if random.once_in(3) || pieces(one) >= pieces(other) {
+        one as u16
+    } else {
+        other as u16
+    }
+}
+
+/// Lent bytes for a copy of n: exact, one short, longer, none, or enough in any case.
+pub fn lent_bytes(random: &mut Random, n: u64) -> Vec<u8> {
+    let n = n.min(140_000);
+    let length = match random.below(8) {
+        0 => n.saturating_sub(1),
+        1 => n + 1,
+        2 => n + random.below(40),
+        3 => 0,
+        _ => n,
+    };
+    random.bytes(length as usize)
+}
+
+/// Counts for an open: mostly those of the pool, or others that ask the same lengths, or wrong ones.
+fn open(random: &mut Random, tables: &Tables) -> Call {
+    let (b, p, s) = (
+        tables.buffers.len() as u16,
+        tables.pieces.len() as u16,
+        tables.slips.len() as u16,
+    );
+    let (buffers, pieces, slips) = match random.below(10) {
+        // One piece less and five slips more are as many bytes.
+        0..=2 if p > 1 => (b, p - 1, s + 5),
+        3..=4 if s > 5 => (b, p + 1, s - 5),
+        5 => random.pick(&[
+            (b + 1, p, s),
+            (b, p + 1, s),
+            (b, p, s + 1),
+            (b - 1, p, s),
+            (b, p - 1, s),
+            (b, p, s - 1),
+            (0, 0, 0),
+            (u16::MAX, u16::MAX, u16::MAX),
+            (s, p, b),
+        ]),
+        _ => (b, p, s),
+    };
+    Call::Open {
+        buffers,
+        pieces,
+        slips,
+    }
+}
+
+/// A random call for a sound pool.
+pub fn call(random: &mut Random, pool: &[u8], storage: &[u8], mood: &Mood) -> Call {
+    let tables = Tables::parse(pool, storage).expect("a pool that the list has left");
+    let wild = mood.wild;
+    let mut kind = mood.kind(random);
+    // With every slip vacant almost any call is code 3: put, mostly.
+    if tables.slips.iter().all(|s| *s == Slip::Vacant) && !random.once_in(4) {
+        kind = 2;
+    }
+    match kind {
+        0 => open(random, &tables),
+        1 => Call::Audit,
+        2 => Call::Put {
+            data: data(random, &tables, mood),
+        },
+        3 => Call::Free {
+            slip: slip(random, &tables, wild),
+        },
+        4 => Call::Dup {
+            slip: slip(random, &tables, wild),
+        },
+        5 => {
+            let slip = slip(random, &tables, wild);
+            let (offset, length) = range(random, &seen(&tables, slip), wild);
+            Call::Cut {
+                slip,
+                offset,
+                length,
+            }
+        }
+        6 => {
+            let a = slip(random, &tables, wild);
+            let mut b = slip(random, &tables, wild);
+            if a == b && !random.once_in(4) {
+                b = slip(random, &tables, wild);
+            }
+            if random.once_in(3) {
+                b = heading_inside(&tables, a).unwrap_or(b);
+            }
+            Call::Append { a, b }
+        }
+        7 => {
+            let slip = slip(random, &tables, wild);
+            let n = amount(random, &seen(&tables, slip), wild);
+            Call::Drop { slip, n }
+        }
+        8 => {
+            let slip = slip(random, &tables, wild);
+            let n = amount(random, &seen(&tables, slip), wild);
+            Call::Keep { slip, n }
+        }
+        9 => {
+            let slip = slip(random, &tables, wild);
+            let mut n = amount(random, &seen(&tables, slip), wild);
+            if n > 513 && !random.once_in(8) {
+                n = random.below(514) as u32;
+            }
+            Call::Pullup { slip, n }
+        }
+        10 => Call::Pack {
+            slip: slip(random, &tables, wild),
+        },
+        11 => Call::Length {
+            slip: slip(random, &tables, wild),
+        },
+        12 => {
+            let slip = slip(random, &tables, wild);
+            read(random, &tables, slip, wild)
+        }
+        _ => {
+            let slip = slip(random, &tables, wild);
+            show(random, &tables, slip, wild)
+        }
+    }
+}
+
+/// Another slip that heads a piece of this one's chain, if there is any.
+fn heading_inside(tables: &Tables, slip: u16) -> Option<u16> {
+    let chain = tables.chain(tables.held(slip)?);
+    let inside = |i: usize| match tables.slips[i] {
+        Slip::Heads(d) => i != slip as usize && chain.contains(&d),
+        _ => false,
+    };
+    (0..tables.slips.len())
+        .find(|i| inside(*i))
+        .map(|i| i as u16)
+}
+
+/// A read with biased range and output.
+pub fn read(random: &mut Random, tables: &Tables, slip: u16, wild: u64) -> Call {
+    let (offset, length) = range(random, &seen(tables, slip), wild);
+    let output = match random.once_in(wild) {
+        true => random.bytes(30),
+        false => lent_bytes(random, length as u64),
+    };
+    Call::Read {
+        slip,
+        offset,
+        length,
+        output,
+    }
+}
+
+/// A show with biased count and scratch.
+pub fn show(random: &mut Random, tables: &Tables, slip: u16, wild: u64) -> Call {
+    let mut n = amount(random, &seen(tables, slip), wild);
+    if n > 513 && !random.once_in(8) {
+        n = random.below(514) as u32;
+    }
+    let scratch = lent_bytes(random, (n as u64).min(600));
+    Call::Show { slip, n, scratch }
+}
+
+/// Data for a put, its length mostly at a border of the buffers or of the room.
+fn data(random: &mut Random, tables: &Tables, mood: &Mood) -> Vec<u8> {
+    let free_buffers = tables.buffers.iter().filter(|n| **n == 0).count() as u64;
+    let free_pieces = tables.pieces.iter().filter(|q| q.count == 0).count() as u64;
+    let length = match random.below(20) {
+        0 => 0,
+        1 => random.between(511, 513),
+        2 => random.between(1_023, 1_025),
+        3 if random.once_in(3) => 512 * free_buffers,
+        4 if random.once_in(3) => 512 * free_buffers + 1,
+        5 if random.once_in(3) => 512 * free_pieces,
+        6 if random.once_in(3) => 512 * free_pieces + 1,
+        7 if random.once_in(20) => 512 * 129,
+        8 => 1,
+        _ => random.between(1, mood.put_up_to),
+    };
+    random.bytes(length as usize)
+}
+
+/// An offset and a length, also such as come round to a small sum in 32 bits.
+fn range(random: &mut Random, seen: &Seen, wild: u64) -> (u32, u32) {
+    let offset = amount(random, seen, wild);
+    let rest = seen.length.saturating_sub(offset as u64);
+    if random.once_in(2 * wild) {
+        let round = (1u64 << 32) - (offset as u64).max(1);
+        return (
+            offset,
+            (round + random.below(3)).min(u32::MAX as u64) as u32,
+        );
+    }
+    // What is left of the chain past the offset has borders of its own.
+    let behind = Seen {
+        length: rest,
+        borders: seen
+            .borders
+            .iter()
+            .filter(|border| **border > offset as u64)
+            .map(|border| border - offset as u64)
+            .collect(),
+    };
+    (offset, amount(random, &behind, wild))
+}

@@ -1,0 +1,1231 @@
+//! The paper's own cases, for any engine: the marked rows, the edges, the five common errors, and
+//! each point where the paper can be read in two ways.
+
+use super::desk::{cut, data, read, show, Desk, Engine};
+use super::model::{
+    Call, View, BUFFERS, COUNTS, LONG, NARROW, NO_VIEW, PIECES, RANGE, SAME, SLIP, SLIPS, TORN,
+};
+
+/// Makes one test of each case.
+#[macro_export]
+macro_rules! paper_cases {
+    ($engine:path) => {
+        $crate::paper_cases! { $engine;
+            fresh_pool, ten_rows, longest_chain, most_holders,
+            edge_put_at_512, edge_storage_full, edge_cut_at_end, edge_long, edge_append_same,
+            error_freeing_past_shared, error_shortening_behind_shared,
+            error_counting_holders_by_slips, error_adding_in_32_bits, error_keeping_the_slip,
+            reading_01_own_at_entry, reading_02_one_reference_released,
+            reading_03_chain_before_released, reading_04_drop_at_border,
+            reading_05_keep_at_border, reading_06_nothing_wanted, reading_07_empty_not_vacant,
+            reading_08_append_empty_side, reading_09_pullup_wants, reading_10_pack_afresh,
+            reading_11_dup_and_cut, reading_12_numbers_taken, reading_13_order_of_codes,
+            reading_14_append_twice, reading_15_read_and_show, reading_16_whole_numbers,
+            reading_17_exact_lengths, reading_18_rings, reading_19_released_bytes_stay,
+            reading_20_empty_slices,
+        }
+    };
+    ($engine:path; $($case:ident,)*) => {
+        $(
+            #[test]
+            fn $case() {
+                common::scenarios::$case($engine);
+            }
+        )*
+    };
+}
+
+const Z: [u16; 5] = [0; 5];
+
+/// The fresh pool for B 4, P 6, S 4 is 87 bytes; open leaves storage as it was.
+pub fn fresh_pool(engine: Engine) {
+    let mut desk = Desk::open(engine, 4, 6, 4);
+    let mut fresh = vec![
+        0x53, 0x4C, 0x50, 0x01, 0x00, 0x04, 0x00, 0x06, 0x00, 0x04, 0x00,
+    ];
+    fresh.resize(11 + 76, 0);
+    assert_eq!(desk.pool, fresh);
+    assert_eq!(desk.pool.len(), 87);
+    assert_eq!(desk.storage, vec![0xEE; 2_048]);
+    desk.done_unchanged(Call::Audit, 0);
+}
+
+/// Rows 1 to 10 of the morning, each with the whole tables and the chains' bytes.
+pub fn ten_rows(engine: Engine) {
+    let mut desk = Desk::open(engine, 4, 6, 4);
+    let d = data(600);
+
+    // 1: put 600.
+    desk.put(600, 0);
+    desk.tables(
+        &[2, 0, 0, 0],
+        &[[1, 0, 0, 512, 2], [1, 1, 0, 88, 0], Z, Z, Z, Z],
+        &[1, 1, 0, 0],
+    );
+    desk.buffer_holds(0, &d[..512]);
+    desk.buffer_holds(1, &d[512..]);
+    assert_eq!(desk.storage[1_024..], [0xEE; 1_024]);
+    desk.reads(0, &d);
+
+    // 2: cut 0, 500, 50.
+    let storage = desk.storage.clone();
+    desk.cut(0, 500, 50, 1);
+    desk.tables(
+        &[2, 4, 0, 0],
+        &[
+            [1, 0, 0, 512, 2],
+            [1, 1, 0, 88, 0],
+            [1, 0, 500, 12, 4],
+            [1, 1, 0, 38, 0],
+            Z,
+            Z,
+        ],
+        &[2, 2, 0, 0],
+    );
+    desk.reads(1, &d[500..550]);
+
+    // 3: dup 0.
+    desk.dup(0, 2);
+    desk.tables(
+        &[2, 4, 6, 0],
+        &[
+            [1, 0, 0, 512, 2],
+            [2, 1, 0, 88, 0],
+            [1, 0, 500, 12, 4],
+            [1, 1, 0, 38, 0],
+            [1, 0, 0, 512, 2],
+            Z,
+        ],
+        &[3, 2, 0, 0],
+    );
+    desk.reads(0, &d);
+    desk.reads(2, &d);
+
+    // 4: free 0.
+    desk.free(0);
+    desk.tables(
+        &[0, 4, 6, 0],
+        &[
+            Z,
+            [1, 1, 0, 88, 0],
+            [1, 0, 500, 12, 4],
+            [1, 1, 0, 38, 0],
+            [1, 0, 0, 512, 2],
+            Z,
+        ],
+        &[2, 2, 0, 0],
+    );
+    desk.reads(2, &d);
+
+    // 5: drop 2, 520.
+    desk.drop(2, 520);
+    desk.tables(
+        &[0, 4, 3, 0],
+        &[
+            Z,
+            [1, 1, 8, 80, 0],
+            [1, 0, 500, 12, 4],
+            [1, 1, 0, 38, 0],
+            Z,
+            Z,
+        ],
+        &[1, 2, 0, 0],
+    );
+    desk.reads(2, &d[520..]);
+
+    // 6: append 1, 2.
+    desk.append(1, 2);
+    desk.tables(
+        &[0, 4, 0, 0],
+        &[
+            Z,
+            [1, 1, 8, 80, 0],
+            [1, 0, 500, 12, 4],
+            [1, 1, 0, 38, 2],
+            Z,
+            Z,
+        ],
+        &[1, 2, 0, 0],
+    );
+    desk.length(1, 130);
+    desk.reads(1, &[&d[500..550], &d[520..]].concat());
+
+    // 7: keep 1, 40.
+    desk.keep(1, 40);
+    desk.tables(
+        &[0, 4, 0, 0],
+        &[Z, Z, [1, 0, 500, 12, 4], [1, 1, 0, 28, 0], Z, Z],
+        &[1, 1, 0, 0],
+    );
+    desk.reads(1, &d[500..540]);
+    assert_eq!(desk.storage, storage, "rows 2 to 7 write no storage");
+
+    // 8: pullup 1, 20.
+    desk.pullup(1, 20);
+    desk.tables(
+        &[0, 2, 0, 0],
+        &[[1, 2, 0, 20, 4], Z, Z, [1, 1, 8, 20, 0], Z, Z],
+        &[0, 1, 1, 0],
+    );
+    desk.buffer_holds(2, &d[500..520]);
+    desk.buffer_holds(0, &d[..512]);
+    desk.reads(1, &d[500..540]);
+
+    // 9: pack 1; the bytes are 249, 250, 0 to 37.
+    desk.pack(1);
+    desk.tables(
+        &[0, 3, 0, 0],
+        &[Z, [1, 0, 0, 40, 0], Z, Z, Z, Z],
+        &[1, 0, 0, 0],
+    );
+    let bytes: Vec<u8> = [249, 250].into_iter().chain(0..=37).collect();
+    assert_eq!(bytes, d[500..540]);
+    desk.buffer_holds(0, &bytes);
+    desk.reads(1, &bytes);
+
+    // 10: free 1 gives the tables of a fresh pool again.
+    desk.free(1);
+    desk.tables(&[0; 4], &[Z; 6], &[0; 4]);
+    assert_eq!(desk.storage[1_536..], [0xEE; 512]);
+}
+
+/// The longest chain is 512·P bytes: 256 pieces, here all on one buffer.
+pub fn longest_chain(engine: Engine) {
+    let mut desk = Desk::open(engine, 1, 256, 2);
+    desk.put(512, 0);
+    for doubling in 0..8 {
+        let whole = 512 << doubling;
+        desk.cut(0, 0, whole, 1);
+        desk.append(0, 1);
+        desk.length(0, 2 * whole as u64);
+    }
+    let pieces: Vec<[u16; 5]> = (0..256)
+        .map(|d| [1, 0, 0, 512, if d == 255 { 0 } else { 2 + d }])
+        .collect();
+    desk.tables(&[2, 0], &pieces, &[256]);
+    let bytes: Vec<u8> = (0..256).flat_map(|_| data(512)).collect();
+    assert_eq!(bytes.len(), 131_072);
+    desk.reads(0, &bytes);
+    desk.refused(read(0, 131_072, 1, 1), RANGE);
+    desk.refused(cut(0, 0, 131_073), RANGE);
+    desk.refused(cut(0, 131_071, 1), PIECES);
+    desk.refused(Call::Dup { slip: 0 }, PIECES);
+    desk.refused(Call::Pack { slip: 0 }, PIECES);
+    desk.drop(0, 131_071);
+    desk.reads(0, &data(512)[511..]);
+    desk.free(0);
+    desk.tables(&[0, 0], &[Z; 256], &[0]);
+}
+
+/// 64 chains share a tail: its count goes up to 64 and down again, and it stays to the last.
+pub fn most_holders(engine: Engine) {
+    let mut desk = Desk::open(engine, 2, 66, 64);
+    desk.put(600, 0);
+    for new in 1..64 {
+        desk.dup(0, new);
+    }
+    let head = [1, 0, 0, 512, 2];
+    let mut pieces = vec![head; 66];
+    pieces[1] = [64, 1, 0, 88, 0];
+    pieces[65] = Z;
+    let slips: Vec<u16> = (0..64).map(|i| if i == 0 { 2 } else { 3 + i }).collect();
+    desk.tables(&slips, &pieces, &[64, 1]);
+    desk.refused(Call::Dup { slip: 63 }, SLIPS);
+    for slip in 0..63 {
+        desk.free(slip);
+    }
+    let mut pieces = vec![Z; 66];
+    pieces[1] = [1, 1, 0, 88, 0];
+    pieces[64] = head;
+    let mut slips = [0; 64];
+    slips[63] = 66;
+    desk.tables(&slips, &pieces, &[1, 1]);
+    desk.reads(63, &data(600));
+}
+
+/// Put of 512 takes one piece, of 513 two.
+pub fn edge_put_at_512(engine: Engine) {
+    let mut desk = Desk::open(engine, 4, 6, 4);
+    desk.put(512, 0);
+    desk.tables(
+        &[2, 0, 0, 0],
+        &[[1, 0, 0, 512, 0], Z, Z, Z, Z, Z],
+        &[1, 0, 0, 0],
+    );
+    let mut desk = Desk::open(engine, 4, 6, 4);
+    desk.put(513, 0);
+    desk.tables(
+        &[2, 0, 0, 0],
+        &[[1, 0, 0, 512, 2], [1, 1, 0, 1, 0], Z, Z, Z, Z],
+        &[1, 1, 0, 0],
+    );
+    desk.reads(0, &data(513));
+}
+
+/// 2,048 bytes fit, 2,049 are code 10.
+pub fn edge_storage_full(engine: Engine) {
+    let mut desk = Desk::open(engine, 4, 6, 4);
+    desk.put(2_048, 0);
+    desk.reads(0, &data(2_048));
+    let mut desk = Desk::open(engine, 4, 6, 4);
+    desk.refused(Call::Put { data: data(2_049) }, BUFFERS);
+}
+
+/// Cut of 600 at 600 for 0 is empty, at 601 for 0 is code 6.
+pub fn edge_cut_at_end(engine: Engine) {
+    let mut desk = Desk::open(engine, 4, 6, 4);
+    desk.put(600, 0);
+    desk.refused(cut(0, 601, 0), RANGE);
+    desk.cut(0, 600, 0, 1);
+    desk.tables(
+        &[2, 1, 0, 0],
+        &[[1, 0, 0, 512, 2], [1, 1, 0, 88, 0], Z, Z, Z, Z],
+        &[1, 1, 0, 0],
+    );
+    desk.length(1, 0);
+}
+
+/// Pullup of 513 of a 10-byte chain is code 5.
+pub fn edge_long(engine: Engine) {
+    let mut desk = Desk::open(engine, 4, 6, 4);
+    desk.put(10, 0);
+    desk.refused(Call::Pullup { slip: 0, n: 513 }, LONG);
+    desk.refused(show(0, 513, 600), LONG);
+    desk.refused(Call::Pullup { slip: 0, n: 512 }, RANGE);
+    desk.refused(Call::Pullup { slip: 0, n: 11 }, RANGE);
+}
+
+/// Append of one held slip to itself is 4, of a vacant one 3.
+pub fn edge_append_same(engine: Engine) {
+    let mut desk = Desk::open(engine, 4, 6, 4);
+    desk.put(10, 0);
+    desk.refused(Call::Append { a: 0, b: 0 }, SAME);
+    desk.refused(Call::Append { a: 1, b: 1 }, SLIP);
+}
+
+/// Free stops at a piece that another slip still reaches.
+pub fn error_freeing_past_shared(engine: Engine) {
+    let mut desk = Desk::open(engine, 4, 6, 4);
+    desk.put(1_100, 0);
+    desk.dup(0, 1);
+    desk.free(0);
+    desk.tables(
+        &[0, 5, 0, 0],
+        &[
+            Z,
+            [1, 1, 0, 512, 3],
+            [1, 2, 0, 76, 0],
+            [1, 0, 0, 512, 2],
+            Z,
+            Z,
+        ],
+        &[1, 1, 1, 0],
+    );
+    desk.reads(1, &data(1_100));
+}
+
+/// A piece of count 1 behind a shared piece is not own: keep and drop leave it to the other slip.
+pub fn error_shortening_behind_shared(engine: Engine) {
+    let mut desk = Desk::open(engine, 3, 8, 4);
+    desk.put(1_100, 0);
+    desk.dup(0, 1);
+    // Piece 1 has count 2, piece 2 behind it has count 1.
+    desk.keep(0, 1_050);
+    desk.tables(
+        &[2, 5, 0, 0],
+        &[
+            [1, 0, 0, 512, 5],
+            [1, 1, 0, 512, 3],
+            [1, 2, 0, 76, 0],
+            [1, 0, 0, 512, 2],
+            [1, 1, 0, 512, 6],
+            [1, 2, 0, 26, 0],
+            Z,
+            Z,
+        ],
+        &[2, 2, 2],
+    );
+    desk.reads(0, &data(1_100)[..1_050]);
+    desk.reads(1, &data(1_100));
+
+    let mut desk = Desk::open(engine, 3, 8, 4);
+    desk.put(1_100, 0);
+    desk.dup(0, 1);
+    desk.drop(0, 1_050);
+    desk.tables(
+        &[6, 5, 0, 0],
+        &[
+            Z,
+            [1, 1, 0, 512, 3],
+            [1, 2, 0, 76, 0],
+            [1, 0, 0, 512, 2],
+            [1, 2, 26, 50, 0],
+            Z,
+            Z,
+            Z,
+        ],
+        &[1, 1, 2],
+    );
+    desk.reads(0, &data(1_100)[1_050..]);
+    desk.reads(1, &data(1_100));
+}
+
+/// One chain with two pieces on one buffer counts twice there.
+pub fn error_counting_holders_by_slips(engine: Engine) {
+    let mut desk = Desk::open(engine, 2, 6, 4);
+    desk.put(10, 0);
+    desk.cut(0, 5, 5, 1);
+    desk.cut(0, 0, 5, 2);
+    desk.append(1, 2);
+    desk.tables(
+        &[2, 3, 0, 0],
+        &[[1, 0, 0, 10, 0], [1, 0, 5, 5, 3], [1, 0, 0, 5, 0], Z, Z, Z],
+        &[3, 0],
+    );
+    desk.cut(1, 2, 6, 2);
+    desk.tables(
+        &[2, 3, 5, 0],
+        &[
+            [1, 0, 0, 10, 0],
+            [1, 0, 5, 5, 3],
+            [1, 0, 0, 5, 0],
+            [1, 0, 7, 3, 5],
+            [1, 0, 0, 3, 0],
+            Z,
+        ],
+        &[5, 0],
+    );
+    desk.reads(2, &[7, 8, 9, 0, 1, 2]);
+    desk.free(0);
+    desk.free(2);
+    desk.drop(1, 5);
+    desk.tables(&[0, 4, 0, 0], &[Z, Z, [1, 0, 0, 5, 0], Z, Z, Z], &[1, 0]);
+}
+
+/// Offset and length are added as whole numbers.
+pub fn error_adding_in_32_bits(engine: Engine) {
+    let mut desk = Desk::open(engine, 4, 6, 4);
+    desk.put(600, 0);
+    for (offset, length) in [
+        (10, u32::MAX),
+        (10, u32::MAX - 9),
+        (u32::MAX, 1),
+        (u32::MAX, u32::MAX),
+        (600, u32::MAX - 599),
+        (1 << 31, 1 << 31),
+    ] {
+        desk.refused(cut(0, offset, length), RANGE);
+        desk.refused(read(0, offset, length, 40), RANGE);
+    }
+}
+
+/// A slip is not kept where no piece is found for the new chain.
+pub fn error_keeping_the_slip(engine: Engine) {
+    let mut desk = Desk::open(engine, 2, 1, 3);
+    desk.put(10, 0);
+    desk.refused(Call::Dup { slip: 0 }, PIECES);
+    desk.refused(cut(0, 0, 5), PIECES);
+    desk.refused(Call::Put { data: data(1) }, PIECES);
+    desk.tables(&[2, 0, 0], &[[1, 0, 0, 10, 0]], &[1, 0]);
+}
+
+/// Own is judged by the counts at entry; in append, b's reference counts.
+pub fn reading_01_own_at_entry(engine: Engine) {
+    let mut desk = Desk::open(engine, 3, 8, 4);
+    desk.put(1_100, 0);
+    desk.dup(0, 1);
+    desk.drop(1, 512);
+    // Slip 1 heads piece 1, inside the chain of slip 0.
+    desk.append(0, 1);
+    desk.tables(
+        &[2, 0, 0, 0],
+        &[
+            [1, 0, 0, 512, 4],
+            [1, 1, 0, 512, 3],
+            [1, 2, 0, 76, 0],
+            [1, 1, 0, 512, 5],
+            [1, 2, 0, 76, 2],
+            Z,
+            Z,
+            Z,
+        ],
+        &[1, 2, 2],
+    );
+    desk.reads(0, &[data(1_100), data(1_100)[512..].to_vec()].concat());
+}
+
+/// Replacing releases one old reference, and nothing is freed by it.
+pub fn reading_02_one_reference_released(engine: Engine) {
+    let mut desk = Desk::open(engine, 4, 10, 4);
+    desk.put(1_100, 0);
+    desk.put(7, 1);
+    desk.dup(0, 2);
+    // Three references to piece 1: from pieces 0 and 4, and from slip 3.
+    desk.dup(0, 3);
+    desk.drop(3, 512);
+    desk.append(0, 1);
+    desk.tables(
+        &[2, 0, 6, 3],
+        &[
+            [1, 0, 0, 512, 6],
+            [2, 1, 0, 512, 3],
+            [1, 2, 0, 76, 0],
+            [1, 3, 0, 7, 0],
+            [1, 0, 0, 512, 2],
+            [1, 1, 0, 512, 7],
+            [1, 2, 0, 76, 4],
+            Z,
+            Z,
+            Z,
+        ],
+        &[2, 2, 2, 1],
+    );
+    desk.reads(0, &[data(1_100), data(7)].concat());
+    desk.reads(2, &data(1_100));
+    desk.reads(3, &data(1_100)[512..]);
+}
+
+/// Drop releases the slip's old head, along next while counts reach 0, and stops where one doesn't.
+pub fn reading_03_chain_before_released(engine: Engine) {
+    let mut desk = Desk::open(engine, 4, 6, 4);
+    desk.put(2_000, 0);
+    desk.dup(0, 1);
+    desk.drop(1, 512);
+    // Pieces 0 → 1 → 2 → 3, and slip 1 heads piece 1.
+    desk.drop(0, 1_100);
+    desk.tables(
+        &[6, 3, 0, 0],
+        &[
+            Z,
+            [1, 1, 0, 512, 3],
+            [1, 2, 0, 512, 4],
+            [2, 3, 0, 464, 0],
+            [1, 2, 76, 436, 4],
+            Z,
+        ],
+        &[0, 1, 2, 1],
+    );
+    desk.reads(0, &data(2_000)[1_100..]);
+    desk.reads(1, &data(2_000)[512..]);
+
+    // A drop inside a shared head releases the slip's old reference too.
+    let mut desk = Desk::open(engine, 2, 4, 3);
+    desk.put(600, 0);
+    desk.dup(0, 1);
+    desk.drop(1, 512);
+    desk.drop(0, 512);
+    desk.tables(&[3, 3, 0], &[Z, [2, 1, 0, 88, 0], Z, Z], &[0, 1]);
+    desk.drop(0, 8);
+    desk.tables(
+        &[2, 3, 0],
+        &[[1, 1, 8, 80, 0], [1, 1, 0, 88, 0], Z, Z],
+        &[0, 2],
+    );
+
+    // All own: the piece with the cut stays where it is, those before it are free.
+    let mut desk = Desk::open(engine, 4, 4, 1);
+    desk.put(2_000, 0);
+    desk.drop(0, 1_025);
+    desk.tables(
+        &[4],
+        &[Z, Z, [1, 2, 1, 511, 4], [1, 3, 0, 464, 0]],
+        &[0, 0, 1, 1],
+    );
+}
+
+/// Drop at a border before a piece not own wants no piece; two slips may head one piece.
+pub fn reading_04_drop_at_border(engine: Engine) {
+    let mut desk = Desk::open(engine, 2, 3, 2);
+    desk.put(600, 0);
+    desk.dup(0, 1);
+    assert_eq!(desk.free_pieces(), []);
+    desk.refused(Call::Drop { slip: 1, n: 513 }, PIECES);
+    desk.drop(1, 512);
+    desk.tables(&[2, 3], &[[1, 0, 0, 512, 2], [2, 1, 0, 88, 0], Z], &[1, 1]);
+    desk.drop(0, 512);
+    desk.tables(&[3, 3], &[Z, [2, 1, 0, 88, 0], Z], &[0, 1]);
+    desk.free(0);
+    desk.reads(1, &data(600)[512..]);
+}
+
+/// Keep on a border replaces the last kept piece where it is not own; pieces beyond never count.
+pub fn reading_05_keep_at_border(engine: Engine) {
+    for (pieces, done) in [(4, false), (5, true)] {
+        let mut desk = Desk::open(engine, 3, pieces, 2);
+        desk.put(1_100, 0);
+        desk.dup(0, 1);
+        if !done {
+            desk.refused(Call::Keep { slip: 0, n: 1_024 }, PIECES);
+            continue;
+        }
+        desk.keep(0, 1_024);
+        desk.tables(
+            &[2, 5],
+            &[
+                [1, 0, 0, 512, 5],
+                [1, 1, 0, 512, 3],
+                [1, 2, 0, 76, 0],
+                [1, 0, 0, 512, 2],
+                [1, 1, 0, 512, 0],
+            ],
+            &[2, 2, 1],
+        );
+    }
+    // Kept within the own front: nothing is wanted, the rest is released.
+    let mut desk = Desk::open(engine, 3, 4, 2);
+    desk.put(1_100, 0);
+    desk.dup(0, 1);
+    desk.keep(0, 512);
+    desk.tables(
+        &[2, 5],
+        &[
+            [1, 0, 0, 512, 0],
+            [1, 1, 0, 512, 3],
+            [1, 2, 0, 76, 0],
+            [1, 0, 0, 512, 2],
+        ],
+        &[2, 1, 1],
+    );
+    // First not own to last kept: two pieces for two, where two are free.
+    let mut desk = Desk::open(engine, 3, 6, 2);
+    desk.put(1_100, 0);
+    desk.dup(0, 1);
+    desk.keep(1, 1_025);
+    desk.reads(1, &data(1_025));
+    desk.reads(0, &data(1_100));
+    assert_eq!(desk.free_pieces(), []);
+}
+
+/// Where nothing changes nothing is wanted, even in full tables; codes 2 to 6 are still judged.
+pub fn reading_06_nothing_wanted(engine: Engine) {
+    let mut desk = Desk::open(engine, 2, 3, 2);
+    desk.put(600, 0);
+    desk.dup(0, 1);
+    for slip in [0, 1] {
+        desk.done_unchanged(Call::Drop { slip, n: 0 }, 0);
+        desk.done_unchanged(Call::Keep { slip, n: 600 }, 0);
+        desk.done_unchanged(Call::Pullup { slip, n: 0 }, 0);
+        desk.done_unchanged(Call::Pullup { slip, n: 511 }, 0);
+        desk.done_unchanged(Call::Pullup { slip, n: 512 }, 0);
+    }
+    for slip in [2, 3, 65_535] {
+        desk.refused(Call::Drop { slip, n: 0 }, SLIP);
+        desk.refused(Call::Keep { slip, n: 0 }, SLIP);
+        desk.refused(Call::Pullup { slip, n: 0 }, SLIP);
+        desk.refused(Call::Pack { slip }, SLIP);
+    }
+    desk.refused(Call::Keep { slip: 0, n: 601 }, RANGE);
+    desk.refused(Call::Drop { slip: 0, n: 601 }, RANGE);
+    desk.refused(Call::Pullup { slip: 0, n: 513 }, LONG);
+
+    // A chain of one piece, shared and at an offset, or of none, stays in pack.
+    let mut desk = Desk::open(engine, 1, 2, 3);
+    desk.put(10, 0);
+    desk.drop(0, 4);
+    desk.put(0, 1);
+    desk.dup(0, 2);
+    assert_eq!(desk.free_pieces(), []);
+    desk.done_unchanged(Call::Pack { slip: 0 }, 0);
+    desk.done_unchanged(Call::Pack { slip: 1 }, 0);
+    desk.done_unchanged(Call::Pullup { slip: 0, n: 6 }, 0);
+    desk.done_unchanged(Call::Pullup { slip: 1, n: 0 }, 0);
+    desk.done_unchanged(Call::Keep { slip: 1, n: 0 }, 0);
+    desk.done_unchanged(Call::Drop { slip: 1, n: 0 }, 0);
+    desk.refused(Call::Pullup { slip: 0, n: 7 }, RANGE);
+    desk.refused(Call::Pullup { slip: 1, n: 1 }, RANGE);
+
+    // A torn pool is refused before all else.
+    desk.set(5, 2);
+    desk.refused(Call::Drop { slip: 0, n: 0 }, TORN);
+    desk.refused(Call::Pullup { slip: 9, n: 513 }, TORN);
+}
+
+/// Keep of 0 and drop of the whole length leave the slip empty, not vacant.
+pub fn reading_07_empty_not_vacant(engine: Engine) {
+    let mut desk = Desk::open(engine, 4, 6, 3);
+    desk.put(600, 0);
+    desk.put(600, 1);
+    desk.keep(0, 0);
+    desk.drop(1, 600);
+    desk.tables(&[1, 1, 0], &[Z; 6], &[0; 4]);
+    desk.length(0, 0);
+    desk.length(1, 0);
+    desk.put(5, 2);
+    desk.refused(Call::Put { data: Vec::new() }, SLIPS);
+    desk.free(0);
+    desk.refused(Call::Length { slip: 0 }, SLIP);
+}
+
+/// Append with an empty side wants no piece; a and b may share pieces or head the same one.
+pub fn reading_08_append_empty_side(engine: Engine) {
+    // No piece free, a shared, b empty: a stays.
+    let mut desk = Desk::open(engine, 2, 3, 4);
+    desk.put(600, 0);
+    desk.dup(0, 1);
+    desk.put(0, 2);
+    desk.put(0, 3);
+    desk.append(0, 2);
+    desk.tables(
+        &[2, 4, 0, 1],
+        &[[1, 0, 0, 512, 2], [2, 1, 0, 88, 0], [1, 0, 0, 512, 2]],
+        &[2, 1],
+    );
+    // a empty: it takes b's head.
+    desk.append(3, 0);
+    desk.tables(
+        &[0, 4, 0, 2],
+        &[[1, 0, 0, 512, 2], [2, 1, 0, 88, 0], [1, 0, 0, 512, 2]],
+        &[2, 1],
+    );
+    // Both empty: a stays empty, b is vacant.
+    desk.put(0, 0);
+    desk.put(0, 2);
+    desk.append(2, 0);
+    desk.tables(
+        &[0, 4, 1, 2],
+        &[[1, 0, 0, 512, 2], [2, 1, 0, 88, 0], [1, 0, 0, 512, 2]],
+        &[2, 1],
+    );
+
+    // Both head the same piece: it is replaced by an equal one that points at it.
+    let mut desk = Desk::open(engine, 2, 3, 2);
+    desk.put(600, 0);
+    desk.dup(0, 1);
+    desk.drop(0, 512);
+    desk.drop(1, 512);
+    desk.append(1, 0);
+    desk.tables(&[0, 2], &[[1, 1, 0, 88, 2], [1, 1, 0, 88, 0], Z], &[0, 2]);
+    // Both share their tail.
+    let mut desk = Desk::open(engine, 2, 4, 2);
+    desk.put(600, 0);
+    desk.dup(0, 1);
+    desk.append(0, 1);
+    desk.tables(
+        &[2, 0],
+        &[
+            [1, 0, 0, 512, 4],
+            [1, 1, 0, 88, 0],
+            [1, 0, 0, 512, 2],
+            [1, 1, 0, 88, 3],
+        ],
+        &[2, 2],
+    );
+    desk.reads(0, &[data(600), data(600)].concat());
+}
+
+/// A chain of two pieces of 10 bytes each, on buffers 0 and 1, headed by slip 0.
+fn two_tens(engine: Engine, buffers: u16, pieces: u16, slips: u16) -> Desk {
+    let mut desk = Desk::open(engine, buffers, pieces, slips);
+    desk.put(10, 0);
+    desk.put(10, 1);
+    desk.append(0, 1);
+    desk
+}
+
+/// Pullup of the whole chain leaves one piece; two are wanted only inside a piece not own.
+pub fn reading_09_pullup_wants(engine: Engine) {
+    let twice = [data(10), data(10)].concat();
+    let mut desk = two_tens(engine, 3, 3, 2);
+    desk.pullup(0, 20);
+    desk.tables(&[4, 0], &[Z, Z, [1, 2, 0, 20, 0]], &[0, 0, 1]);
+    desk.buffer_holds(2, &twice);
+
+    // Inside an own piece: one.
+    let mut desk = two_tens(engine, 3, 3, 2);
+    desk.pullup(0, 15);
+    desk.tables(&[4, 0], &[Z, [1, 1, 5, 5, 0], [1, 2, 0, 15, 2]], &[0, 1, 1]);
+
+    // Inside a piece not own: two, the front with the lower number.
+    let mut desk = two_tens(engine, 3, 4, 2);
+    desk.dup(0, 1);
+    desk.refused(Call::Pullup { slip: 0, n: 15 }, PIECES);
+    let mut desk = two_tens(engine, 3, 5, 2);
+    desk.dup(0, 1);
+    desk.pullup(0, 15);
+    desk.tables(
+        &[5, 4],
+        &[
+            Z,
+            [1, 1, 0, 10, 0],
+            [1, 0, 0, 10, 2],
+            [1, 2, 0, 15, 5],
+            [1, 1, 5, 5, 0],
+        ],
+        &[1, 2, 1],
+    );
+    desk.reads(0, &twice);
+    desk.reads(1, &twice);
+
+    // At a border before a piece not own: one, which points at the shared piece.
+    let mut desk = Desk::open(engine, 4, 5, 4);
+    desk.put(10, 0);
+    desk.put(10, 1);
+    desk.put(10, 2);
+    desk.append(1, 2);
+    desk.append(0, 1);
+    desk.dup(0, 1);
+    desk.drop(1, 20);
+    desk.tables(
+        &[2, 4, 0, 0],
+        &[[1, 0, 0, 10, 2], [1, 1, 0, 10, 3], [2, 2, 0, 10, 0], Z, Z],
+        &[1, 1, 1, 0],
+    );
+    desk.put(0, 2);
+    desk.dup(1, 3);
+    desk.pullup(0, 20);
+    desk.tables(
+        &[6, 4, 1, 5],
+        &[Z, Z, [2, 2, 0, 10, 0], [1, 2, 0, 10, 0], [1, 3, 0, 20, 3]],
+        &[0, 0, 2, 1],
+    );
+    desk.reads(0, &[twice, data(10)].concat());
+}
+
+/// Pack puts a packed chain afresh too, takes no room that it gives back, and never answers 8.
+pub fn reading_10_pack_afresh(engine: Engine) {
+    let mut desk = Desk::open(engine, 4, 4, 1);
+    desk.put(600, 0);
+    desk.pack(0);
+    desk.tables(
+        &[4],
+        &[Z, Z, [1, 2, 0, 512, 4], [1, 3, 0, 88, 0]],
+        &[0, 0, 1, 1],
+    );
+    desk.reads(0, &data(600));
+
+    let mut desk = Desk::open(engine, 3, 4, 1);
+    desk.put(600, 0);
+    desk.refused(Call::Pack { slip: 0 }, BUFFERS);
+    let mut desk = Desk::open(engine, 4, 3, 1);
+    desk.put(600, 0);
+    desk.refused(Call::Pack { slip: 0 }, PIECES);
+
+    // What another slip still reaches stays when the old chain is released.
+    let mut desk = Desk::open(engine, 4, 5, 2);
+    desk.put(600, 0);
+    desk.dup(0, 1);
+    desk.pack(1);
+    desk.tables(
+        &[2, 5],
+        &[
+            [1, 0, 0, 512, 2],
+            [1, 1, 0, 88, 0],
+            Z,
+            [1, 2, 0, 512, 5],
+            [1, 3, 0, 88, 0],
+        ],
+        &[1, 1, 1, 1],
+    );
+}
+
+/// Dup's new piece has count 1; cut takes one new piece for each overlapped one, to the end too.
+pub fn reading_11_dup_and_cut(engine: Engine) {
+    let mut desk = Desk::open(engine, 3, 8, 6);
+    desk.put(1_100, 0);
+    desk.dup(0, 1);
+    desk.drop(0, 512);
+    // Slip 0 heads piece 1 of count 2.
+    desk.dup(0, 2);
+    desk.tables(
+        &[3, 5, 2, 0, 0, 0],
+        &[
+            [1, 1, 0, 512, 3],
+            [2, 1, 0, 512, 3],
+            [2, 2, 0, 76, 0],
+            [1, 0, 0, 512, 2],
+            Z,
+            Z,
+            Z,
+            Z,
+        ],
+        &[1, 2, 1],
+    );
+    // Up to the chain's end: the tail is not shared. From 512: the first piece is only touched.
+    desk.cut(1, 512, 588, 3);
+    desk.tables(
+        &[3, 5, 2, 6, 0, 0],
+        &[
+            [1, 1, 0, 512, 3],
+            [2, 1, 0, 512, 3],
+            [2, 2, 0, 76, 0],
+            [1, 0, 0, 512, 2],
+            [1, 1, 0, 512, 6],
+            [1, 2, 0, 76, 0],
+            Z,
+            Z,
+        ],
+        &[1, 3, 2],
+    );
+    desk.cut(1, 0, 512, 4);
+    desk.cut(1, 511, 1, 5);
+    desk.reads(4, &data(512));
+    desk.reads(5, &data(512)[511..]);
+    assert_eq!(desk.free_pieces(), []);
+    // An empty chain needs no piece.
+    desk.keep(2, 0);
+    desk.free(5);
+    desk.dup(2, 5);
+    desk.length(5, 0);
+}
+
+/// Pieces and buffers are chosen each by itself, lowest first, in chain order.
+pub fn reading_12_numbers_taken(engine: Engine) {
+    let mut desk = Desk::open(engine, 4, 6, 4);
+    desk.put(10, 0);
+    desk.dup(0, 1);
+    desk.put(10, 2);
+    desk.put(10, 3);
+    // Piece 1 lies on buffer 0, piece 2 on 1, piece 3 on 2.
+    desk.free(1);
+    desk.free(2);
+    desk.put(600, 1);
+    desk.tables(
+        &[2, 3, 0, 5],
+        &[
+            [1, 0, 0, 10, 0],
+            [1, 1, 0, 512, 3],
+            [1, 3, 0, 88, 0],
+            [1, 2, 0, 10, 0],
+            Z,
+            Z,
+        ],
+        &[1, 1, 1, 1],
+    );
+    desk.buffer_holds(1, &data(512));
+    desk.buffer_holds(3, &data(600)[512..]);
+}
+
+/// Where several codes apply, the lowest is given.
+pub fn reading_13_order_of_codes(engine: Engine) {
+    // Slips, pieces and buffers all full: 8; with a slip vacant: 9.
+    let mut desk = Desk::open(engine, 2, 2, 1);
+    desk.put(600, 0);
+    desk.refused(Call::Put { data: data(1) }, SLIPS);
+    desk.refused(Call::Put { data: data(0) }, SLIPS);
+    desk.refused(Call::Dup { slip: 0 }, SLIPS);
+    desk.refused(Call::Dup { slip: 1 }, SLIP);
+    desk.refused(cut(0, 0, 1), SLIPS);
+    desk.refused(cut(0, 0, 0), SLIPS);
+    desk.refused(cut(0, 0, 601), RANGE);
+    desk.refused(cut(1, 0, 601), SLIP);
+    desk.refused(Call::Pack { slip: 0 }, PIECES);
+    desk.refused(Call::Pullup { slip: 0, n: 513 }, LONG);
+
+    let mut desk = Desk::open(engine, 2, 2, 2);
+    desk.put(600, 0);
+    desk.refused(Call::Put { data: data(1) }, PIECES);
+    desk.refused(Call::Dup { slip: 0 }, PIECES);
+    desk.refused(cut(0, 0, 1), PIECES);
+    // Put of no data wants a slip only, cut of length 0 too, at any offset up to the length.
+    for offset in [0, 1, 512, 599, 600] {
+        desk.cut(0, offset, 0, 1);
+        desk.length(1, 0);
+        desk.free(1);
+    }
+    desk.put(0, 1);
+
+    // Pullup: 5 before 6, 6 before 9, 9 before 10.
+    let mut desk = two_tens(engine, 2, 2, 2);
+    desk.refused(Call::Pullup { slip: 1, n: 513 }, SLIP);
+    desk.refused(Call::Pullup { slip: 0, n: 513 }, LONG);
+    desk.refused(Call::Pullup { slip: 0, n: 21 }, RANGE);
+    desk.refused(Call::Pullup { slip: 0, n: 20 }, PIECES);
+    let mut desk = two_tens(engine, 2, 3, 2);
+    desk.refused(Call::Pullup { slip: 0, n: 20 }, BUFFERS);
+    desk.refused(Call::Pack { slip: 0 }, BUFFERS);
+
+    // Append, drop, keep: 3, 4 and 6 before 9.
+    let mut desk = Desk::open(engine, 3, 4, 3);
+    desk.put(600, 0);
+    desk.dup(0, 1);
+    desk.put(1, 2);
+    desk.refused(Call::Append { a: 0, b: 3 }, SLIP);
+    desk.refused(Call::Append { a: 3, b: 0 }, SLIP);
+    desk.refused(Call::Append { a: 0, b: 0 }, SAME);
+    desk.refused(Call::Append { a: 0, b: 2 }, PIECES);
+    desk.refused(Call::Drop { slip: 0, n: 601 }, RANGE);
+    desk.refused(Call::Drop { slip: 0, n: 599 }, PIECES);
+    desk.refused(Call::Keep { slip: 0, n: 601 }, RANGE);
+    desk.refused(Call::Keep { slip: 0, n: 599 }, PIECES);
+
+    // A torn pool comes first, for every call but open.
+    desk.pool[0] = 0;
+    for call in [
+        Call::Audit,
+        Call::Put { data: data(9_999) },
+        Call::Free { slip: 9 },
+        Call::Dup { slip: 9 },
+        cut(9, 1_000, 1_000),
+        Call::Append { a: 9, b: 9 },
+        Call::Drop { slip: 9, n: 9_999 },
+        Call::Keep { slip: 9, n: 9_999 },
+        Call::Pullup { slip: 9, n: 9_999 },
+        Call::Pack { slip: 9 },
+        Call::Length { slip: 9 },
+        read(9, 9_999, 9_999, 4),
+        show(9, 9_999, 4),
+    ] {
+        desk.refused(call, TORN);
+    }
+}
+
+/// Append of one number twice: 3 if S or more or vacant, 4 if held, also where empty.
+pub fn reading_14_append_twice(engine: Engine) {
+    let mut desk = Desk::open(engine, 1, 1, 3);
+    desk.put(1, 0);
+    desk.put(0, 1);
+    for (slip, code) in [(0, SAME), (1, SAME), (2, SLIP), (3, SLIP), (65_535, SLIP)] {
+        desk.refused(Call::Append { a: slip, b: slip }, code);
+    }
+    desk.refused(Call::Append { a: 0, b: 2 }, SLIP);
+    desk.refused(Call::Append { a: 2, b: 0 }, SLIP);
+}
+
+/// Read judges 6 before 7; show copies, and judges the scratch, only where it must.
+pub fn reading_15_read_and_show(engine: Engine) {
+    let mut desk = Desk::open(engine, 3, 4, 3);
+    desk.put(600, 0);
+    desk.put(0, 1);
+    let d = data(600);
+    desk.refused(read(2, 0, 0, 0), SLIP);
+    desk.refused(read(0, 600, 1, 0), RANGE);
+    desk.refused(read(0, 601, 0, 0), RANGE);
+    desk.refused(read(0, 599, 1, 0), NARROW);
+    desk.refused(read(0, 0, 600, 599), NARROW);
+    desk.done_unchanged(read(0, 0, 0, 0), 0);
+    desk.done_unchanged(read(0, 600, 0, 0), 0);
+    desk.done_unchanged(read(1, 0, 0, 0), 0);
+    desk.refused(read(1, 1, 0, 0), RANGE);
+    let outcome = desk.done_unchanged(read(0, 505, 20, 22), 20);
+    assert_eq!(outcome.lent[..20], d[505..525]);
+    assert_eq!(outcome.lent[20..], [0x99; 2]);
+    let outcome = desk.done_unchanged(read(0, 0, 600, 600), 600);
+    assert_eq!(outcome.lent, d);
+
+    // Nothing to show: the empty start of storage, for any held slip.
+    for (slip, scratch) in [(0, 0), (0, 9), (1, 0), (1, 9)] {
+        let outcome = desk.done_unchanged(show(slip, 0, scratch), 0);
+        assert_eq!(outcome.view, NO_VIEW);
+        assert_eq!(outcome.lent, vec![0x99; scratch]);
+    }
+    desk.refused(show(2, 0, 0), SLIP);
+    desk.refused(show(1, 1, 9), RANGE);
+    desk.refused(show(0, 513, 600), LONG);
+
+    // The first piece has the bytes: a part of storage, the scratch not judged nor changed.
+    for scratch in [0, 511, 600] {
+        let outcome = desk.done_unchanged(show(0, 512, scratch), 512);
+        assert_eq!(outcome.view, NO_VIEW);
+        assert_eq!(outcome.lent, vec![0x99; scratch]);
+    }
+    desk.drop(0, 500);
+    let outcome = desk.done_unchanged(show(0, 12, 0), 12);
+    let in_storage = View {
+        in_scratch: false,
+        start: 500,
+    };
+    assert_eq!(outcome.view, in_storage);
+
+    // Otherwise they are copied to the front of the scratch, if it takes them.
+    desk.refused(show(0, 13, 12), NARROW);
+    desk.refused(show(0, 101, 12), RANGE);
+    let outcome = desk.done_unchanged(show(0, 13, 15), 13);
+    let in_scratch = View {
+        in_scratch: true,
+        start: 0,
+    };
+    assert_eq!(outcome.view, in_scratch);
+    assert_eq!(outcome.lent[..13], d[500..513]);
+    assert_eq!(outcome.lent[13..], [0x99; 2]);
+
+    // In another buffer the view starts at 512 times its number and the offset.
+    desk.drop(0, 20);
+    let outcome = desk.done_unchanged(show(0, 80, 0), 80);
+    let in_storage = View {
+        in_scratch: false,
+        start: 520,
+    };
+    assert_eq!(outcome.view, in_storage);
+}
+
+/// All sums are whole numbers, a piece's offset + length in soundness too.
+pub fn reading_16_whole_numbers(engine: Engine) {
+    let mut desk = Desk::open(engine, 1, 1, 1);
+    desk.put(12, 0);
+    // The piece is at 13: count, buffer, offset at 17, length at 19, next.
+    for (offset, length, code) in [
+        (500, 12, 0),
+        (501, 12, TORN),
+        (0, 512, 0),
+        (0, 513, TORN),
+        (511, 1, 0),
+        (512, 1, TORN),
+        (512, 0, TORN),
+        (65_535, 1, TORN),
+        (65_535, 2, TORN),
+        (65_524, 12, TORN),
+        (1, 65_535, TORN),
+        (65_535, 65_535, TORN),
+    ] {
+        desk.set(17, offset);
+        desk.set(19, length);
+        if code == 0 {
+            desk.done_unchanged(Call::Audit, 0);
+            desk.length(0, length as u64);
+        } else {
+            desk.refused(Call::Audit, code);
+            desk.refused(Call::Length { slip: 0 }, code);
+        }
+    }
+}
+
+/// Lengths are exact; counts out of range are torn; open never looks at old bytes.
+pub fn reading_17_exact_lengths(engine: Engine) {
+    let opening = |buffers, pieces, slips| Call::Open {
+        buffers,
+        pieces,
+        slips,
+    };
+    for (more_pool, more_storage) in [(1, 0), (-1, 0), (0, 1), (0, -1), (1, 1), (0, 512)] {
+        let mut desk = Desk::open(engine, 4, 6, 4);
+        desk.pool.resize((87 + more_pool) as usize, 0);
+        desk.storage.resize((2_048 + more_storage) as usize, 0);
+        desk.refused(Call::Audit, TORN);
+        desk.refused(Call::Put { data: data(1) }, TORN);
+        desk.refused(Call::Length { slip: 0 }, TORN);
+        desk.refused(opening(4, 6, 4), COUNTS);
+    }
+    for (buffers, pieces, slips) in [
+        (0, 6, 4),
+        (4, 0, 4),
+        (4, 6, 0),
+        (129, 6, 4),
+        (4, 257, 4),
+        (4, 6, 65),
+        (0, 0, 0),
+        (65_535, 1, 1),
+    ] {
+        let mut pool = b"SLP".to_vec();
+        for word in [1, buffers, pieces, slips] {
+            pool.extend((word as u16).to_le_bytes());
+        }
+        pool.resize(11 + 2 * slips + 10 * pieces + 2 * buffers, 0);
+        let mut desk = Desk {
+            engine,
+            pool,
+            storage: vec![0xEE; 512 * buffers],
+        };
+        desk.refused(Call::Audit, TORN);
+        desk.refused(opening(buffers as u16, pieces as u16, slips as u16), COUNTS);
+    }
+    // Opened over another pool, over noise, and with other counts of the same length.
+    let mut desk = Desk::open(engine, 4, 6, 4);
+    desk.put(600, 0);
+    let storage = desk.storage.clone();
+    desk.done(opening(4, 6, 4), 0);
+    desk.tables(&[0; 4], &[Z; 6], &[0; 4]);
+    desk.pool.fill(0xFF);
+    desk.done(opening(4, 5, 9), 0);
+    desk.tables(&[0; 9], &[Z; 5], &[0; 4]);
+    assert_eq!(desk.storage, storage);
+    desk.refused(opening(4, 6, 5), COUNTS);
+    desk.refused(opening(3, 6, 5), COUNTS);
+}
+
+/// A ring that no slip heads satisfies every count and is refused; two chains that meet are sound.
+pub fn reading_18_rings(engine: Engine) {
+    // Pieces at 13 + 10 d, buffer counts at 63.
+    let piece = |desk: &mut Desk, d: usize, fields: [u16; 5]| {
+        for (i, field) in fields.iter().enumerate() {
+            desk.set(13 + 10 * d + 2 * i, *field);
+        }
+    };
+    for ring in [vec![1], vec![1, 2], vec![4, 2, 3], vec![1, 4, 3, 2]] {
+        let mut desk = Desk::open(engine, 2, 5, 1);
+        desk.put(10, 0);
+        for (i, d) in ring.iter().enumerate() {
+            let next = ring[(i + 1) % ring.len()] as u16;
+            piece(&mut desk, *d, [1, 1, 0, 5, 1 + next]);
+        }
+        desk.set(65, ring.len() as u16);
+        desk.refused(Call::Audit, TORN);
+        desk.refused(Call::Length { slip: 0 }, TORN);
+        desk.refused(Call::Free { slip: 0 }, TORN);
+    }
+    // A chain that leads back into itself, every count agreeing.
+    let mut desk = Desk::open(engine, 2, 5, 1);
+    desk.put(600, 0);
+    piece(&mut desk, 1, [2, 1, 0, 88, 2]);
+    desk.refused(Call::Audit, TORN);
+    desk.refused(Call::Length { slip: 0 }, TORN);
+    // Two chains that meet in one piece.
+    let mut desk = Desk::open(engine, 2, 5, 2);
+    desk.put(600, 0);
+    desk.dup(0, 1);
+    desk.done_unchanged(Call::Audit, 0);
+    desk.reads(0, &data(600));
+    desk.reads(1, &data(600));
+}
+
+/// A released buffer keeps its bytes; put, pullup and pack write free buffers only, and whole.
+pub fn reading_19_released_bytes_stay(engine: Engine) {
+    let mut desk = Desk::open(engine, 4, 8, 4);
+    desk.put(1_024, 0);
+    desk.free(0);
+    desk.buffer_holds(0, &data(512));
+    desk.buffer_holds(1, &data(1_024)[512..]);
+    assert_eq!(desk.storage[1_024..], [0xEE; 1_024]);
+    // Old bytes past the new data are zeroed, in that buffer only.
+    desk.put(3, 0);
+    desk.buffer_holds(0, &data(3));
+    desk.buffer_holds(1, &data(1_024)[512..]);
+    // Pullup sets the lowest free buffer, pack the lowest two, and both leave what they release.
+    desk.put(3, 1);
+    desk.append(0, 1);
+    desk.pullup(0, 4);
+    desk.buffer_holds(2, &[0, 1, 2, 0]);
+    desk.buffer_holds(0, &data(3));
+    desk.buffer_holds(1, &data(3));
+    assert_eq!(desk.storage[1_536..], [0xEE; 512]);
+    desk.pack(0);
+    desk.buffer_holds(0, &[0, 1, 2, 0, 1, 2]);
+    desk.buffer_holds(1, &data(3));
+    desk.buffer_holds(2, &[0, 1, 2, 0]);
+    assert_eq!(desk.storage[1_536..], [0xEE; 512]);
+    // The others write no storage.
+    let storage = desk.storage.clone();
+    desk.dup(0, 1);
+    desk.cut(0, 1, 4, 2);
+    desk.append(0, 2);
+    desk.keep(0, 7);
+    desk.drop(0, 2);
+    desk.free(1);
+    desk.free(0);
+    assert_eq!(desk.storage, storage);
+}
+
+/// Empty slices are lent like any others.
+pub fn reading_20_empty_slices(engine: Engine) {
+    let mut nothing = Desk {
+        engine,
+        pool: Vec::new(),
+        storage: Vec::new(),
+    };
+    nothing.refused(Call::Audit, TORN);
+    nothing.refused(Call::Put { data: Vec::new() }, TORN);
+    nothing.refused(read(0, 0, 0, 0), TORN);
+    nothing.refused(show(0, 0, 0), TORN);
+    nothing.refused(
+        Call::Open {
+            buffers: 0,
+            pieces: 0,
+            slips: 0,
+        },
+        COUNTS,
+    );
+    let mut desk = Desk::open(engine, 1, 1, 1);
+    desk.put(0, 0);
+    desk.tables(&[1], &[Z], &[0]);
+    desk.done_unchanged(read(0, 0, 0, 0), 0);
+    desk.done_unchanged(show(0, 0, 0), 0);
+}

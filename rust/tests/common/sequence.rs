@@ -1,0 +1,133 @@
+//! Long random lists of calls on the model, and on another engine beside it.
+
+use super::compare;
+use super::desk::Engine;
+use super::model::{Call, Outcome, TORN, TRUE};
+use super::random::{self, Mood, Random, Shape};
+use super::recount::{recount, Recount};
+
+/// A list under way: the pool that a done open has written, and what came after.
+pub struct List {
+    pub random: Random,
+    pub shape: Shape,
+    pub mood: Mood,
+    pub pool: Vec<u8>,
+    pub storage: Vec<u8>,
+}
+
+impl List {
+    /// Starts a list in a pool of this shape, opened by the model over random bytes.
+    pub fn start(seed: u64, shape: Option<Shape>) -> List {
+        let mut random = Random::new(seed);
+        let shape = shape.unwrap_or_else(|| random::shape(&mut random));
+        let (pool, storage) = random::unopened(&mut random, shape);
+        let opening = Call::Open {
+            buffers: shape.0,
+            pieces: shape.1,
+            slips: shape.2,
+        };
+        let opened = TRUE.step(&pool, &storage, &opening);
+        assert_eq!(opened.code, 0, "open of {shape:?}");
+        let mood = Mood::new(&mut random, shape);
+        List {
+            random,
+            shape,
+            mood,
+            pool: opened.pool,
+            storage: opened.storage,
+        }
+    }
+
+    /// The next random call.
+    pub fn call(&mut self) -> Call {
+        random::call(&mut self.random, &self.pool, &self.storage, &self.mood)
+    }
+
+    /// Goes on from an outcome.
+    pub fn take(&mut self, outcome: Outcome) {
+        self.pool = outcome.pool;
+        self.storage = outcome.storage;
+    }
+
+    /// Makes random calls on the model.
+    pub fn run(&mut self, calls: u64) {
+        for _ in 0..calls {
+            let call = self.call();
+            let outcome = TRUE.step(&self.pool, &self.storage, &call);
+            self.take(outcome);
+        }
+    }
+}
+
+/// How many calls and lists were made, and how often each code came.
+#[derive(Default)]
+pub struct Tally {
+    pub calls: u64,
+    pub lists: u64,
+    pub codes: [u64; 11],
+}
+
+/// What demand 3 says of one call, from the recount before it; answers the recount after it.
+pub fn demand_three(before: &Recount, call: &Call, after: &Outcome) -> Result<Recount, String> {
+    if after.code == TORN {
+        return Err("code 2 in a list that starts from a done open".to_string());
+    }
+    let full = before.full(call);
+    let said = (8..=10).contains(&after.code).then_some(after.code);
+    if full != said {
+        return Err(format!("full by the recount: {full:?}, answered: {said:?}"));
+    }
+    recount(&after.pool)
+}
+
+/// Makes calls on the model, and on an engine beside it, with comparison and recount after each.
+pub fn run_lists(beside: Option<Engine>, first_seed: u64, calls: u64, shapes: &[Shape]) -> Tally {
+    let mut tally = Tally::default();
+    let mut seed = first_seed;
+    while tally.calls < calls {
+        let shape = shapes.get(tally.lists as usize).copied();
+        let mut list = List::start(seed, shape);
+        let mut found = recount(&list.pool).expect("a pool just opened");
+        // Large pools need long lists to fill.
+        let pieces = list.shape.1 as u64;
+        let length = (40 + 4 * pieces).min(calls - tally.calls);
+        for position in 0..length {
+            let call = list.call();
+            let wanted = TRUE.step(&list.pool, &list.storage, &call);
+            let differs = beside.and_then(|engine| {
+                let got = engine(&list.pool, &list.storage, &call);
+                compare::outcomes(&wanted, &got)
+            });
+            let failed = match (differs, demand_three(&found, &call, &wanted)) {
+                (Some(text), _) | (None, Err(text)) => text,
+                (None, Ok(after)) => {
+                    found = after;
+                    tally.codes[wanted.code as usize] += 1;
+                    list.take(wanted);
+                    continue;
+                }
+            };
+            panic!(
+                "seed {seed}, shape {:?}, call {position}: {}\n{failed}\n{}",
+                list.shape,
+                call.brief(),
+                compare::dump("pool before", &list.pool)
+            );
+        }
+        tally.calls += length;
+        tally.lists += 1;
+        seed += 1;
+    }
+    tally
+}
+
+/// A number from the environment, or the usual one.
+pub fn setting(name: &str, usual: u64) -> u64 {
+    match std::env::var(name) {
+        Ok(text) => text
+            .replace('_', "")
+            .parse()
+            .unwrap_or_else(|_| panic!("{name} is no number: {text}")),
+        Err(_) => usual,
+    }
+}

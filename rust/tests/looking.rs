@@ -1,0 +1,499 @@
+//! The library's five looking calls (open, audit, length, read, show) against the model, on sound
+//! pools with all kinds of shared chains and on pools damaged in every way.
+#![cfg(fulcrumnest_lib)]
+
+mod common;
+
+use std::ptr::{null, null_mut};
+use std::time::Instant;
+
+use common::compare;
+use common::damage;
+use common::library;
+use common::model::{Call, Slip, Tables, TRUE};
+use common::random::{self, Random, Shape, SHAPES};
+use common::sequence::{setting, List};
+use fulcrumnest::ffi;
+
+/// Makes calls of library and model on the same bytes and counts them.
+struct Pair {
+    calls: u64,
+    /// How often the audit said yes and no, so that neither is left untried.
+    sound: u64,
+    torn: u64,
+    begun: Instant,
+}
+
+impl Pair {
+    fn new() -> Pair {
+        Pair {
+            calls: 0,
+            sound: 0,
+            torn: 0,
+            begun: Instant::now(),
+        }
+    }
+
+    /// Answers the code, once library and model agree on all.
+    fn compare(&mut self, from: &str, pool: &[u8], storage: &[u8], call: &Call) -> u16 {
+        let wanted = TRUE.step(pool, storage, call);
+        let got = library::step(pool, storage, call);
+        if let Some(text) = compare::outcomes(&wanted, &got) {
+            panic!(
+                "{from}: {}\n{text}\n{}",
+                call.brief(),
+                compare::dump("pool", pool)
+            );
+        }
+        self.calls += 1;
+        if *call == Call::Audit {
+            match wanted.code {
+                0 => self.sound += 1,
+                _ => self.torn += 1,
+            }
+        }
+        wanted.code
+    }
+
+    /// Audit, length, read and show, each once.
+    fn compare_all(&mut self, from: &str, random: &mut Random, pool: &[u8], storage: &[u8]) {
+        let code = self.compare(from, pool, storage, &Call::Audit);
+        // Where the pool is torn the arguments don't matter.
+        let tables = Tables::parse(pool, storage).filter(|_| code == 0);
+        let (slip, reading, showing) = match &tables {
+            Some(tables) => {
+                let slip = held_slip(random, tables);
+                (
+                    slip,
+                    random::read(random, tables, slip, 20),
+                    random::show(random, tables, slip, 20),
+                )
+            }
+            None => {
+                let slip = random.below(3) as u16;
+                let reading = Call::Read {
+                    slip,
+                    offset: random.below(3) as u32,
+                    length: random.below(9) as u32,
+                    output: random.bytes(8),
+                };
+                let n = random.below(9) as u32;
+                let scratch = random.bytes(8);
+                (slip, reading, Call::Show { slip, n, scratch })
+            }
+        };
+        self.compare(from, pool, storage, &Call::Length { slip });
+        self.compare(from, pool, storage, &reading);
+        self.compare(from, pool, storage, &showing);
+    }
+
+    fn print(&self, what: &str) {
+        println!(
+            "{what}: {} calls, audits {} yes and {} no, {:.1} s",
+            self.calls,
+            self.sound,
+            self.torn,
+            self.begun.elapsed().as_secs_f64()
+        );
+    }
+}
+
+fn held_slip(random: &mut Random, tables: &Tables) -> u16 {
+    let held: Vec<u16> = (0..tables.slips.len())
+        .filter(|i| tables.slips[*i] != Slip::Vacant)
+        .map(|i| i as u16)
+        .collect();
+    if held.is_empty() || random.once_in(12) {
+        return random.below(tables.slips.len() as u64 + 2) as u16;
+    }
+    random.pick(&held)
+}
+
+/// Pools that the model's random lists leave: shapes, seeds and lengths of list.
+fn pools(count: u64, calls: u64) -> impl Iterator<Item = (u64, List)> {
+    let first = setting("FULCRUMNEST_SEED", 10_000);
+    let times = setting("FULCRUMNEST_TIMES", 1).max(1);
+    (0..count * times).map(move |i| {
+        let shape = SHAPES.get(i as usize).copied();
+        let mut list = List::start(first + i, shape);
+        list.run(calls + 3 * list.shape.1 as u64);
+        (first + i, list)
+    })
+}
+
+/// Every slip, every border and every kind of output and scratch, on sound pools.
+#[test]
+fn sound_pools() {
+    let mut pair = Pair::new();
+    for (seed, mut list) in pools(300, 60) {
+        let from = format!("seed {seed}, shape {:?}", list.shape);
+        let tables = Tables::parse(&list.pool, &list.storage).expect("sound");
+        let random = &mut list.random;
+        pair.compare(&from, &list.pool, &list.storage, &Call::Audit);
+        let s = tables.slips.len() as u16;
+        for slip in (0..s).chain([s, s + 1, 255, 256, u16::MAX]) {
+            pair.compare(&from, &list.pool, &list.storage, &Call::Length { slip });
+            let chain = tables.held(slip).map(|state| tables.chain(state));
+            let spans = tables.spans(&chain.unwrap_or_default());
+            let whole = spans.last().map_or(0, |(_, end)| *end);
+            // Show around the first piece's end, the chain's end and the most of 512.
+            let first = spans.first().map_or(0, |(_, end)| *end);
+            for n in [
+                0,
+                1,
+                first,
+                first + 1,
+                whole,
+                whole + 1,
+                512,
+                513,
+                u32::MAX as u64,
+            ] {
+                for scratch in [0, n.min(514).saturating_sub(1), n.min(514), 520] {
+                    let scratch = random.bytes(scratch as usize);
+                    let n = n as u32;
+                    let call = Call::Show { slip, n, scratch };
+                    pair.compare(&from, &list.pool, &list.storage, &call);
+                }
+            }
+            // Reads around a border, to the end, past it, and round in 32 bits.
+            let border = match spans.is_empty() {
+                true => 0,
+                false => random.pick(&spans).1,
+            };
+            let most = u32::MAX as u64;
+            for (offset, length) in [
+                (0, whole),
+                (0, whole + 1),
+                (whole, 0),
+                (whole, 1),
+                (whole + 1, 0),
+                (border, whole - border),
+                (border.saturating_sub(1), 1),
+                (border.saturating_sub(1), 2),
+                (1, most),
+                (most, 1),
+                (most, most),
+                (border.max(1), most - border.max(1) + 1),
+            ] {
+                for output in [0, length.min(9_999).saturating_sub(1), length.min(9_999), 9] {
+                    let call = Call::Read {
+                        slip,
+                        offset: offset as u32,
+                        length: length as u32,
+                        output: random.bytes(output as usize),
+                    };
+                    pair.compare(&from, &list.pool, &list.storage, &call);
+                }
+            }
+            for _ in 0..4 {
+                let call = random::read(random, &tables, slip, 8);
+                pair.compare(&from, &list.pool, &list.storage, &call);
+                let call = random::show(random, &tables, slip, 8);
+                pair.compare(&from, &list.pool, &list.storage, &call);
+            }
+        }
+    }
+    pair.print("sound pools");
+    assert!(pair.sound > 0 && pair.torn == 0);
+    assert!(pair.calls > 100_000);
+}
+
+/// Each field of each entry off by one, up and down.
+#[test]
+fn fields_off_by_one() {
+    let mut pair = Pair::new();
+    for (seed, mut list) in pools(80, 40) {
+        let shape = list.shape;
+        let random = &mut list.random;
+        let mut visit = |what: &str, pool: &[u8], storage: &[u8]| {
+            let from = format!("seed {seed}, shape {shape:?}, {what}");
+            pair.compare_all(&from, random, pool, storage);
+        };
+        damage::fields_off_by_one(&list.pool, &list.storage, &mut visit);
+    }
+    pair.print("fields off by one");
+    assert!(pair.sound > 1_000 && pair.torn > 10_000);
+}
+
+/// Rings, nexts and slips to the wrong piece, places past the buffer, dirty free pieces.
+#[test]
+fn tables_damaged() {
+    let mut pair = Pair::new();
+    for (seed, mut list) in pools(80, 40) {
+        let shape = list.shape;
+        let mut arguments = Random::new(seed);
+        let mut visit = |what: &str, pool: &[u8], storage: &[u8]| {
+            let from = format!("seed {seed}, shape {shape:?}, {what}");
+            pair.compare_all(&from, &mut arguments, pool, storage);
+        };
+        damage::tables_damaged(&mut list.random, &list.pool, &list.storage, &mut visit);
+    }
+    pair.print("tables damaged");
+    assert!(pair.sound > 1_000 && pair.torn > 10_000);
+}
+
+/// Lengths one more, one less, cut anywhere, none; and open over each of these.
+#[test]
+fn lengths_and_counts() {
+    let mut pair = Pair::new();
+    for (seed, mut list) in pools(120, 20) {
+        let (buffers, pieces, slips) = list.shape;
+        let mut arguments = Random::new(seed);
+        let mut visit = |what: &str, pool: &[u8], storage: &[u8]| {
+            let from = format!("seed {seed}, shape {:?}, {what}", list.shape);
+            pair.compare_all(&from, &mut arguments, pool, storage);
+            let opening = Call::Open {
+                buffers,
+                pieces,
+                slips,
+            };
+            pair.compare(&from, pool, storage, &opening);
+        };
+        damage::lengths_wrong(&mut list.random, &list.pool, &list.storage, &mut visit);
+        damage::counts_shifted(&list.pool, &list.storage, &mut visit);
+        visit("whole", &list.pool, &list.storage);
+    }
+    let mut arguments = Random::new(5);
+    let mut visit = |what: &str, pool: &[u8], storage: &[u8]| {
+        pair.compare_all(what, &mut arguments, pool, storage);
+        let word = |at: usize| u16::from_le_bytes([pool[at], pool[at + 1]]);
+        let opening = Call::Open {
+            buffers: word(5),
+            pieces: word(7),
+            slips: word(9),
+        };
+        pair.compare(what, pool, storage, &opening);
+    };
+    damage::counts_out_of_range(&mut visit);
+    pair.print("lengths and counts");
+    assert!(pair.sound > 100 && pair.torn > 1_000);
+}
+
+/// Random bits, words and bytes.
+#[test]
+fn random_bytes() {
+    let mut pair = Pair::new();
+    for (seed, mut list) in pools(400, 40) {
+        let shape = list.shape;
+        let mut arguments = Random::new(seed);
+        let mut visit = |what: &str, pool: &[u8], storage: &[u8]| {
+            let from = format!("seed {seed}, shape {shape:?}, {what}");
+            pair.compare_all(&from, &mut arguments, pool, storage);
+        };
+        damage::random_bytes(&mut list.random, &list.pool, &list.storage, &mut visit);
+    }
+    pair.print("random bytes");
+    assert!(pair.sound > 300 && pair.torn > 5_000);
+}
+
+/// Every table of a few words each, for the smallest shapes: the audit is right on both sides.
+#[test]
+fn every_small_pool() {
+    let mut pair = Pair::new();
+    let mut visit = |pool: &[u8], storage: &[u8]| {
+        pair.compare("small pool", pool, storage, &Call::Audit);
+        pair.compare("small pool", pool, storage, &Call::Length { slip: 0 });
+    };
+    // Words of one slip, then of count, buffer, offset, length and next, then of a buffer count.
+    let far = 65_535;
+    let one = [
+        &[0, 1, 2, 3, far][..],
+        &[0, 1, 2][..],
+        &[0, 1][..],
+        &[0, 1, 511, 512, far][..],
+        &[0, 1, 2, 511, 512, 513, far][..],
+        &[0, 1, 2, far][..],
+        &[0, 1, 2, far][..],
+    ];
+    every_pool((1, 1, 1), &one, &mut visit);
+    let piece = [
+        &[0, 1, 2, 3][..],
+        &[0, 1][..],
+        &[0][..],
+        &[0, 1][..],
+        &[0, 1, 2, 3][..],
+    ];
+    let slip = &[0, 1, 2, 3, 4][..];
+    let count = &[0, 1, 2, 3][..];
+    let two = [&[slip, slip][..], &piece, &piece, &[count]].concat();
+    every_pool((1, 2, 2), &two, &mut visit);
+    // Three pieces on one buffer: every way in which they may point at each other.
+    let free_or_used = [count, &[0], &[0], &[1], &[0, 1, 2, 3]];
+    let three = [
+        &[&[0, 2, 3, 4][..], &[0, 4][..]][..],
+        &free_or_used,
+        &free_or_used,
+        &free_or_used,
+        &[&[0, 1, 2, 3][..]],
+    ]
+    .concat();
+    every_pool((1, 3, 2), &three, &mut visit);
+    pair.print("small pools");
+    assert!(pair.sound > 50 && pair.torn > 100_000);
+}
+
+/// All pools of the shape whose words are drawn from these lists, each with its storage.
+fn every_pool(shape: Shape, lists: &[&[u16]], visit: &mut dyn FnMut(&[u8], &[u8])) {
+    let (b, p, s) = shape;
+    assert_eq!(lists.len(), (s + 5 * p + b) as usize);
+    let storage = vec![3; 512 * b as usize];
+    let mut turn = vec![0; lists.len()];
+    loop {
+        let words: Vec<u16> = lists.iter().zip(&turn).map(|(l, i)| l[*i]).collect();
+        let mut pool = b"SLP".to_vec();
+        for word in [1, b, p, s].iter().chain(&words) {
+            pool.extend(word.to_le_bytes());
+        }
+        // Where the list fixes the length, a piece with count 0 gets none, so that it can be free.
+        for d in 0..p as usize {
+            let at = 11 + 2 * s as usize + 10 * d;
+            if pool[at] == 0 && lists[s as usize + 5 * d + 3].len() == 1 {
+                pool[at + 6] = 0;
+            }
+        }
+        visit(&pool, &storage);
+        // The next choice of words, the last place turning fastest.
+        let Some(place) = (0..lists.len())
+            .rev()
+            .find(|i| turn[*i] + 1 < lists[*i].len())
+        else {
+            return;
+        };
+        turn[place] += 1;
+        turn[place + 1..].fill(0);
+    }
+}
+
+/// Open writes the fresh pool over any bytes, with every count in and out of its range.
+#[test]
+fn open_of_every_shape() {
+    let mut pair = Pair::new();
+    let mut random = Random::new(setting("FULCRUMNEST_SEED", 3));
+    let mut shapes: Vec<Shape> = SHAPES.to_vec();
+    shapes.extend((0..200).map(|_| random::shape(&mut random)));
+    for shape in shapes {
+        let (pool, storage) = random::unopened(&mut random, shape);
+        let (b, p, s) = shape;
+        for (buffers, pieces, slips) in [
+            (b, p, s),
+            (b + 1, p, s),
+            (b, p + 1, s),
+            (b, p, s + 1),
+            (b - 1, p, s),
+            (b, p - 1, s),
+            (b, p, s - 1),
+            (b, p - 1, s + 5),
+            (b, p + 1, s.wrapping_sub(5)),
+            (b.wrapping_sub(5), p + 1, s),
+            (s, p, b),
+            (0, p, s),
+            (129, 257, 65),
+            (u16::MAX, u16::MAX, u16::MAX),
+        ] {
+            let call = Call::Open {
+                buffers,
+                pieces,
+                slips,
+            };
+            let from = format!("shape {shape:?}");
+            pair.compare(&from, &pool, &storage, &call);
+            let opened = TRUE.step(&pool, &storage, &call);
+            pair.compare(&from, &opened.pool, &opened.storage, &Call::Audit);
+        }
+    }
+    pair.print("open");
+    assert!(pair.sound > 200 && pair.torn > 1_000);
+}
+
+/// Empty slices with a null pointer are lent like any others.
+#[test]
+fn null_pointers() {
+    let mut list = List::start(1, Some((2, 3, 3)));
+    let empty = TRUE.step(&list.pool, &list.storage, &Call::Put { data: Vec::new() });
+    list.take(empty);
+    let put = Call::Put { data: vec![5; 600] };
+    let held = TRUE.step(&list.pool, &list.storage, &put);
+    list.take(held);
+    let (mut pool, storage) = (list.pool.clone(), list.storage.clone());
+    let (at, size) = (pool.as_ptr(), pool.len());
+    let (stored, room) = (storage.as_ptr(), storage.len());
+    let pair = |answer: ffi::Answer| (answer.code, answer.number);
+    // The pointers come from live slices or are null with length 0.
+    unsafe {
+        assert_eq!(pair(ffi::slp_audit(null(), 0, null(), 0)), (2, 0));
+        assert_eq!(pair(ffi::slp_audit(at, size, null(), 0)), (2, 0));
+        assert_eq!(pair(ffi::slp_audit(null(), 0, stored, room)), (2, 0));
+        assert_eq!(pair(ffi::slp_audit(at, size, stored, room)), (0, 0));
+        assert_eq!(pair(ffi::slp_length(null(), 0, null(), 0, 0)), (2, 0));
+        assert_eq!(
+            pair(ffi::slp_open(null_mut(), 0, null_mut(), 0, 1, 1, 1)),
+            (1, 0)
+        );
+        assert_eq!(
+            pair(ffi::slp_open(
+                pool.as_mut_ptr(),
+                size,
+                null_mut(),
+                0,
+                2,
+                3,
+                3
+            )),
+            (1, 0)
+        );
+        // Slip 0 is empty, slip 1 has 600 bytes.
+        for (slip, offset, length, wanted) in [
+            (0, 0, 0, (0, 0)),
+            (1, 0, 0, (0, 0)),
+            (1, 600, 0, (0, 0)),
+            (1, 601, 0, (6, 0)),
+            (1, 0, 1, (7, 0)),
+            (2, 0, 0, (3, 0)),
+        ] {
+            let answer = ffi::slp_read(at, size, stored, room, slip, offset, length, null_mut(), 0);
+            assert_eq!(pair(answer), wanted);
+        }
+        for (slip, n, wanted) in [
+            (0, 0, (0, 0, 0, 0)),
+            (1, 0, (0, 0, 0, 0)),
+            (1, 512, (0, 512, 0, 0)),
+            (1, 513, (5, 0, 0, 0)),
+            (0, 1, (6, 0, 0, 0)),
+            (2, 0, (3, 0, 0, 0)),
+        ] {
+            let shown = ffi::slp_show(at, size, stored, room, slip, n, null_mut(), 0);
+            let got = (shown.code, shown.number, shown.in_scratch, shown.start);
+            assert_eq!(got, wanted);
+        }
+        let shown = ffi::slp_show(null(), 0, null(), 0, 0, 0, null_mut(), 0);
+        assert_eq!((shown.code, shown.number), (2, 0));
+    }
+    assert_eq!((pool, storage), (list.pool, list.storage));
+}
+
+/// The view that show answers holds the bytes that read gives.
+#[test]
+fn view_reads_the_same() {
+    let mut views = [0, 0];
+    for (seed, list) in pools(200, 40) {
+        let tables = Tables::parse(&list.pool, &list.storage).expect("sound");
+        for slip in 0..tables.slips.len() as u16 {
+            let whole = fulcrumnest::length(&list.pool, &list.storage, slip);
+            if whole.code != 0 {
+                continue;
+            }
+            let n = whole.number.min(512);
+            let mut scratch = [0; 512];
+            let mut output = [0; 512];
+            let shown = fulcrumnest::show(&list.pool, &list.storage, slip, n, &mut scratch);
+            let read = fulcrumnest::read(&list.pool, &list.storage, slip, 0, n, &mut output);
+            assert_eq!((shown.code, shown.number), (0, n), "seed {seed}");
+            assert_eq!((read.code, read.number), (0, n), "seed {seed}");
+            let view = shown.view(&list.storage, &scratch);
+            assert_eq!(view, &output[..n as usize], "seed {seed}");
+            views[shown.in_scratch as usize] += 1;
+        }
+    }
+    assert!(views[0] > 50 && views[1] > 50, "{views:?}");
+}

@@ -1,0 +1,105 @@
+//! The model against the paper: its rows, edges and readings, and the recount of demand 3.
+
+mod common;
+
+use std::time::Instant;
+
+use common::desk::by_model;
+use common::model::{Call, Tables, TRUE};
+use common::random::SHAPES;
+use common::recount::recount;
+use common::sequence::{demand_three, run_lists, setting, List};
+
+paper_cases!(by_model);
+
+/// Demand 3 after every call of random lists over all shapes, with every code met on the way.
+#[test]
+fn recount_after_every_call() {
+    let calls = setting("FULCRUMNEST_MODEL_CALLS", 300_000);
+    let seed = setting("FULCRUMNEST_SEED", 1);
+    let begun = Instant::now();
+    let tally = run_lists(None, seed, calls, SHAPES);
+    println!(
+        "{} calls in {} lists, {:.1} s, by code {:?}",
+        tally.calls,
+        tally.lists,
+        begun.elapsed().as_secs_f64(),
+        tally.codes
+    );
+    assert_eq!(tally.calls, calls);
+    for (code, times) in tally.codes.iter().enumerate() {
+        // A list that starts from a done open never meets a torn pool.
+        assert_eq!(*times == 0, code == 2, "code {code} came {times} times");
+    }
+}
+
+/// The empty list: a pool just opened passes the recount, with all its room.
+#[test]
+fn recount_of_the_empty_list() {
+    for &shape in SHAPES {
+        let list = List::start(7, Some(shape));
+        let found = recount(&list.pool).expect("a fresh pool");
+        let (b, p, s) = shape;
+        assert_eq!(found.room(), (s as u64, p as u64, b as u64));
+    }
+}
+
+/// The recount itself sees a wrong count, a wrong buffer and a chain that meets itself.
+#[test]
+fn recount_sees_wrong_counts() {
+    let mut seen = 0;
+    for seed in 0..40 {
+        let mut list = List::start(seed, Some((6, 10, 5)));
+        list.run(60);
+        recount(&list.pool).expect("the model's own pool");
+        let tables = Tables::parse(&list.pool, &list.storage).expect("sound");
+        let mut wrong = Vec::new();
+        for d in 0..tables.pieces.len() {
+            let mut t = tables.clone();
+            t.pieces[d].count += 1;
+            wrong.push(t);
+            if tables.pieces[d].count > 0 {
+                let mut t = tables.clone();
+                t.pieces[d].count -= 1;
+                wrong.push(t);
+                let mut t = tables.clone();
+                t.pieces[d].buffer = (t.pieces[d].buffer + 1) % t.buffers.len();
+                wrong.push(t);
+                let mut t = tables.clone();
+                t.pieces[d].next = Some(d);
+                wrong.push(t);
+            }
+        }
+        for b in 0..tables.buffers.len() {
+            let mut t = tables.clone();
+            t.buffers[b] += 1;
+            wrong.push(t);
+        }
+        for t in wrong {
+            assert!(recount(&t.bytes()).is_err(), "seed {seed}: {t:?}");
+            seen += 1;
+        }
+    }
+    assert!(seen > 1_000, "only {seen} pools were tried");
+}
+
+/// A wrong answer is denied where there is room and where there is none.
+#[test]
+fn full_exactly_when() {
+    let list = List::start(3, Some((1, 1, 2)));
+    let before = recount(&list.pool).expect("a fresh pool");
+    let put = |n: usize| Call::Put { data: vec![9; n] };
+    let mut done = TRUE.step(&list.pool, &list.storage, &put(1));
+    assert!(demand_three(&before, &put(1), &done).is_ok());
+    for code in 8..=10 {
+        done.code = code;
+        assert!(demand_three(&before, &put(1), &done).is_err());
+    }
+    let mut refused = TRUE.step(&list.pool, &list.storage, &put(513));
+    assert_eq!(refused.code, 9);
+    assert!(demand_three(&before, &put(513), &refused).is_ok());
+    for code in [0, 2, 8, 10] {
+        refused.code = code;
+        assert!(demand_three(&before, &put(513), &refused).is_err());
+    }
+}
