@@ -1,0 +1,253 @@
+-- The counters after each slip and each piece hold what the rules count. Assumes nothing.
+use mathlib.Core.Path.{_≡_, refl, sym, ap, _∙_}
+use mathlib.Core.Logic.{_≢_, ⊎-elim}
+use mathlib.Core.Bool.{Bool, true, false, _&&_, true≢false, false≢true}
+use mathlib.Core.List.{List}
+use Prim.Native.Nat.{ℕ, zero, suc, _+_, _-_, _≤_, _<_}
+use native.Mathlib.Nat.{not-suc-le-zero}
+use native.Mathlib.Decide.{ℕ-discrete, decLt}
+use native.Mathlib.Numerals.{add-one}
+use native.Mathlib.Omega.{arith}
+use lib.ListN.{length, getD, set, replicate, length-set, length-replicate, getD-replicate, List·getD-eq-default}
+use lib.Seq.{getD-set-same, getD-set-other}
+use lib.Dec.{ltb, ltb→lt, lt→ltb, eqb, eqb→eq, leb, leb→le, le→leb}
+use Rattle.kinds.specs.Limits.{mostPieces, mostBuffers, mostSlips}
+use Rattle.rules.specs.Basics.{Is, if_then_else_, bit, sumTo, allTo}
+use Rattle.rules.specs.Tables.{Piece, Tables, piece, headOf, slipTotal, pieceTotal, bufferTotal}
+use Rattle.rules.specs.Bytes.{decode}
+use Rattle.rules.specs.Sound.{inUse, leads, heads, nexts, lying}
+use Rattle.rules.proofs.Logic.{if-T, if-F, if-either, and-intro, bit-one, is-true, is-false, eq→eqb, all-at}
+use Rattle.rules.proofs.Sums.{sumTo-ones}
+use Rattle.rules.proofs.Moves.{hit, hit-same, hit-other, lies-used}
+use Rattle.rules.proofs.Bytes.{decode-slips, decode-pieces, decode-counts}
+use Rattle.tables.specs.declared.Shape.{Shape}
+use Rattle.audit.specs.Ranges.{linkInRange, pieceInRange, slipsInRange, piecesInRange}
+use Rattle.audit.specs.Counters.{Limited, zeros, tallied, lieOf, Room, Hold, headsTo, nextsTo, lyingTo, SlipsCounted, PiecesCounted}
+use Rattle.audit.proofs.Ranges.{free-next, next-in-range, buffer-in-range}
+
+-- ---- the tables of a pool within the limits
+
+pub record Totals (T : Tables) (h : Shape) : Type 0 where
+  pub slips : h .slips ≡ slipTotal T
+  pub pieces : h .pieces ≡ pieceTotal T
+  pub buffers : h .buffers ≡ bufferTotal T
+  pub few-slips : slipTotal T ≤ mostSlips
+  pub few-pieces : pieceTotal T ≤ mostPieces
+  pub few-buffers : bufferTotal T ≤ mostBuffers
+
+pub totals : {p : List ℕ} {h : Shape} → Limited p h → Totals (decode p) h
+totals {p} {h} k =
+    let s = decode-slips p in
+    let d = decode-pieces p in
+    let b = decode-counts p in
+    let z = k .shaped in
+    omega arith
+
+-- ---- one counter goes up
+
+-- the store that the code makes
+pub store-tallied : (c : List ℕ) (n : ℕ) → n ≢ 0 → set c (n - 1) (getD c (n - 1) 0 + 1) ≡ tallied c n
+store-tallied c zero h = absurd (h refl)
+store-tallied c (suc d) h = let e : suc d - 1 ≡ d = omega arith in rw e
+
+tallied-long : (c : List ℕ) (n : ℕ) → length (tallied c n) ≡ length c
+tallied-long c zero = refl
+tallied-long c (suc d) = length-set c d _
+
+tallied-at : (c : List ℕ) (n d : ℕ) → n ≤ length c → getD (tallied c n) d 0 ≡ getD c d 0 + hit n d
+tallied-at c zero d l = omega arith
+tallied-at c (suc e) d l =
+    elim (ℕ-discrete d e) [
+      | yes q ↦ rw q (omega (arith, getD-set-same c e (getD c e 0 + 1) 0 l, hit-same e))
+      | no q ↦ omega (arith, getD-set-other c e d (getD c e 0 + 1) 0 q, hit-other e d q)
+    ]
+
+module _ {most : ℕ} {c : List ℕ} {f : ℕ → ℕ} (h : Hold most c f) where
+  hold-tallied : (n : ℕ) (g : ℕ → ℕ) → n ≤ most → ((d : ℕ) → g d ≡ f d + hit n d) → Hold most (tallied c n) g
+  hold-tallied n g l e = record {
+    long = tallied-long c n ∙ h .long;
+    each = λ d m. omega (arith, tallied-at c n d (omega (arith, h .long)), h .each d m, e d);
+  }
+
+  hold-room : ((d : ℕ) → f d < 65535) → Room c
+  hold-room k d =
+      elim (decLt d most) [
+        | yes l ↦ omega (arith, h .each d l, k d)
+        | no l ↦ omega (arith, List·getD-eq-default c 0 {n = d} (omega (arith, h .long)))
+      ]
+
+  hold-same : (g : ℕ → ℕ) → ((d : ℕ) → g d ≡ f d) → Hold most c g
+  hold-same g e = record { long = h .long; each = λ d l. h .each d l ∙ sym (e d) }
+
+hold-zeros : (most : ℕ) (f : ℕ → ℕ) → ((d : ℕ) → f d ≡ 0) → Hold most (zeros most) f
+hold-zeros most f e = record { long = length-replicate {A = ℕ} most 0; each = λ d l. getD-replicate most d 0 0 l ∙ sym (e d) }
+
+-- one more passes
+all-more : (f : ℕ → Bool) (n : ℕ) → Is (allTo n f) → Is (f n) → Is (allTo (n + 1) f)
+unfolding allTo
+all-more f n t u = rw add-one (and-intro (f n) (allTo n f) u t)
+
+-- ---- the slips
+
+-- the first n slips are in range and counted
+pub record SlipsTo (T : Tables) (n : ℕ) (refs : List ℕ) : Type 0 where
+  pub ranged : Is (allTo n (λ s. linkInRange (pieceTotal T) (headOf T s)))
+  pub held : Hold mostPieces refs (headsTo T n)
+
+module _ (T : Tables) where
+  headsTo-most : (n d : ℕ) → headsTo T n d ≤ n
+  unfolding headsTo
+  headsTo-most n d = sumTo-ones n (λ s. hit (headOf T s) d) (λ s. bit-one (leads (headOf T s) d))
+
+  headsTo-more : (n d : ℕ) → headsTo T (n + 1) d ≡ headsTo T n d + hit (headOf T n) d
+  unfolding headsTo
+  headsTo-more n d = rw add-one (omega arith)
+
+  pub slips-start : {refs : List ℕ} → refs ≡ zeros mostPieces → SlipsTo T 0 refs
+  unfolding headsTo allTo
+  slips-start e = rw e (record { ranged = tt; held = hold-zeros mostPieces (headsTo T 0) (λ d. refl) })
+
+  module _ {n : ℕ} {refs : List ℕ} (v : SlipsTo T n refs) where
+    pub slips-room : n < 65535 → Room refs
+    slips-room l = hold-room (v .held) (λ d. omega (arith, headsTo-most n d))
+
+    pub slips-on : {m : ℕ} {refs′ : List ℕ} → m ≡ headOf T n → m ≤ pieceTotal T → pieceTotal T ≤ mostPieces → refs′ ≡ tallied refs m → SlipsTo T (n + 1) refs′
+    slips-on {m} {refs′} q l few e = rw (e, q) (record {
+      ranged = all-more (λ s. linkInRange (pieceTotal T) (headOf T s)) n (v .ranged) (le→leb (headOf T n) (pieceTotal T) (omega arith));
+      held = hold-tallied (v .held) (headOf T n) (headsTo T (n + 1)) (omega arith) (headsTo-more n);
+    })
+
+    pub slips-end : n ≡ slipTotal T → SlipsCounted T true refs
+    unfolding slipsInRange heads headsTo
+    slips-end e = record { exact = sym (is-true _ (rw e at (v .ranged))); held = λ _. rw e at (v .held) }
+
+  pub slips-torn : {m : ℕ} {refs : List ℕ} (n : ℕ) → n < slipTotal T → m ≡ headOf T n → pieceTotal T < m → SlipsCounted T false refs
+  unfolding slipsInRange
+  slips-torn n l q k = record {
+    exact = sym (is-false _ (λ t. omega (arith, leb→le (headOf T n) (pieceTotal T) (all-at (slipTotal T) (λ s. linkInRange (pieceTotal T) (headOf T s)) t n l))));
+    held = λ e. absurd (false≢true e);
+  }
+
+-- ---- the pieces
+
+-- the first n pieces are in range, and their nexts and buffers counted
+pub record PiecesTo (T : Tables) (n : ℕ) (refs lies : List ℕ) : Type 0 where
+  pub ranged : Is (allTo n (λ d. pieceInRange (bufferTotal T) (pieceTotal T) (piece T d)))
+  pub references : Hold mostPieces refs (λ d. heads T d + nextsTo T n d)
+  pub laid : Hold mostBuffers lies (lyingTo T n)
+
+-- a piece in range counts where its next leads, a free one nowhere
+next-hit : (B P : ℕ) (p : Piece) → Is (pieceInRange B P p) → (d : ℕ) → bit (inUse p && leads (p .next) d) ≡ hit (p .next) d
+next-hit B P p t d =
+    elim (ℕ-discrete (p .count) 0) [
+      | yes z ↦ rw (free-next B P p t z, z)
+      | no z ↦ ap (λ (x : Bool). bit (x && leads (p .next) d)) (is-true (inUse p) (lt→ltb 0 (p .count) (omega arith)))
+    ]
+
+pub lie-free : (p : Piece) → p .count ≡ 0 → lieOf p ≡ 0
+lie-free p z = if-T (eqb (p .count) 0) 0 (suc (p .buffer)) (eq→eqb (p .count) 0 z)
+
+pub lie-used : (p : Piece) → p .count ≢ 0 → lieOf p ≡ suc (p .buffer)
+lie-used p u = if-F (eqb (p .count) 0) 0 (suc (p .buffer)) (λ t. u (eqb→eq (p .count) 0 t))
+
+-- a piece in use counts on its buffer, a free one nowhere
+lie-hit : (p : Piece) (b : ℕ) → bit (inUse p && eqb (p .buffer) b) ≡ hit (lieOf p) b
+lie-hit p b =
+    elim (ℕ-discrete (p .count) 0) [
+      | yes z ↦ rw (lie-free p z, z)
+      | no z ↦ rw (lie-used p z) (lies-used p b (omega arith))
+    ]
+
+-- a piece in range counts where there are counters
+entry-fits : (B P : ℕ) (p : Piece) → Is (pieceInRange B P p) → B ≤ mostBuffers → P ≤ mostPieces → (p .next ≤ mostPieces) × (lieOf p ≤ mostBuffers)
+entry-fits B P p t b l =
+    let n = next-in-range B P p t in (
+      omega arith,
+      if-either (λ x. x ≤ mostBuffers) (eqb (p .count) 0) 0 (suc (p .buffer)) (λ z. omega arith)
+          (λ z. omega (arith, buffer-in-range B P p t (λ q. z (eq→eqb (p .count) 0 q)))),
+    )
+
+module _ (T : Tables) where
+  heads-most : (d : ℕ) → heads T d ≤ slipTotal T
+  unfolding heads
+  heads-most d = sumTo-ones (slipTotal T) (λ s. hit (headOf T s) d) (λ s. bit-one (leads (headOf T s) d))
+
+  nextsTo-most : (n d : ℕ) → nextsTo T n d ≤ n
+  unfolding nextsTo
+  nextsTo-most n d = sumTo-ones n (λ c. bit (inUse (piece T c) && leads (piece T c .next) d)) (λ c. bit-one (inUse (piece T c) && leads (piece T c .next) d))
+
+  lyingTo-most : (n b : ℕ) → lyingTo T n b ≤ n
+  unfolding lyingTo
+  lyingTo-most n b = sumTo-ones n (λ c. bit (inUse (piece T c) && eqb (piece T c .buffer) b)) (λ c. bit-one (inUse (piece T c) && eqb (piece T c .buffer) b))
+
+  nextsTo-more : (n d : ℕ) → Is (pieceInRange (bufferTotal T) (pieceTotal T) (piece T n)) → nextsTo T (n + 1) d ≡ nextsTo T n d + hit (piece T n .next) d
+  unfolding nextsTo
+  nextsTo-more n d t = rw add-one (omega (arith, next-hit (bufferTotal T) (pieceTotal T) (piece T n) t d))
+
+  lyingTo-more : (n b : ℕ) → lyingTo T (n + 1) b ≡ lyingTo T n b + hit (lieOf (piece T n)) b
+  unfolding lyingTo
+  lyingTo-more n b = rw add-one (omega (arith, lie-hit (piece T n) b))
+
+  pub pieces-start : {refs lies : List ℕ} → Hold mostPieces refs (heads T) → lies ≡ zeros mostBuffers → PiecesTo T 0 refs lies
+  unfolding nextsTo lyingTo allTo
+  pieces-start h e = record { ranged = tt; references = hold-same h _ (λ d. omega arith); laid = rw e (hold-zeros mostBuffers (lyingTo T 0) (λ d. refl)) }
+
+  module _ {h : Shape} (k : Totals T h) {n : ℕ} (l : n < h .pieces) {p : Piece} (e : p ≡ piece T n) {r : Bool} (q : r ≡ pieceInRange (h .buffers) (h .pieces) p) where
+    ranged : {b : Bool} → r ≡ b → pieceInRange (bufferTotal T) (pieceTotal T) (piece T n) ≡ b
+    ranged x = rw (← k .buffers, ← k .pieces, ← e) (sym q ∙ x)
+
+    pub pieces-torn : {refs lies : List ℕ} → r ≡ false → PiecesCounted T false refs lies
+    unfolding piecesInRange
+    pieces-torn x =
+        let m : n < pieceTotal T = omega arith in
+        record {
+          exact = sym (is-false _ (λ t. rw (ranged x) at (all-at (pieceTotal T) (λ d. pieceInRange (bufferTotal T) (pieceTotal T) (piece T d)) t n m)));
+          references = λ y. absurd (false≢true y);
+          laid = λ y. absurd (false≢true y);
+        }
+
+    module _ (x : r ≡ true) {refs lies : List ℕ} (v : PiecesTo T n refs lies) where
+      fits : (piece T n .next ≤ mostPieces) × (lieOf (piece T n) ≤ mostBuffers)
+      fits = entry-fits (bufferTotal T) (pieceTotal T) (piece T n) (rw (ranged x) tt) (k .few-buffers) (k .few-pieces)
+
+      -- there are counters for what it refers to, and room in them
+      pub pieces-fit : (p .next ≤ mostPieces) × (lieOf p ≤ mostBuffers) × Room refs × Room lies
+      pieces-fit = (
+        rw e (fits .0),
+        rw e (fits .1),
+        hold-room (v .references) (λ d. omega (arith, heads-most d, nextsTo-most n d)),
+        hold-room (v .laid) (λ b. omega (arith, lyingTo-most n b)),
+      )
+
+      pub pieces-on : {refs′ lies′ : List ℕ} → refs′ ≡ tallied refs (p .next) → lies′ ≡ tallied lies (lieOf p) → PiecesTo T (n + 1) refs′ lies′
+      pieces-on f g =
+          let u : Is (pieceInRange (bufferTotal T) (pieceTotal T) (piece T n)) = rw (ranged x) tt in
+          rw (f, g, e) (record {
+            ranged = all-more (λ d. pieceInRange (bufferTotal T) (pieceTotal T) (piece T d)) n (v .ranged) u;
+            references = hold-tallied (v .references) (piece T n .next) _ (fits .0) (λ d. omega (arith, nextsTo-more n d u));
+            laid = hold-tallied (v .laid) (lieOf (piece T n)) (lyingTo T (n + 1)) (fits .1) (lyingTo-more n);
+          })
+
+  pub pieces-end : {n : ℕ} {refs lies : List ℕ} → PiecesTo T n refs lies → n ≡ pieceTotal T → PiecesCounted T true refs lies
+  unfolding piecesInRange nexts nextsTo lying lyingTo
+  pieces-end v e = record { exact = sym (is-true _ (rw e at (v .ranged))); references = λ _. rw e at (v .references); laid = λ _. rw e at (v .laid) }
+
+-- ---- stored counts g against counters that hold f
+
+module _ (g f : ℕ → ℕ) where
+  abbrev pub Agree : ℕ → Type 0
+  Agree n = Is (allTo n (λ d. eqb (g d) (f d)))
+
+  pub agree-start : Agree 0
+  unfolding allTo
+  agree-start = tt
+
+  module _ {most n x : ℕ} {c : List ℕ} (h : Hold most c f) (l : n < most) (e : x ≡ g n) where
+    pub agree-on : Agree n → x ≡ getD c n 0 → Agree (n + 1)
+    agree-on t q = all-more (λ d. eqb (g d) (f d)) n t (eq→eqb (g n) (f n) (omega (arith, h .each n l)))
+
+    pub agree-torn : (N : ℕ) → n < N → x ≢ getD c n 0 → false ≡ allTo N (λ d. eqb (g d) (f d))
+    agree-torn N m q = sym (is-false _ (λ t. q (omega (arith, h .each n l, eqb→eq (g n) (f n) (all-at N (λ d. eqb (g d) (f d)) t n m)))))
+
+  pub agree-end : {n : ℕ} (N : ℕ) → n ≡ N → Agree n → true ≡ allTo N (λ d. eqb (g d) (f d))
+  agree-end N e t = sym (is-true _ (rw e at t))

@@ -1,0 +1,69 @@
+-- The verdict from the header's tests and the tables'. Assumes nothing.
+use mathlib.Core.Path.{_≡_, sym}
+use mathlib.Core.Bool.{Bool, true, false, false≢true}
+use mathlib.Core.List.{List}
+use Prim.Native.Nat.{ℕ, _≤_, _<_}
+use native.Mathlib.Omega.{arith}
+use lib.ListN.{length, length-replicate}
+use Rattle.rules.specs.Basics.{Is}
+use Rattle.rules.specs.Tables.{pieceTotal}
+use Rattle.rules.specs.Bytes.{buffersIn, piecesIn, slipsIn, decode}
+use Rattle.rules.specs.Sound.{Lent, headerOk, soundTables, sound}
+use Rattle.rules.proofs.Logic.{is-true, is-false, and-0}
+use Rattle.rules.proofs.Bytes.{and-is, eqb-is, leb-is, Header, header-facts, header-test, decode-pieces}
+use Rattle.tables.specs.declared.Shape.{Shape}
+use Rattle.tables.specs.Shape.{Shaped}
+use Rattle.tables.proofs.Laws.{fits-by}
+use Rattle.audit.specs.Ranges.{partsOk}
+use Rattle.audit.specs.Counters.{Limited, zeros}
+use Rattle.audit.specs.Verdict.{tornAnswer, Verdict}
+
+-- the shape h is the header's
+pub record Of (p : List ℕ) (h : Shape) : Type 0 where
+  pub buffers : h .buffers ≡ buffersIn p
+  pub pieces : h .pieces ≡ piecesIn p
+  pub slips : h .slips ≡ slipsIn p
+
+abbrev pub lent : List ℕ → List ℕ → Lent
+lent p st = record { pool = p; storage = st }
+
+-- a header that is not good makes the pool torn
+torn : (p : List ℕ) (n : ℕ) (h : Shape) → ((st : List ℕ) → length st ≡ n → Header (lent p st) → ⊥) → Verdict p n (tornAnswer h)
+unfolding sound
+torn p n h never = record {
+  exact = λ st l. sym (is-false _ (λ t. never st l (header-facts (lent p st) (and-0 (headerOk (lent p st)) _ t))));
+  bounded = omega arith;
+  shaped = λ q. absurd (false≢true q);
+}
+
+pub verdict-short : (p : List ℕ) (n : ℕ) (h : Shape) → length p < 11 → Verdict p n (tornAnswer h)
+verdict-short p n h l = torn p n h (λ st _ k. omega (arith, k .pool-long))
+
+module _ {p : List ℕ} (n : ℕ) {h : Shape} (o : Of p h) where
+  pub verdict-unfit : partsOk p h n ≡ false → Verdict p n (tornAnswer h)
+  verdict-unfit q = torn p n h (λ st l k. (let i : Is (partsOk p h n) = simp (and-is, eqb-is, leb-is) (omega arith) in rw q at i))
+
+  module _ (q : partsOk p h n ≡ true) where
+    good-header : (st : List ℕ) → length st ≡ n → Header (lent p st)
+    good-header st l =
+        let i : Is (partsOk p h n) = rw q tt in
+        let j = simp (and-is, eqb-is, leb-is) at i in
+        omega arith
+
+    pub good-limits : Limited p h
+    good-limits =
+        let k = good-header (zeros n) (length-replicate {A = ℕ} n 0) in
+        record {
+          shaped = record { fits = fits-by p (k .mark-s) (k .mark-l) (k .mark-p) (k .version-is) (k .pool-long); buffers = o .buffers; pieces = o .pieces; slips = o .slips };
+          few-buffers = omega arith;
+          few-pieces = omega arith;
+          few-slips = omega arith;
+        }
+
+    pub verdict-tables : {r : Bool} {m : ℕ} → r ≡ soundTables (decode p) → m ≤ pieceTotal (decode p) → Verdict p n (record { sound = r; follows = m; shape = h })
+    unfolding sound
+    verdict-tables e l = record {
+      exact = λ st w. rw (is-true (headerOk (lent p st)) (header-test (lent p st) (good-header st w))) e;
+      bounded = omega (arith, decode-pieces p);
+      shaped = λ _. good-limits .shaped;
+    }

@@ -1,0 +1,48 @@
+-- `audit::count_link` meets its contract. Assumes nothing.
+use native.Mathlib.Omega.{arith}
+use Prim.Native.Nat.{_-_}
+use borrow.Author.Needs.{needs}
+use Rattle.audit.proofs.Counters.{store-tallied}
+use Rattle.audit.proofs.count_link.Statement.{statement}
+use Rattle.audit.proofs.count_link.Tie as tie
+
+returns : tie.Need-returns
+returns c = search needs
+
+sub-d : tie.Need-sub-d
+sub-d c = search needs
+
+cast-d : tie.Need-cast-d
+cast-d c = search needs
+
+mul-refs : tie.Need-mul-refs
+mul-refs c = search needs
+
+element-copy-out-refs : tie.Need-element-copy-out-refs
+element-copy-out-refs c = search needs
+
+add-refs : tie.Need-add-refs
+add-refs c = let z = c .before .before in omega (arith, z .pre .1 (z .args .n - 1))
+
+mul-refs-2 : tie.Need-mul-refs-2
+mul-refs-2 c = search needs
+
+element-write-refs : tie.Need-element-write-refs
+element-write-refs c = search needs
+
+returns-2 : tie.Need-returns-2
+returns-2 c = let z = c .before .before in store-tallied (z .args .refs .now) (z .args .n) (c .before .if1 .left)
+
+pub count-link-spec : {M : Type 1} → statement M
+count-link-spec =
+    tie.close
+    (tie.spec
+    returns
+    sub-d
+    cast-d
+    mul-refs
+    element-copy-out-refs
+    add-refs
+    mul-refs-2
+    element-write-refs
+    returns-2)

@@ -1,0 +1,75 @@
+-- The audit's counters: references to each piece and pieces on each buffer, as counted so far.
+use mathlib.Core.Path.{_≡_}
+use mathlib.Core.Bool.{Bool, true, _&&_}
+use mathlib.Core.List.{List}
+use Prim.Native.Nat.{ℕ, zero, suc, _+_, _≤_, _<_}
+use lib.ListN.{length, getD, set, replicate}
+use lib.Dec.{eqb}
+use Rattle.kinds.specs.Limits.{mostPieces, mostBuffers, mostSlips}
+use Rattle.rules.specs.Basics.{if_then_else_, bit, sumTo}
+use Rattle.rules.specs.Tables.{Piece, Tables, piece, headOf}
+use Rattle.rules.specs.Sound.{inUse, leads, heads, nexts, lying}
+use Rattle.tables.specs.declared.Shape.{Shape}
+use Rattle.tables.specs.Shape.{Shaped}
+use Rattle.audit.specs.declared.Entry.{Entry}
+use Rattle.audit.specs.Ranges.{slipsInRange, piecesInRange}
+
+-- the pool p has the shape h, within the limits
+pub record Limited (p : List ℕ) (h : Shape) : Type 0 where
+  pub shaped : Shaped p h
+  pub few-buffers : h .buffers ≤ mostBuffers
+  pub few-pieces : h .pieces ≤ mostPieces
+  pub few-slips : h .slips ≤ mostSlips
+
+-- the piece of a loaded entry
+abbrev pub pieceOf : Entry → Piece
+pieceOf e = record { count = e .count; buffer = e .buffer .0; offset = e .offset; len = e .len; next = e .next }
+
+-- ---- counters
+
+-- n counters that have counted nothing
+abbrev pub zeros : ℕ → List ℕ
+zeros n = replicate n 0
+
+-- the counters c with one more where a link leads
+abbrev pub tallied : List ℕ → ℕ → List ℕ
+tallied c zero = c
+tallied c (suc d) = set c d (getD c d 0 + 1)
+
+-- a link to the buffer that a piece in use lies on
+abbrev pub lieOf : Piece → ℕ
+lieOf p = if eqb (p .count) 0 then 0 else suc (p .buffer)
+
+-- each counter can take one more
+abbrev pub Room : List ℕ → Type 0
+Room c = (d : ℕ) → getD c d 0 < 65535
+
+-- the counters c, of which there are `most`, hold f
+pub record Hold (most : ℕ) (c : List ℕ) (f : ℕ → ℕ) : Type 0 where
+  pub long : length c ≡ most
+  pub each : (d : ℕ) → d < most → getD c d 0 ≡ f d
+
+-- ---- what is counted
+
+-- of the first n slips, those that head piece d
+unfoldable pub headsTo : Tables → ℕ → ℕ → ℕ
+headsTo T n d = sumTo n (λ s. bit (leads (headOf T s) d))
+
+-- of the first n pieces, those in use whose next is piece d
+unfoldable pub nextsTo : Tables → ℕ → ℕ → ℕ
+nextsTo T n d = sumTo n (λ c. bit (inUse (piece T c) && leads (piece T c .next) d))
+
+-- of the first n pieces, those in use lying on buffer b
+unfoldable pub lyingTo : Tables → ℕ → ℕ → ℕ
+lyingTo T n b = sumTo n (λ c. bit (inUse (piece T c) && eqb (piece T c .buffer) b))
+
+-- what the pass over the slips answers and counts
+pub record SlipsCounted (T : Tables) (r : Bool) (refs : List ℕ) : Type 0 where
+  pub exact : r ≡ slipsInRange T
+  pub held : r ≡ true → Hold mostPieces refs (heads T)
+
+-- what the pass over the pieces answers and counts
+pub record PiecesCounted (T : Tables) (r : Bool) (refs lies : List ℕ) : Type 0 where
+  pub exact : r ≡ piecesInRange T
+  pub references : r ≡ true → Hold mostPieces refs (λ d. heads T d + nexts T d)
+  pub laid : r ≡ true → Hold mostBuffers lies (lying T)

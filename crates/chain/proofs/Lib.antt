@@ -1,0 +1,2 @@
+-- The laws of chain.
+pub mod Links

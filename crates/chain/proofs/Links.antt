@@ -1,0 +1,103 @@
+-- Links in sound tables: what a link to a piece in use leads to. Assumes nothing.
+use mathlib.Core.Path.{_≡_, refl, sym, ap, subst, _∙_}
+use mathlib.Core.Bool.{Bool, true, false, not, _&&_}
+use mathlib.Core.List.{List, [], _∷_}
+use Prim.Native.Nat.{ℕ, zero, suc, pred, _+_, _-_, _*_, _≤_, _<_}
+use native.Mathlib.Omega.{arith}
+use borrow.Author.Tests.{lt-ltb, le-ltb}
+use lib.Dec.{eqb, eqb→eq, ltb, ltb→lt, leb, leb→le}
+use Rattle.kinds.specs.Limits.{bufferSize, sizeOf}
+use Rattle.rules.specs.Basics.{Is, if_then_else_}
+use Rattle.rules.specs.Tables.{Tables, slip, piece, slipTotal, pieceTotal, bufferTotal}
+use Rattle.rules.specs.Chain.{walk, stretches, total}
+use Rattle.rules.specs.Sound.{inUse, linkOk, pieceOk, SoundTables}
+use Rattle.rules.specs.Rule.{unnamed}
+use Rattle.rules.proofs.Logic.{if-F, and-parts}
+
+-- ---- a slip's entry
+
+-- the link that an entry n holds
+pub head-none : {v n : ℕ} → v ≡ n → v ≡ 0 → 0 ≡ pred n
+head-none e z = omega arith
+
+pub head-some : {v n : ℕ} → v ≡ n → (v ≡ 0 → ⊥) → v - 1 ≡ pred n
+head-some e z = omega arith
+
+not-twice : (b : Bool) → not (not b) ≡ b
+not-twice true = refl
+not-twice false = refl
+
+-- a slip is held where it is below S and not vacant
+pub held-past : (T : Tables) (s : ℕ) → slipTotal T ≤ s → false ≡ not (unnamed T s)
+held-past T s h = rw (le-ltb s (slipTotal T) h)
+
+pub held-below : (T : Tables) (s v : ℕ) → s < slipTotal T → v ≡ slip T s → not (eqb v 0) ≡ not (unnamed T s)
+held-below T s v h e = rw (lt-ltb s (slipTotal T) h, not-twice (not (eqb (slip T s) 0)), e)
+
+-- ---- pieces in use
+
+-- what is known of a piece in use, piece d, in sound tables
+pub record InUse (T : Tables) (d : ℕ) : Type 0 where
+  pub below : d < pieceTotal T
+  pub used : 0 < piece T d .count
+  pub in-store : piece T d .buffer < bufferTotal T
+  pub some-bytes : 1 ≤ piece T d .len
+  pub inside : piece T d .offset + piece T d .len ≤ sizeOf (piece T d .buffer)
+  pub onward : Is (linkOk T (piece T d .next))
+
+-- a good link that is not 0 leads to a piece in use
+pub link-leads : (T : Tables) (n : ℕ) → SoundTables T → Is (linkOk T n) → (n ≡ 0 → ⊥) → InUse T (n - 1)
+link-leads T zero S t h = absurd (h refl)
+link-leads T (suc d) S t h = subst (InUse T) (omega arith) it
+  where
+    it : InUse T d
+    it =
+        let p = piece T d in
+        let (l, u) = and-parts (ltb d (pieceTotal T)) _ t in
+        let b = ltb→lt d (pieceTotal T) l in
+        let some = ltb→lt 0 (p .count) u in
+        let t₀ = subst Is (if-F (eqb (p .count) 0) _ _ (λ z. omega (arith, eqb→eq (p .count) 0 z))) (S .pieces-ok d b) in
+        let (x, t₁) = and-parts (ltb (p .buffer) (bufferTotal T)) _ t₀ in
+        let (y, t₂) = and-parts (leb 1 (p .len)) _ t₁ in
+        let (z, n) = and-parts (leb (p .offset + p .len) (sizeOf (p .buffer))) _ t₂ in
+        record {
+          below = b;
+          used = some;
+          in-store = ltb→lt (p .buffer) (bufferTotal T) x;
+          some-bytes = leb→le 1 (p .len) y;
+          inside = leb→le (p .offset + p .len) (sizeOf (p .buffer)) z;
+          onward = n;
+        }
+
+-- ---- the pieces met from a link
+
+pub walk-none : (k : ℕ) (T : Tables) → walk k T 0 ≡ []
+unfolding walk
+walk-none zero T = refl
+walk-none (suc k) T = refl
+
+-- the first piece, and the pieces met after it
+pub walk-first : (k n : ℕ) (T : Tables) → (k ≡ 0 → ⊥) → (n ≡ 0 → ⊥) → walk k T n ≡ (n - 1) ∷ walk (k - 1) T (piece T (n - 1) .next)
+unfolding walk
+walk-first zero n T h i = absurd (h refl)
+walk-first (suc k) zero T h i = absurd (i refl)
+walk-first (suc k) (suc d) T h i =
+    let a : suc k - 1 ≡ k = omega arith in
+    let b : suc d - 1 ≡ d = omega arith in
+    rw (a, b)
+
+-- ---- the length of the pieces met
+
+pub length-none : (k n : ℕ) (T : Tables) → k ≡ 0 → total (stretches T (walk k T n)) ≡ 0
+unfolding walk stretches total
+length-none zero n T h = refl
+length-none (suc k) n T h = absurd (omega arith)
+
+pub length-empty : (k n : ℕ) (T : Tables) → n ≡ 0 → total (stretches T (walk k T n)) ≡ 0
+unfolding stretches total
+length-empty k n T h = rw (h, walk-none)
+
+pub length-first : (k n : ℕ) (T : Tables) → (k ≡ 0 → ⊥) → (n ≡ 0 → ⊥)
+    → total (stretches T (walk k T n)) ≡ piece T (n - 1) .len + total (stretches T (walk (k - 1) T (piece T (n - 1) .next)))
+unfolding stretches total
+length-first k n T h i = rw (walk-first k n T h i)

@@ -1,0 +1,3 @@
+-- What the contracts of chain cite.
+pub mod Opened
+pub mod Length

@@ -1,0 +1,2 @@
+-- The laws of storage.
+pub mod Laws

@@ -1,0 +1,2 @@
+-- What the contracts of tables cite.
+pub mod Shape

@@ -1,0 +1,34 @@
+-- A pool's shape: its three counts, read once from the header and handed on by value.
+use mathlib.Core.Path.{_≡_}
+use mathlib.Core.List.{List, [], _∷_}
+use Prim.Native.Nat.{ℕ, _≤_}
+use lib.ListN.{length, take, set}
+use Rattle.rules.specs.Layout.{poolLength}
+use Rattle.rules.specs.Tables.{Piece, Tables}
+use Rattle.rules.specs.Bytes.{buffersIn, piecesIn, slipsIn, decode}
+use Rattle.tables.specs.declared.Shape.{Shape}
+
+-- mark, version and length are those of a pool
+pub record Fits (p : List ℕ) : Type 0 where
+  pub head : take 5 p ≡ 83 ∷ 76 ∷ 80 ∷ 1 ∷ 0 ∷ []
+  pub long : length p ≡ poolLength (buffersIn p) (piecesIn p) (slipsIn p)
+
+-- the pool p has the shape h
+pub record Shaped (p : List ℕ) (h : Shape) : Type 0 where
+  pub fits : Fits p
+  pub buffers : h .buffers ≡ buffersIn p
+  pub pieces : h .pieces ≡ piecesIn p
+  pub slips : h .slips ≡ slipsIn p
+
+-- the pool p has the shape h and holds the tables T
+pub record Holds (p : List ℕ) (h : Shape) (T : Tables) : Type 0 where
+  pub shaped : Shaped p h
+  pub is : decode p ≡ T
+
+-- buffer b has the count n
+abbrev pub setCount : Tables → ℕ → ℕ → Tables
+setCount T b n = record { slips = T .slips; pieces = T .pieces; counts = set (T .counts) b n }
+
+-- the piece x with the count n, on buffer b
+abbrev pub withBase : Piece → ℕ → ℕ → Piece
+withBase x n b = record { count = n; buffer = b; offset = x .offset; len = x .len; next = x .next }
