@@ -321,7 +321,7 @@ fn pool_length(shape: Shape) -> usize
 }
 
 // Whether the counts are within their limits and both lengths are the ones they ask.
-fn sized(shape: Shape, pool: usize, storage: usize) -> bool
+pub fn sized(shape: Shape, pool: usize, storage: usize) -> bool
     ensures { λ r. ⌜ r ≡ sizesOk (shape .buffers) (shape .pieces) (shape .slips) pool storage ⌝ }
 {
     if !BufferNumber::counted(shape.buffers) {

@@ -1,2 +1,5 @@
 -- The laws of chain.
 pub mod Links
+pub mod Spots
+pub mod Own
+pub mod Free

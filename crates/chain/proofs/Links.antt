@@ -1,18 +1,21 @@
 -- Links in sound tables: what a link to a piece in use leads to. Assumes nothing.
-use mathlib.Core.Path.{_≡_, refl, sym, ap, subst, _∙_}
-use mathlib.Core.Bool.{Bool, true, false, not, _&&_}
+use mathlib.Core.Path.{_≡_, refl, sym, ap, subst}
+use mathlib.Core.Bool.{Bool, true, false, not}
 use mathlib.Core.List.{List, [], _∷_}
-use Prim.Native.Nat.{ℕ, zero, suc, pred, _+_, _-_, _*_, _≤_, _<_}
+use Prim.Native.Nat.{ℕ, zero, suc, pred, _+_, _-_, _≤_, _<_}
 use native.Mathlib.Omega.{arith}
 use borrow.Author.Tests.{lt-ltb, le-ltb}
+use lib.ListN.{length}
 use lib.Dec.{eqb, eqb→eq, ltb, ltb→lt, leb, leb→le}
-use Rattle.kinds.specs.Limits.{bufferSize, sizeOf}
-use Rattle.rules.specs.Basics.{Is, if_then_else_}
+use Rattle.kinds.specs.Limits.{sizeOf}
+use Rattle.rules.specs.Basics.{Is}
 use Rattle.rules.specs.Tables.{Tables, slip, piece, slipTotal, pieceTotal, bufferTotal}
-use Rattle.rules.specs.Chain.{walk, stretches, total}
-use Rattle.rules.specs.Sound.{inUse, linkOk, pieceOk, SoundTables}
+use Rattle.rules.specs.Chain.{follow, walk, stretches, total}
+use Rattle.rules.specs.Sound.{linkOk, SoundTables}
 use Rattle.rules.specs.Rule.{unnamed}
 use Rattle.rules.proofs.Logic.{if-F, and-parts}
+use Rattle.rules.proofs.Meets.{Meets, go, meets-walk, meets-some}
+use Rattle.rules.proofs.Audit.{tables-now}
 
 -- ---- a slip's entry
 
@@ -69,6 +72,15 @@ link-leads T (suc d) S t h = subst (InUse T) (omega arith) it
           onward = n;
         }
 
+-- following next from a good link comes to a good link
+pub follow-good : (T : Tables) (j n : ℕ) → SoundTables T → Is (linkOk T n) → Is (linkOk T (follow T j n))
+unfolding follow
+follow-good T zero n S t = t
+follow-good T (suc j) zero S t = tt
+follow-good T (suc j) (suc d) S t =
+    let b : suc d - 1 ≡ d = omega arith in
+    follow-good T j (piece T d .next) S (subst (λ (x : ℕ). Is (linkOk T (piece T x .next))) b (link-leads T (suc d) S t (omega arith) .onward))
+
 -- ---- the pieces met from a link
 
 pub walk-none : (k : ℕ) (T : Tables) → walk k T 0 ≡ []
@@ -85,6 +97,32 @@ walk-first (suc k) (suc d) T h i =
     let a : suc k - 1 ≡ k = omega arith in
     let b : suc d - 1 ≡ d = omega arith in
     rw (a, b)
+
+-- in sound tables a good link leads to at most P pieces, and a walk of P meets them all
+pub link-meets : (T : Tables) (n : ℕ) → SoundTables T → Is (linkOk T n) → (l : List ℕ) × Meets T n l × (length l ≤ pieceTotal T)
+link-meets T n S t =
+    meets-some n (tables-now T S) (λ d e. subst (λ (x : ℕ). 0 < piece T x .count) (omega arith) (link-leads T n S t (omega arith) .used))
+
+pub walk-meets : (T : Tables) (n : ℕ) → SoundTables T → Is (linkOk T n) → Meets T n (walk (pieceTotal T) T n)
+walk-meets T n S t =
+    let (l, m, h) = link-meets T n S t in
+    subst (Meets T n) (sym (meets-walk (pieceTotal T) m h)) m
+
+next-met : (T : Tables) (P n : ℕ) (l : List ℕ) → Meets T n l → length l ≤ P → (n ≡ 0 → ⊥) → walk P T n ≡ (n - 1) ∷ walk P T (piece T (n - 1) .next)
+next-met T P zero l m h i = absurd (i refl)
+next-met T P (suc d) l (go {l = r} m) h i =
+    let b : suc d - 1 ≡ d = omega arith in
+    rw (b, meets-walk P m (omega arith)) (meets-walk P (go m) h)
+
+-- the first piece, and the pieces met after it, with P allowed from each
+pub walk-on : (T : Tables) (n : ℕ) → SoundTables T → Is (linkOk T n) → (n ≡ 0 → ⊥)
+    → walk (pieceTotal T) T n ≡ (n - 1) ∷ walk (pieceTotal T) T (piece T (n - 1) .next)
+walk-on T n S t i = let (l, m, h) = link-meets T n S t in next-met T (pieceTotal T) n l m h i
+
+-- so a walk from the next piece is shorter
+pub walk-less : (T : Tables) (n : ℕ) → SoundTables T → Is (linkOk T n) → (n ≡ 0 → ⊥)
+    → length (walk (pieceTotal T) T (piece T (n - 1) .next)) < length (walk (pieceTotal T) T n)
+walk-less T n S t i = omega (arith, ap length (walk-on T n S t i))
 
 -- ---- the length of the pieces met
 

@@ -1,3 +1,6 @@
 -- What the contracts of chain cite.
 pub mod Opened
 pub mod Length
+pub mod Find
+pub mod Own
+pub mod Free

@@ -1,6 +1,6 @@
 -- `chain::length_from` meets its contract: the pieces still allowed fall with each call. Assumes nothing.
 use Prim.Native.Nat.{ℕ, _-_, _<_}
-use mathlib.Core.Path.{_≡_, sym, ap, subst, _∙_}
+use mathlib.Core.Path.{sym, ap, subst, _∙_}
 use native.Mathlib.Omega.{arith}
 use borrow.Fn.Kinds.{In}
 use borrow.Fn.PlainCycle.{Measures, is, falls, and}
@@ -13,7 +13,7 @@ use Rattle.chain.proofs.Links.{InUse, link-leads, length-none, length-e
 use Rattle.chain.proofs.length_from.Reads as length-from
 use Rattle.chain.proofs.length_from.Kinds as length-from-kinds
 use Rattle.chain.proofs.+length_from.Lts-length_from as lts
-use Rattle.tables.proofs.piece_length.Reads as piece-length-reads
+use Rattle.chain.proofs.piece_bytes.Reads as piece-bytes-reads
 use Rattle.tables.proofs.piece_next.Reads as piece-next-reads
 use Rattle.chain.proofs.+length_from.{statement}
 use Rattle.chain.proofs.+length_from.Tie.{close}
@@ -32,8 +32,8 @@ length-from-below t =
 -- what is asked and learnt at each call
 abbrev calls : ℕ → lts.Claims
 calls t = (
-  piece-length-reads.Asked,
-  piece-length-reads.Learnt,
+  piece-bytes-reads.Asked,
+  piece-bytes-reads.Learnt,
   piece-next-reads.Asked,
   piece-next-reads.Learnt,
   length-from-below t,
@@ -51,8 +51,8 @@ module _ (t : ℕ) where
       let a = c .before .before .before .args in
       record { is = sym (length-empty (a .allowed) (a .link) (decode (a .pool .now)) (c .if2 .taken)); most = omega arith }
 
-  sub-first : lts.Need-sub-first (calls t) (length-from-at t) length-from.Post
-  sub-first c = omega arith
+  sub-length-from : lts.Need-sub-length-from (calls t) (length-from-at t) length-from.Post
+  sub-length-from c = omega arith
 
   -- the link leads to a piece in use
   leads : (c : lts.Else2 (calls t) (length-from-at t) length-from.Post)
@@ -61,19 +61,16 @@ module _ (t : ℕ) where
       let z = c .before .before .before in
       link-leads (decode (z .args .pool .now)) (z .args .link) (z .pre .1 .0 .sound) (z .pre .1 .1) (c .if2 .left)
 
-  piece-length-requires : lts.Need-piece-length-requires (calls t) (length-from-at t) length-from.Post
-  piece-length-requires c κs =
+  piece-bytes-requires : lts.Need-piece-bytes-requires (calls t) (length-from-at t) length-from.Post
+  piece-bytes-requires c κs =
       let o = c .before .before .before .pre .1 .0 .shaped in
       (o, omega (arith, leads c .below, total-pieces (whole o)))
 
-  cast-first : lts.Need-cast-first (calls t) (length-from-at t) length-from.Post
-  cast-first c = omega arith
-
   piece-next-requires : lts.Need-piece-next-requires (calls t) (length-from-at t) length-from.Post
-  piece-next-requires c κs = piece-length-requires (c .before) κs
+  piece-next-requires c κs = piece-bytes-requires (c .before) κs
 
-  sub-length-from : lts.Need-sub-length-from (calls t) (length-from-at t) length-from.Post
-  sub-length-from c = omega arith
+  sub-length-from-2 : lts.Need-sub-length-from-2 (calls t) (length-from-at t) length-from.Post
+  sub-length-from-2 c = omega arith
 
   length-from-requires : lts.Need-length-from-requires (calls t) (length-from-at t) length-from.Post
   length-from-requires c κs =
@@ -85,14 +82,14 @@ module _ (t : ℕ) where
   add-result c =
       let z = c .before .before .before .before .before .before in
       let u = leads (c .before .before .before) in
-      omega (arith, u .inside, c .before .before .piece-length .ensures, c .length-from .ensures .most, z .fits .allowed)
+      omega (arith, u .inside, c .before .before .piece-bytes .ensures, c .length-from .ensures .most, z .fits .allowed)
 
   returns-3 : lts.Need-returns-3 (calls t) (length-from-at t) length-from.Post
   returns-3 c =
       let z = c .before .before .before .before .before .before in
       let T = decode (z .args .pool .now) in
       let u = leads (c .before .before .before) in
-      let e = c .before .before .piece-length .ensures in
+      let e = c .before .before .piece-bytes .ensures in
       let rest = c .length-from .ensures .is ∙ ap (λ (n : ℕ). total (stretches T (walk (z .args .allowed - 1) T n))) (c .before .piece-next .ensures) in
       let both = length-first (z .args .allowed) (z .args .link) T (c .before .before .before .before .if1 .left) (c .before .before .before .if2 .left) in
       record { is = omega (arith, e, rest, both); most = omega (arith, u .inside, e, c .length-from .ensures .most) }
@@ -105,11 +102,10 @@ pub +length-from-spec : {M : Type 1} → statement M
     length-from.Post
     (returns t)
     (returns-2 t)
-    (sub-first t)
-    (piece-length-requires t)
-    (cast-first t)
-    (piece-next-requires t)
     (sub-length-from t)
+    (piece-bytes-requires t)
+    (piece-next-requires t)
+    (sub-length-from-2 t)
     (length-from-requires t)
     (add-result t)
     (returns-3 t)

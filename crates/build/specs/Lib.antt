@@ -1,0 +1,2 @@
+-- What the contracts of build cite.
+pub mod Share

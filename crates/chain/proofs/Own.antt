@@ -1,0 +1,143 @@
+-- The own pieces of a chain, met one by one. Assumes nothing.
+use mathlib.Core.Path.{_≡_, refl, sym, ap, subst, _∙_}
+use mathlib.Core.Bool.{true, false}
+use mathlib.Core.List.{List, [], _∷_, _++_}
+use Prim.Native.Nat.{ℕ, zero, suc, _+_, _-_}
+use native.Mathlib.Omega.{arith}
+use lib.ListN.{length, drop}
+use lib.Seq.{drop-at}
+use lib.Dec.{eqb}
+use Rattle.rules.specs.Basics.{Is, if_then_else_, lastOf}
+use Rattle.rules.specs.Tables.{Tables, piece, pieceTotal}
+use Rattle.rules.specs.Chain.{follow, walk, ownPieces, stretches}
+use Rattle.rules.specs.Sound.{linkOk, SoundTables}
+use Rattle.rules.proofs.Logic.{if-either}
+use Rattle.rules.proofs.Meets.{meets-one}
+use Rattle.rules.proofs.Hang.{Run, run-split, stretches-append, stretches-length}
+use Rattle.chain.specs.declared.OwnRun.{OwnRun}
+use Rattle.chain.specs.Own.{single, lastLink, ownRun}
+use Rattle.chain.proofs.Links.{follow-good, walk-meets}
+
+-- the link to the last of the pieces, l where there is none
+abbrev pub lastOr : ℕ → List ℕ → ℕ
+lastOr l [] = l
+lastOr l (d ∷ ds) = suc (lastOf d ds)
+
+-- c own pieces, the link l to the last of them, and then the pieces ds, from the link n on
+abbrev runOf : ℕ → ℕ → Tables → ℕ → List ℕ → OwnRun
+runOf c l T n ds = record { count = c + length ds; last = lastOr l ds; next = follow T (length ds) n }
+
+-- c own pieces, the link l to the last of them, and then those from the link n on, at most k
+abbrev pub ownFrom : ℕ → ℕ → ℕ → Tables → ℕ → OwnRun
+ownFrom c l k T n = runOf c l T n (ownPieces k T n)
+
+last-none : (ds : List ℕ) → lastOr 0 ds ≡ lastLink ds
+last-none [] = refl
+last-none (d ∷ ds) = refl
+
+last-more : (l d : ℕ) (ds : List ℕ) → lastOr l (d ∷ ds) ≡ lastOr (suc d) ds
+last-more l d [] = refl
+last-more l d (x ∷ ds) = refl
+
+pub own-start : (k n : ℕ) (T : Tables) → ownFrom 0 0 k T n ≡ ownRun k T n
+unfolding ownRun
+own-start k n T =
+    let own = ownPieces k T n in
+    let e : 0 + length own ≡ length own = omega arith in
+    λ i. record { count = e i; last = last-none own i; next = follow T (length own) n }
+
+-- none is left
+run-none : (c l : ℕ) (T : Tables) (n : ℕ) → runOf c l T n [] ≡ record { count = c; last = l; next = n }
+unfolding follow
+run-none c l T n = let e : c + 0 ≡ c = omega arith in λ i. record { count = e i; last = l; next = n }
+
+none-own : (k n : ℕ) (T : Tables) → single T n ≡ false → ownPieces k T n ≡ []
+unfolding ownPieces if_then_else_
+none-own zero n T e = refl
+none-own (suc k) zero T e = refl
+none-own (suc k) (suc d) T e = rw e
+
+-- the piece that n leads to is not own, or no more are asked for
+pub own-stop : (c l k n : ℕ) (T : Tables) → single T n ≡ false → ownFrom c l k T n ≡ record { count = c; last = l; next = n }
+own-stop c l k n T e = ap (runOf c l T n) (none-own k n T e) ∙ run-none c l T n
+
+pub own-full : (c l k n : ℕ) (T : Tables) → k ≡ 0 → ownFrom c l k T n ≡ record { count = c; last = l; next = n }
+unfolding ownPieces
+own-full c l zero n T e = run-none c l T n
+own-full c l (suc k) n T e = absurd (omega arith)
+
+-- the piece that n leads to is own
+run-more : (c l d : ℕ) (T : Tables) (ds : List ℕ) → runOf c l T (suc d) (d ∷ ds) ≡ runOf (c + 1) (suc d) T (piece T d .next) ds
+unfolding follow
+run-more c l d T ds =
+    let e : c + suc (length ds) ≡ c + 1 + length ds = omega arith in
+    λ i. record { count = e i; last = last-more l d ds i; next = follow T (length ds) (piece T d .next) }
+
+pub own-more : (c l k n : ℕ) (T : Tables) → (k ≡ 0 → ⊥) → single T n ≡ true → ownFrom c l k T n ≡ ownFrom (c + 1) n (k - 1) T (piece T (n - 1) .next)
+unfolding ownPieces if_then_else_
+own-more c l zero n T h e = absurd (h refl)
+own-more c l (suc k) zero T h e = absurd (subst Is (sym e) tt)
+own-more c l (suc k) (suc d) T h e =
+    let a : suc k - 1 ≡ k = omega arith in
+    let b : suc d - 1 ≡ d = omega arith in
+    rw (a, b, e) (run-more c l d T (ownPieces k T (piece T d .next)))
+
+-- only a link to a piece is single
+pub single-link : (n : ℕ) (T : Tables) → single T n ≡ true → n ≡ 0 → ⊥
+single-link zero T e z = subst Is (sym e) tt
+single-link (suc d) T e z = omega arith
+
+-- the count of the piece that n leads to tells
+pub single-is : (n v : ℕ) (T : Tables) → (n ≡ 0 → ⊥) → v ≡ piece T (n - 1) .count → eqb v 1 ≡ single T n
+single-is zero v T h e = absurd (h refl)
+single-is (suc d) v T h e =
+    let b : suc d - 1 ≡ d = omega arith in
+    ap (λ (x : ℕ). eqb x 1) (e ∙ ap (λ (x : ℕ). piece T x .count) b)
+
+-- ---- the own pieces in sound tables
+
+-- the link to the last own piece is good
+last-good : (k n l : ℕ) (T : Tables) → SoundTables T → Is (linkOk T n) → Is (linkOk T l) → Is (linkOk T (lastOr l (ownPieces k T n)))
+unfolding ownPieces follow
+last-good zero n l T S t u = u
+last-good (suc k) zero l T S t u = u
+last-good (suc k) (suc d) l T S t u =
+    let m = piece T d .next in
+    if-either (λ (ds : List ℕ). Is (linkOk T (lastOr l ds))) (eqb (piece T d .count) 1) (d ∷ ownPieces k T m) []
+    (λ _. subst (λ (x : ℕ). Is (linkOk T x)) (sym (last-more l d (ownPieces k T m))) (last-good k m (suc d) T S (follow-good T 1 (suc d) S t) t))
+    (λ _. u)
+
+-- following next from n meets the own pieces, and comes to the link after them
+own-follow : (k n : ℕ) (T : Tables) → Run T n (ownPieces k T n) (follow T (length (ownPieces k T n)) n)
+unfolding ownPieces follow
+own-follow zero n T = refl
+own-follow (suc k) zero T = refl
+own-follow (suc k) (suc d) T =
+    if-either (λ (ds : List ℕ). Run T (suc d) ds (follow T (length ds) (suc d))) (eqb (piece T d .count) 1) (d ∷ ownPieces k T (piece T d .next)) []
+    (λ _. (refl, own-follow k (piece T d .next) T)) (λ _. refl)
+
+-- Both links are good, and what is met from the one after the own pieces is the rest of what is met from n.
+pub record OwnLaws (T : Tables) (n : ℕ) (own : List ℕ) (r : OwnRun) : Type 0 where
+  pub last-ok : Is (linkOk T (r .last))
+  pub next-ok : Is (linkOk T (r .next))
+  pub run : Run T n own (r .next)
+  pub pieces : walk (pieceTotal T) T n ≡ own ++ walk (pieceTotal T) T (r .next)
+  pub rest : drop (r .count) (stretches T (walk (pieceTotal T) T n)) ≡ stretches T (walk (pieceTotal T) T (r .next))
+
+pub own-laws : (k n : ℕ) (T : Tables) → SoundTables T → Is (linkOk T n) → OwnLaws T n (ownPieces k T n) (ownRun k T n)
+unfolding ownRun
+own-laws k n T S t =
+    let P = pieceTotal T in
+    let own = ownPieces k T n in
+    let m = follow T (length own) n in
+    let good = follow-good T (length own) n S t in
+    let (l, e, c) = run-split n m own (walk P T n) (own-follow k n T) (walk-meets T n S t) in
+    let all : walk P T n ≡ own ++ walk P T m = e ∙ ap (λ (x : List ℕ). own ++ x) (meets-one c (walk-meets T m S good)) in
+    record {
+      last-ok = subst (λ (x : ℕ). Is (linkOk T x)) (last-none own) (last-good k n 0 T S t tt);
+      next-ok = good;
+      run = own-follow k n T;
+      pieces = all;
+      rest = ap (λ (x : List ℕ). drop (length own) (stretches T x)) all ∙ ap (drop (length own)) (stretches-append T own (walk P T m))
+          ∙ drop-at (stretches T own) (stretches T (walk P T m)) (length own) (stretches-length T own);
+    }

@@ -1,0 +1,60 @@
+-- `chain::next_vacant` meets its contract: the lowest from `s` on is the one asked for. Assumes nothing.
+use mathlib.Core.Path.{_≡_, refl, sym, _∙_}
+use Prim.Native.Nat.{_-_, _<_}
+use native.Mathlib.Omega.{arith}
+use Rattle.rules.specs.Tables.{slipTotal}
+use Rattle.rules.specs.Bytes.{decode}
+use Rattle.rules.specs.Room.{isVacant}
+use Rattle.tables.proofs.Laws.{whole, total-slips}
+use Rattle.chain.specs.Free.{firstFrom}
+use Rattle.chain.proofs.Free.{is-zero, not-zero, first-end, first-here, first-past}
+use Rattle.chain.proofs.next_vacant.Statement.{statement}
+use Rattle.chain.proofs.next_vacant.Tie as tie
+
+abbrev Inv-loop : tie.InvT-loop
+Inv-loop pool shape from s₀ s = let T = decode pool in firstFrom (isVacant T) s (slipTotal T) ≡ firstFrom (isVacant T) from (slipTotal T)
+
+abbrev μ-loop : tie.MeasureT-loop
+μ-loop pool shape from s₀ s = shape .slips - s
+
+loop-holds : tie.Need-loop-holds Inv-loop μ-loop
+loop-holds c = refl
+
+-- the number looked at is a slip's
+below : (c : tie.Then1 Inv-loop μ-loop) → c .before .before .loop .s < slipTotal (decode (c .before .before .before .before .args .pool .now))
+below c = omega (arith, c .if1 .taken, total-slips (whole (c .before .before .before .before .pre)))
+
+slip-requires : tie.Need-slip-requires Inv-loop μ-loop
+slip-requires c κs = (c .before .before .before .before .pre, c .if1 .taken)
+
+returns : tie.Need-returns Inv-loop μ-loop
+returns c =
+    let z = c .before .before .before .before .before .before in
+    let l = c .before .before .before .before .loop in
+    let T = decode (z .args .pool .now) in
+    sym (first-here (isVacant T) (l .s) (slipTotal T) (below (c .before .before)) (is-zero (c .before .slip .ensures) (c .if2 .taken))) ∙ l .inv
+
+add-s : tie.Need-add-s Inv-loop μ-loop
+add-s c = omega arith
+
+loop-less : tie.Need-loop-less Inv-loop μ-loop
+loop-less c = omega arith
+
+loop-again : tie.Need-loop-again Inv-loop μ-loop
+loop-again c =
+    let z = c .before .before .before .before .before .before in
+    let l = c .before .before .before .before .loop in
+    let T = decode (z .args .pool .now) in
+    sym (first-past (isVacant T) (l .s) (slipTotal T) (below (c .before .before)) (not-zero (c .before .slip .ensures) (c .if2 .left))) ∙ l .inv
+
+returns-2 : tie.Need-returns-2 Inv-loop μ-loop
+returns-2 c =
+    let z = c .before .before .before .before in
+    let l = c .before .before .loop in
+    let T = decode (z .args .pool .now) in
+    let e = total-slips (whole (z .pre)) in
+    sym e ∙ sym (first-end (isVacant T) (l .s) (slipTotal T) (omega (arith, c .if1 .left))) ∙ l .inv
+
+pub next-vacant-spec : {M : Type 1} → statement M
+next-vacant-spec =
+    tie.close (tie.spec Inv-loop μ-loop loop-holds slip-requires returns add-s loop-less loop-again returns-2)

@@ -1,0 +1,26 @@
+-- The own pieces of a chain.
+use mathlib.Core.Bool.{Bool, false}
+use mathlib.Core.List.{List, [], _∷_}
+use Prim.Native.Nat.{ℕ, zero, suc}
+use lib.ListN.{length}
+use lib.Dec.{eqb}
+use Rattle.rules.specs.Basics.{lastOf}
+use Rattle.rules.specs.Tables.{Tables, piece}
+use Rattle.rules.specs.Chain.{follow, ownPieces}
+use Rattle.chain.specs.declared.OwnRun.{OwnRun}
+
+-- the link n leads to a piece of count 1
+abbrev pub single : Tables → ℕ → Bool
+single T zero = false
+single T (suc d) = eqb (piece T d .count) 1
+
+-- the link to the last of the pieces, 0 where there is none
+abbrev pub lastLink : List ℕ → ℕ
+lastLink [] = 0
+lastLink (d ∷ ds) = suc (lastOf d ds)
+
+-- the own pieces from the link n, at most k: how many, the link to the last, and the link after them
+unfoldable pub ownRun : ℕ → Tables → ℕ → OwnRun
+ownRun k T n =
+    let own = ownPieces k T n in
+    record { count = length own; last = lastLink own; next = follow T (length own) n }

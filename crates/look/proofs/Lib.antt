@@ -1,0 +1,4 @@
+-- The laws of look.
+pub mod Copy
+pub mod Perform
+pub mod Places

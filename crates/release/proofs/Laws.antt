@@ -1,0 +1,222 @@
+-- Release over the tables alone: the rule, its single steps, and what is left of it on the way. Assumes nothing.
+use mathlib.Core.Path.{_≡_, refl, sym, ap, subst, _∙_}
+use mathlib.Core.Bool.{Bool, true, false}
+use mathlib.Core.List.{List, [], _∷_}
+use Prim.Native.Nat.{ℕ, zero, suc, pred, _+_, _-_, _≤_, _<_}
+use native.Mathlib.Omega.{arith}
+use lib.ListN.{length, set}
+use lib.Dec.{ltb, ltb→lt, lt→ltb}
+use Rattle.rules.specs.Basics.{Is, if_then_else_, sumTo}
+use Rattle.rules.specs.Tables.{Piece, Tables, blank, slip, piece, bufferCount, headOf, slipTotal, pieceTotal, setSlip, setPiece, setPieceCount, withCount, withNext}
+use Rattle.rules.specs.Chain.{State}
+use Rattle.rules.specs.Bytes.{decode}
+use Rattle.rules.specs.Release.{withTables, lowered, another, freed, releaseIn, release, turned, relinked}
+use Rattle.rules.proofs.Logic.{if-T, if-F, if-either}
+use Rattle.rules.proofs.Moves.{SoundBy, SoundWith, in-range, used-in-range, sum-set, reorder, slip-move, lower-move, buffer-pos, freedTables, free-move}
+use Rattle.rules.proofs.Rank.{low, low-below, lower-rank}
+use Rattle.rules.proofs.Release.{held-pos, some-other, last-one, release-sound}
+use Rattle.tables.specs.declared.Shape.{Shape}
+use Rattle.tables.specs.Shape.{Shaped, Holds, setCount}
+use Rattle.tables.proofs.Laws.{total-slips, onward}
+use Rattle.release.specs.Release.{bare, released, turnedTo, relinkedTo, stepped, stepNext, Held, Releasable}
+
+-- ---- the tables do not depend on storage
+
+releaseIn-tables : (k : ℕ) (S : State) (n : ℕ) → releaseIn k S n .tables ≡ releaseIn k (bare (S .tables)) n .tables
+unfolding releaseIn
+releaseIn-tables zero S n = refl
+releaseIn-tables (suc k) S zero = refl
+releaseIn-tables (suc k) S (suc d) =
+    let T = S .tables in
+    if-either (λ (X : State). X .tables ≡ releaseIn (suc k) (bare T) (suc d) .tables) _ _ _
+    (λ t. ap (λ (X : State). X .tables) (sym (if-T (another T d) (bare (lowered T d)) (releaseIn k (freed (bare T) d) (piece T d .next)) t)))
+    (λ t. releaseIn-tables k (freed S d) (piece T d .next)
+    ∙ ap (λ (X : State). X .tables) (sym (if-F (another T d) (bare (lowered T d)) (releaseIn k (freed (bare T) d) (piece T d .next)) t)))
+
+pub release-tables : (S : State) (n : ℕ) → release S n .tables ≡ released (S .tables) n
+unfolding release released
+release-tables S n = releaseIn-tables (pieceTotal (S .tables)) S n
+
+pub turned-tables : (S : State) (s v : ℕ) → turned S s v .tables ≡ turnedTo (S .tables) s v
+unfolding turned turnedTo released
+turned-tables S s v = release-tables (withTables S (setSlip (S .tables) s v)) (headOf (S .tables) s)
+
+pub relinked-tables : (S : State) (l n : ℕ) → relinked S l n .tables ≡ relinkedTo (S .tables) l n
+unfolding relinked relinkedTo released
+relinked-tables S l n = let T = S .tables in release-tables (withTables S (setPiece T l (withNext (piece T l) n))) (piece T l .next)
+
+-- the two stores, then a release
+pub turned-is : (T : Tables) (s v : ℕ) → turnedTo T s v ≡ released (setSlip T s v) (headOf T s)
+unfolding turned turnedTo released
+turned-is T s v = refl
+
+pub relinked-is : (T : Tables) (l n : ℕ) → relinkedTo T l n ≡ released (setPiece T l (withNext (piece T l) n)) (piece T l .next)
+unfolding relinked relinkedTo released
+relinked-is T l n = refl
+
+-- a release leaves the tables sound but for the other links held
+pub released-sound : {fl : List ℕ} (T : Tables) (n : ℕ) → SoundWith (n ∷ fl) T → SoundWith fl (released T n)
+unfolding released
+released-sound T n h = release-sound (bare T) n h
+
+-- no link can be released whatever else is held
+pub releasable-none : {fl : List ℕ} {T : Tables} → SoundWith fl T → Releasable T 0
+releasable-none {fl} h = record { others = fl; sound = (h .0, reorder (λ d. omega arith) (h .1)) }
+
+releaseIn-none : (k : ℕ) (T : Tables) → releaseIn k (bare T) 0 .tables ≡ T
+unfolding releaseIn
+releaseIn-none zero T = refl
+releaseIn-none (suc k) T = refl
+
+pub released-none : (T : Tables) → released T 0 ≡ T
+unfolding release released
+released-none T = releaseIn-none (pieceTotal T) T
+
+-- ---- a single step
+
+if-pair : {A B : Type 0} (P : A → B → Type 0) (b : Bool) (m n : A) (x y : B) → (Is b → P m x) → ((Is b → ⊥) → P n y) → P (if b then m else n) (if b then x else y)
+unfolding if_then_else_
+if-pair P true m n x y f g = f tt
+if-pair P false m n x y f g = g (λ t. t)
+
+-- what holds of a lowered count and of a freed piece holds after a step
+by-step : (P : Tables → ℕ → Type 0) (T : Tables) (d : ℕ) → (Is (another T d) → P (lowered T d) 0)
+    → ((Is (another T d) → ⊥) → P (freedTables T d) (piece T d .next)) → P (stepped T d) (stepNext T d)
+unfolding stepped stepNext
+by-step P T d f g = if-pair P (another T d) (lowered T d) (freedTables T d) 0 (piece T d .next) f g
+
+module _ (T : Tables) (d : ℕ) {n : ℕ} {h : Shape} (counted : n ≡ piece T d .count) where
+  -- more than one reference: the count alone changes
+  pub step-lowered : {q : List ℕ} → 1 < n → Holds q h (setPiece T d (withCount (piece T d) (n - 1))) → Holds q h (stepped T d) × (0 ≡ stepNext T d)
+  unfolding stepped stepNext
+  step-lowered more is =
+      let t : Is (another T d) = lt→ltb 1 (piece T d .count) (omega arith) in
+      let e : setPiece T d (withCount (piece T d) (n - 1)) ≡ lowered T d = ap (λ (x : ℕ). setPiece T d (withCount (piece T d) (x - 1))) counted in
+      (record { shaped = is .shaped; is = is .is ∙ e ∙ sym (if-T (another T d) _ _ t) }, sym (if-T (another T d) _ _ t))
+
+  -- the last reference: its buffer's count, then the piece
+  pub step-freed : {p q : List ℕ} {b m x : ℕ} → n ≤ 1 → b ≡ piece T d .buffer → m ≡ bufferCount T b → x ≡ piece T d .next
+      → Holds p h (setCount T b (m - 1)) → Holds q h (setPiece (decode p) d blank) → Holds q h (stepped T d) × (x ≡ stepNext T d)
+  unfolding stepped stepNext
+  step-freed {p} {q} {b} {m} {x} last lies users next was is =
+      let t : Is (another T d) → ⊥ = λ y. omega (arith, some-other T d y) in
+      let now = onward was (λ (U : Tables). setPiece U d blank) is in
+      let e : setPieceCount T d blank b (m - 1) ≡ freedTables T d = rw (users, lies) in
+      (record { shaped = now .shaped; is = now .is ∙ e ∙ sym (if-F (another T d) _ _ t) }, next ∙ sym (if-F (another T d) _ _ t))
+
+-- ---- what is left of a release
+
+-- A release of the link m in the tables O has come to the tables T, and the link n is still to be released.
+pub record Left (O : Tables) (m : ℕ) (T : Tables) (n : ℕ) : Type 0 where
+  pub most : ℕ
+  pub rank : ℕ → ℕ
+  pub others : List ℕ
+  pub sound : SoundBy rank (n ∷ others) T
+  pub below : (d : ℕ) → n ≡ suc d → rank d < most
+  pub is : releaseIn most (bare T) n .tables ≡ released O m
+
+-- the references that the pieces count, which a step makes fewer
+pub references : Tables → ℕ
+references T = sumTo (length (T .pieces)) (λ c. piece T c .count)
+
+pub starts : {T : Tables} {n : ℕ} → Releasable T n → Left T n T n
+unfolding release released
+starts {T} {n} r =
+    let rank = r .sound .0 in
+    let P = pieceTotal T in
+    record {
+      most = P;
+      rank = low P rank;
+      others = r .others;
+      sound = lower-rank (r .sound .1);
+      below = λ d q. low-below P rank d (used-in-range T d (held-pos d (subst (λ (x : ℕ). SoundBy rank (x ∷ r .others) T) q (r .sound .1))));
+      is = refl;
+    }
+
+pub ends : {O T : Tables} {m n : ℕ} → Left O m T n → n ≡ 0 → T ≡ released O m
+ends {O} {T} {m} {n} l z = sym (releaseIn-none (l .most) T) ∙ ap (λ (x : ℕ). releaseIn (l .most) (bare T) x .tables) (sym z) ∙ l .is
+
+held-of : {rank : ℕ → ℕ} {fl : List ℕ} (T : Tables) (d : ℕ) → SoundBy rank (suc d ∷ fl) T → Held T d
+held-of T d S =
+    let u = held-pos d S in
+    let b = buffer-pos d u S in
+    record { inside = used-in-range T d u; counted = u; buffer-inside = in-range (T .counts) 0 (λ n. n) (piece T d .buffer) refl b; buffer-counted = b }
+
+fewer : (T : Tables) (d : ℕ) → Held T d → references (stepped T d) < references T
+unfolding references
+fewer T d h =
+    by-step (λ X _. references X < references T) T d
+    (λ _. omega (arith, h .counted, sum-set (T .pieces) d (withCount (piece T d) (piece T d .count - 1)) blank (λ q. q .count) (h .inside)))
+    (λ _. omega (arith, h .counted, sum-set (T .pieces) d blank blank (λ q. q .count) (h .inside)))
+
+stepped-left : (k : ℕ) {rank : ℕ → ℕ} {fl : List ℕ} {O : Tables} {m : ℕ} (T : Tables) (d : ℕ) → SoundBy rank (suc d ∷ fl) T → rank d < k
+    → releaseIn k (bare T) (suc d) .tables ≡ released O m → Left O m (stepped T d) (stepNext T d)
+unfolding releaseIn
+stepped-left zero T d S b e = absurd (omega arith)
+stepped-left (suc k) {rank} {fl} {O} {m} T d S b e =
+    let more : State = releaseIn k (freed (bare T) d) (piece T d .next) in
+    by-step (Left O m) T d
+    (λ t. record {
+      most = k;
+      rank = rank;
+      others = fl;
+      sound = reorder (λ x. omega arith) (lower-move d (some-other T d t) S);
+      below = λ x q. absurd (omega arith);
+      is = releaseIn-none k (lowered T d) ∙ sym (ap (λ (X : State). X .tables) (if-T (another T d) (bare (lowered T d)) more t)) ∙ e;
+    })
+    (λ t. record {
+      most = k;
+      rank = rank;
+      others = fl;
+      sound = free-move d (last-one T d (held-pos d S) t) S;
+      below = λ x q. omega (arith, S .falls d x q);
+      is = sym (ap (λ (X : State). X .tables) (if-F (another T d) (bare (lowered T d)) more t)) ∙ e;
+    })
+
+-- what a step asks, and what it leaves: less is left, and fewer references
+pub record Onward (O : Tables) (m : ℕ) (T : Tables) (d : ℕ) : Type 0 where
+  pub held : Held T d
+  pub left : Left O m (stepped T d) (stepNext T d)
+  pub less : references (stepped T d) < references T
+
+pub goes : {O T : Tables} {m : ℕ} (n : ℕ) → Left O m T n → (n ≡ 0 → ⊥) → Onward O m T (n - 1)
+goes zero l z = absurd (z refl)
+goes {O} {T} {m} (suc d) l z =
+    let h = held-of T d (l .sound) in
+    subst (Onward O m T) (omega arith) (record { held = h; left = stepped-left (l .most) T d (l .sound) (l .below d refl) (l .is); less = fewer T d h })
+
+-- ---- a slip's entry and a piece's next
+
+-- the link that an entry holds
+held-none : {v n : ℕ} → v ≡ n → v ≡ 0 → pred n ≡ 0
+held-none e z = omega arith
+
+held-some : {v n : ℕ} → v ≡ n → (v ≡ 0 → ⊥) → v - 1 ≡ pred n
+held-some e z = omega arith
+
+module _ (T : Tables) (s v : ℕ) {p : List ℕ} {h : Shape} {old : ℕ} (was : Holds p h (setSlip T s v)) (held : old ≡ slip T s) where
+  pub turn-none : old ≡ 0 → Holds p h (turnedTo T s v)
+  turn-none z =
+      let e : headOf T s ≡ 0 = held-none held z in
+      record { shaped = was .shaped; is = was .is ∙ sym (turned-is T s v ∙ ap (released (setSlip T s v)) e ∙ released-none (setSlip T s v)) }
+
+  module _ (some : old ≡ 0 → ⊥) where
+    pub turn-left : s < slipTotal T → Releasable T (pred v) → Releasable (decode p) (old - 1)
+    turn-left l r =
+        let e : old - 1 ≡ headOf T s = held-some held some in
+        rw (was .is, e) (record { others = r .others; sound = (r .sound .0, slip-move s v l (r .sound .1)) })
+
+    pub turn-some : {q : List ℕ} → Holds q h (released (decode p) (old - 1)) → Holds q h (turnedTo T s v)
+    turn-some now =
+        let e : old - 1 ≡ headOf T s = held-some held some in
+        let on = onward was (λ (U : Tables). released U (old - 1)) now in
+        record { shaped = on .shaped; is = on .is ∙ ap (released (setSlip T s v)) e ∙ sym (turned-is T s v) }
+
+module _ (T : Tables) (l n : ℕ) {p : List ℕ} {h : Shape} {old : ℕ} (was : Holds p h (setPiece T l (withNext (piece T l) n))) (held : old ≡ piece T l .next) where
+  pub relink-left : Releasable (setPiece T l (withNext (piece T l) n)) (piece T l .next) → Releasable (decode p) old
+  relink-left r = rw (was .is, held) r
+
+  pub relink-done : {q : List ℕ} → Holds q h (released (decode p) old) → Holds q h (relinkedTo T l n)
+  relink-done now =
+      let on = onward was (λ (U : Tables). released U old) now in
+      record { shaped = on .shaped; is = on .is ∙ ap (released (setPiece T l (withNext (piece T l) n))) held ∙ sym (relinked-is T l n) }

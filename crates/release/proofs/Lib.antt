@@ -1,0 +1,2 @@
+-- The laws of release.
+pub mod Laws

@@ -1,0 +1,2 @@
+-- What the contracts of release cite.
+pub mod Release

@@ -1,0 +1,62 @@
+// Release of references: what no reference leads to is freed.
+use kinds::PieceNumber;
+use kinds::SlipNumber;
+use tables::Shape;
+ghost use mathlib.Core.Path.{_≡_};
+ghost use Prim.Native.Nat.{_<_, pred};
+ghost use Rattle.rules.specs.Tables.{piece, setPiece, withNext};
+ghost use Rattle.rules.specs.Bytes.{decode};
+ghost use Rattle.tables.specs.Shape.{Shaped, Holds};
+ghost use Rattle.release.specs.Release.{Held, Releasable, stepped, stepNext, released, turnedTo, relinkedTo};
+
+// Gives up one reference to piece `d` and returns the link to give up next, 0 none: a count lowered, or a descriptor freed.
+pub fn step(pool: &mut [u8], shape: Shape, d: PieceNumber) -> u16
+    requires { ⌜ Shaped (now pool) shape × Held (decode (now pool)) (d .0) ⌝ }
+    ensures { λ r. ⌜ Holds (now (pool .exit)) shape (stepped (decode (now (pool .entry))) (d .0)) × (r ≡ stepNext (decode (now (pool .entry))) (d .0)) ⌝ }
+{
+    let n = tables::piece_count(pool, shape, d);
+    if 1 < n {
+        tables::set_piece_count(pool, shape, d, n - 1);
+        return 0;
+    }
+    let b = tables::piece_buffer(pool, shape, d);
+    let next = tables::piece_next(pool, shape, d);
+    let m = tables::buffer_count(pool, shape, b);
+    tables::set_buffer_count(pool, shape, b, m - 1);
+    tables::clear_piece(pool, shape, d);
+    next
+}
+
+// Releases a reference to `link`, 0 none and 1 + d piece d: bf_afree, as a loop over single steps.
+pub fn release(pool: &mut [u8], shape: Shape, link: u16)
+    requires { ⌜ Shaped (now pool) shape × Releasable (decode (now pool)) link ⌝ }
+    ensures { λ _. ⌜ Holds (now (pool .exit)) shape (released (decode (now (pool .entry))) link) ⌝ }
+{
+    let mut next = link;
+    while next != 0 {
+        next = step(pool, shape, PieceNumber(next - 1));
+    }
+}
+
+// Slip `s` takes the entry `v`, and the link that it held is released: a handle turned to another chain.
+pub fn turn(pool: &mut [u8], shape: Shape, s: SlipNumber, v: u16)
+    requires { ⌜ Shaped (now pool) shape × (s .0 < shape .slips) × Releasable (decode (now pool)) (pred v) ⌝ }
+    ensures { λ _. ⌜ Holds (now (pool .exit)) shape (turnedTo (decode (now (pool .entry))) (s .0) v) ⌝ }
+{
+    let old = tables::slip(pool, shape, s);
+    tables::set_slip(pool, shape, s, v);
+    if old == 0 {
+        return;
+    }
+    release(pool, shape, old - 1);
+}
+
+// Piece `l` takes the next `n`, and its old next is released: a tail put in another's place.
+pub fn relink(pool: &mut [u8], shape: Shape, l: PieceNumber, n: u16)
+    requires { ⌜ Shaped (now pool) shape × (l .0 < shape .pieces) × Releasable (setPiece (decode (now pool)) (l .0) (withNext (piece (decode (now pool)) (l .0)) n)) (piece (decode (now pool)) (l .0) .next) ⌝ }
+    ensures { λ _. ⌜ Holds (now (pool .exit)) shape (relinkedTo (decode (now (pool .entry))) (l .0) n) ⌝ }
+{
+    let old = tables::piece_next(pool, shape, l);
+    tables::set_piece_next(pool, shape, l, n);
+    release(pool, shape, old);
+}

@@ -1,0 +1,2 @@
+-- The laws of slp.
+pub mod Laws

@@ -1,0 +1,41 @@
+-- `slp::slp_length` meets its contract. Assumes nothing.
+use borrow.Author.Needs.{needs}
+use Rattle.rules.specs.Step.{Length}
+use Rattle.slp.proofs.Laws.{torn-answer, opened, answered}
+use Rattle.slp.proofs.slp_length.Statement.{statement}
+use Rattle.slp.proofs.slp_length.Tie as tie
+
+audit-requires : tie.Need-audit-requires
+audit-requires c κs = search needs
+
+refused-requires : tie.Need-refused-requires
+refused-requires c κs = search needs
+
+returns : tie.Need-returns
+returns c =
+    let t = c .before in
+    let u = t .before .before in
+    let a = u .before .before .before .args in
+    torn-answer (a .storage .now) (u .audit .ensures) (t .if1 .taken) (Length (a .slip)) (c .refused .ensures)
+
+length-requires : tie.Need-length-requires
+length-requires c κs =
+    let e = c .before in
+    let u = e .before .before in
+    opened (u .before .before .before .args .storage .now) (u .audit .ensures) (e .if1 .left)
+
+answer-of-requires : tie.Need-answer-of-requires
+answer-of-requires c κs = search needs
+
+returns-2 : tie.Need-returns-2
+returns-2 c =
+    let l = c .before in
+    let e = l .before .before in
+    let u = e .before .before in
+    let a = u .before .before .before .args in
+    answered (a .storage .now) (u .audit .ensures) (e .if1 .left) (l .length .result) (Length (a .slip)) (c .answer-of .ensures) (l .length .ensures .0 (a .storage .now))
+
+pub slp-length-spec : {M : Type 1} → statement M
+slp-length-spec =
+    tie.close
+    (tie.spec audit-requires refused-requires returns length-requires answer-of-requires returns-2)

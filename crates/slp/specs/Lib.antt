@@ -1,0 +1,2 @@
+-- What the contracts of slp cite.
+pub mod Result

@@ -1,0 +1,152 @@
+// The calls of the C driver: each audits the lent pool and then does its operation.
+use kinds::Answer;
+use kinds::Outcome;
+use kinds::Refusal;
+use kinds::SlipNumber;
+use look::Place;
+use tables::Shape;
+ghost use mathlib.Core.Path.{_≡_};
+ghost use mathlib.Core.List.{[]};
+ghost use Prim.Native.Nat.{_<_, _^_};
+ghost use Rattle.kinds.specs.Refusal.{refusalCode};
+ghost use Rattle.rules.specs.Rule.{noView};
+ghost use Rattle.rules.specs.Step.{Audit, Length, Read, Show, Open, Do, step};
+ghost use Rattle.look.specs.Place.{viewAt};
+ghost use Rattle.look.specs.Result.{lent};
+ghost use Rattle.slp.specs.Result.{resultOf, shownAs, shownOf};
+
+// What show answers to C: the view is `number` bytes from `start` on, of the scratch if `in_scratch` is 1, else of storage.
+#[repr(C)]
+pub struct Shown {
+    pub code: u16,
+    pub number: u32,
+    pub in_scratch: u16,
+    pub start: u32,
+}
+
+// The answer of a call that is refused.
+fn refused(why: Refusal) -> Answer
+    ensures { λ r. ⌜ r ≡ record { code = refusalCode why; number = 0 } ⌝ }
+{
+    kinds::answer_of(Outcome::Refused(why))
+}
+
+// What show answers, as C receives it.
+fn shown_of(r: look::Shown) -> Shown
+    requires { ⌜ viewAt (r .place) .start < 2 ^ 32 ⌝ }
+    ensures { λ x. ⌜ x ≡ shownAs r ⌝ }
+{
+    let outcome = r.outcome;
+    let place = r.place;
+    let a = kinds::answer_of(outcome);
+    match place {
+        Place::Storage(start) => Shown {
+            code: a.code,
+            number: a.number,
+            in_scratch: 0,
+            start: start as u32,
+        },
+        Place::Scratch => Shown {
+            code: a.code,
+            number: a.number,
+            in_scratch: 1,
+            start: 0,
+        },
+    }
+}
+
+// open: writes the fresh pool.
+#[no_mangle]
+pub extern "C" fn slp_open(
+    pool: &mut [u8],
+    storage: &[u8],
+    buffers: u16,
+    pieces: u16,
+    slips: u16,
+) -> Answer
+    ensures { λ r. ⌜ resultOf r (now (pool .exit)) (now (storage .entry)) [] noView ≡ step (Open buffers pieces slips) (lent (now (pool .entry)) (now (storage .entry))) ⌝ }
+{
+    let shape = Shape {
+        buffers,
+        pieces,
+        slips,
+    };
+    if !audit::sized(shape, pool.len(), storage.len()) {
+        return refused(Refusal::Counts);
+    }
+    tables::fresh(pool, shape);
+    Answer { code: 0, number: 0 }
+}
+
+// audit: 0 if the pool is sound.
+#[no_mangle]
+pub extern "C" fn slp_audit(pool: &[u8], storage: &[u8]) -> Answer
+    ensures { λ r. ⌜ resultOf r (now (pool .entry)) (now (storage .entry)) [] noView ≡ step (Do Audit) (lent (now (pool .entry)) (now (storage .entry))) ⌝ }
+{
+    let a = audit::audit(pool, storage.len());
+    if !a.sound {
+        return refused(Refusal::Torn);
+    }
+    Answer { code: 0, number: 0 }
+}
+
+// length: the byte count of a chain.
+#[no_mangle]
+pub extern "C" fn slp_length(pool: &[u8], storage: &[u8], slip: u16) -> Answer
+    ensures { λ r. ⌜ resultOf r (now (pool .entry)) (now (storage .entry)) [] noView ≡ step (Do (Length slip)) (lent (now (pool .entry)) (now (storage .entry))) ⌝ }
+{
+    let a = audit::audit(pool, storage.len());
+    if !a.sound {
+        return refused(Refusal::Torn);
+    }
+    let shape = a.shape;
+    kinds::answer_of(look::length(pool, shape, SlipNumber(slip)))
+}
+
+// read: copies bytes of a chain to the front of a lent output.
+#[no_mangle]
+pub extern "C" fn slp_read(
+    pool: &[u8],
+    storage: &[u8],
+    slip: u16,
+    offset: u32,
+    length: u32,
+    output: &mut [u8],
+) -> Answer
+    ensures { λ r. ⌜ resultOf r (now (pool .entry)) (now (storage .entry)) (now (output .exit)) noView ≡ step (Do (Read slip offset length (now (output .entry)))) (lent (now (pool .entry)) (now (storage .entry))) ⌝ }
+{
+    let a = audit::audit(pool, storage.len());
+    if !a.sound {
+        return refused(Refusal::Torn);
+    }
+    let shape = a.shape;
+    let o = look::read(
+        pool,
+        shape,
+        storage,
+        SlipNumber(slip),
+        offset,
+        length,
+        output,
+    );
+    kinds::answer_of(o)
+}
+
+// show: the first bytes of a chain in one stretch, of storage or of a lent scratch.
+#[no_mangle]
+pub extern "C" fn slp_show(
+    pool: &[u8],
+    storage: &[u8],
+    slip: u16,
+    n: u32,
+    scratch: &mut [u8],
+) -> Shown
+    ensures { λ r. ⌜ shownOf r (now (pool .entry)) (now (storage .entry)) (now (scratch .exit)) ≡ step (Do (Show slip n (now (scratch .entry)))) (lent (now (pool .entry)) (now (storage .entry))) ⌝ }
+{
+    let a = audit::audit(pool, storage.len());
+    if !a.sound {
+        return shown_of(look::unseen(Refusal::Torn));
+    }
+    let shape = a.shape;
+    shown_of(look::show(pool, shape, storage, SlipNumber(slip), n, scratch))
+}
