@@ -6,6 +6,7 @@ use Prim.Native.Nat.{ℕ, _+_, _≤_, _<_}
 use native.Mathlib.Omega.{arith}
 use lib.ListN.{length, take, drop}
 use lib.Dec.{eqb, eqb→eq, ltb, ltb→lt, lt→ltb}
+use borrow.Author.Tests.{not-true, not-false}
 use Rattle.kinds.specs.declared.SlipState.{SlipState}
 use Rattle.kinds.specs.declared.Refusal.{Refusal}
 use Rattle.kinds.specs.declared.Refusal.the-variants.{Slip, Range, Narrow}
@@ -49,16 +50,12 @@ module _ (o : Operation) (m : Lent) where
 
 -- ---- a slip is named, by the test that the code makes
 
-not-twice : (b : Bool) → not (not b) ≡ b
-not-twice true = refl
-not-twice false = refl
-
 module _ (T : Tables) (s : ℕ) {b : Bool} (test : b ≡ not (unnamed T s)) where
-  pub is-unnamed : not b ≡ true → Is (unnamed T s)
-  is-unnamed t = subst Is (sym (sym (not-twice (unnamed T s)) ∙ ap not (sym test) ∙ t)) tt
+  pub is-unnamed : b ≡ false → Is (unnamed T s)
+  is-unnamed q = subst Is (sym (not-false (unnamed T s) (sym test ∙ q))) tt
 
-  pub is-named : not b ≡ false → Is (unnamed T s) → ⊥
-  is-named t u = subst Is (sym (not-twice (unnamed T s)) ∙ ap not (sym test) ∙ t) u
+  pub is-named : b ≡ true → Is (unnamed T s) → ⊥
+  is-named q u = subst Is (not-true (unnamed T s) (sym test ∙ q)) u
 
 -- a named slip is one of the pool's
 pub named-below : {p : List ℕ} {h : Shape} → Shaped p h → (s : ℕ) → (Is (unnamed (decode p) s) → ⊥) → s < h .slips

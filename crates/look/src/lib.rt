@@ -149,10 +149,10 @@ pub fn length(pool: &[u8], shape: Shape, s: SlipNumber) -> Outcome
     ensures { λ r. ⌜ ((st : List ℕ) → resultOf r (now (pool .entry)) st [] noView ≡ perform (Length (s .0)) (lent (now (pool .entry)) st)) ⌝ }
     ensures { λ r. ⌜ Leaves r (stateOf (slip (decode (now (pool .entry))) (s .0))) ⌝ }
 {
-    if !chain::held(pool, shape, s) {
-        return Outcome::Refused(Refusal::Slip);
+    if chain::held(pool, shape, s) {
+        return done(pool, shape, s, chain::chain_length(pool, shape, s));
     }
-    done(pool, shape, s, chain::chain_length(pool, shape, s))
+    Outcome::Refused(Refusal::Slip)
 }
 
 // Copies `n` bytes from `off` on of the chain of slip `s` to the front of `output`.
@@ -173,7 +173,8 @@ pub fn read(
         return Outcome::Refused(Refusal::Slip);
     }
     let length = chain::chain_length(pool, shape, s) as u64;
-    if length < off as u64 + n as u64 {
+    let end = off as u64 + n as u64;
+    if length < end {
         return Outcome::Refused(Refusal::Range);
     }
     if output.len() < n as usize {

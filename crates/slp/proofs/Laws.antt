@@ -1,11 +1,10 @@
 -- From the audit's verdict to what an operation asks, and from the operation to the call. Assumes nothing.
 use mathlib.Core.Path.{_≡_, refl, sym, ap, subst, _∙_}
-use mathlib.Core.Bool.{Bool, true, false, not}
+use mathlib.Core.Bool.{Bool, true, false}
 use mathlib.Core.List.{List, []}
 use Prim.Native.Nat.{ℕ, _<_, _^_}
 use native.Mathlib.Omega.{arith}
 use lib.ListN.{length}
-use borrow.Author.Tests.{not-true, not-false}
 use Rattle.kinds.specs.declared.Refusal.the-variants.{Counts, Torn}
 use Rattle.kinds.specs.declared.Outcome.{Outcome}
 use Rattle.kinds.specs.declared.Outcome.the-variants.{Refused}
@@ -50,10 +49,10 @@ shown-at r p e f = λ i. record { code = e i .code; number = e i .number; in_scr
 -- ---- the audit's verdict
 
 module _ {p : List ℕ} (st : List ℕ) {r : Audited} (v : Verdict p (length st) r) where
-  module _ (q : not (r .sound) ≡ true) where
+  module _ (q : r .sound ≡ false) where
     -- a torn pool is refused
     torn-step : (o : Operation) → refused (refusalCode Torn) (lent p st) (lentOut o) ≡ step (Do o) (lent p st)
-    torn-step o = sym (step-torn o (lent p st) (λ t. subst Is (verdict-torn v (not-true (r .sound) q) st refl) t))
+    torn-step o = sym (step-torn o (lent p st) (λ t. subst Is (verdict-torn v q st refl) t))
 
     pub torn-answer : {a : Answer} (o : Operation) → a ≡ record { code = refusalCode Torn; number = 0 } → resultOf a p st (lentOut o) noView ≡ step (Do o) (lent p st)
     torn-answer o e = ap (λ (x : Answer). resultOf x p st (lentOut o) noView) e ∙ torn-step o
@@ -61,24 +60,25 @@ module _ {p : List ℕ} (st : List ℕ) {r : Audited} (v : Verdict p (length st)
     pub torn-shown : {x : Shown} {y : look.Shown} (o : Operation) → x ≡ shownAs y → y ≡ record { outcome = Refused Torn; place = Storage 0 } → shownOf x p st (lentOut o) ≡ step (Do o) (lent p st)
     torn-shown o e f = ap (λ (x : Shown). shownOf x p st (lentOut o)) (e ∙ ap shownAs f) ∙ torn-step o
 
-  module _ (q : not (r .sound) ≡ false) where
-    -- a sound one is what the operation asks
+  module _ (q : r .sound ≡ true) where
+    -- a sound pool is what the operation asks
     pub opened : Opened p (r .shape)
-    opened = record { shaped = verdict-shaped v (not-false (r .sound) q); sound = verdict-sound v (not-false (r .sound) q) st refl .tables-ok }
+    opened = record { shaped = verdict-shaped v q; sound = verdict-sound v q st refl .tables-ok }
 
     pub fitted : length st ≡ storageLength (r .shape .buffers)
-    fitted = verdict-header v (not-false (r .sound) q) st refl .storage-long ∙ ap storageLength (sym (opened .shaped .buffers))
+    fitted = verdict-header v q st refl .storage-long ∙ ap storageLength (sym (opened .shaped .buffers))
 
     -- and the call is the operation
     pub sound-step : (o : Operation) → perform o (lent p st) ≡ step (Do o) (lent p st)
-    sound-step o = sym (step-sound-pool o (lent p st) (verdict-is v (not-false (r .sound) q) st refl))
+    sound-step o = sym (step-sound-pool o (lent p st) (verdict-is v q st refl))
 
-    pub answered : {a : Answer} (o : Outcome) {out : List ℕ} (op : Operation) → a ≡ answerOf o → seen.resultOf o p st out noView ≡ perform op (lent p st) → resultOf a p st out noView ≡ step (Do op) (lent p st)
-    answered {a} o {out} op e f = ap (λ (x : Answer). resultOf x p st out noView) e ∙ f ∙ sound-step op
+    pub answered : {a : Answer} (o : Outcome) {p′ st′ out : List ℕ} (op : Operation) → a ≡ answerOf o → seen.resultOf o p′ st′ out noView ≡ perform op (lent p st)
+        → resultOf a p′ st′ out noView ≡ step (Do op) (lent p st)
+    answered {a} o {p′} {st′} {out} op e f = ap (λ (x : Answer). resultOf x p′ st′ out noView) e ∙ f ∙ sound-step op
 
     -- storage has at most the bytes of the most buffers, so a place in it fits 32 bits
     pub start-small : (after : List ℕ) (place : Place) (n : ℕ) → Lies st after place n → viewAt place .start < 2 ^ 32
-    start-small after (Storage a) n l = let h = verdict-header v (not-false (r .sound) q) st refl in omega (arith, h .storage-long, h .most-buffers)
+    start-small after (Storage a) n l = let h = verdict-header v q st refl in omega (arith, h .storage-long, h .most-buffers)
     start-small after Scratch n l = omega arith
 
     pub shown : {x : Shown} {y : look.Shown} {s n : ℕ} {sc after : List ℕ} → x ≡ shownAs y → Seen y p st s n sc after → shownOf x p st after ≡ step (Do (Show s n sc)) (lent p st)
@@ -94,23 +94,23 @@ module _ {p : List ℕ} (st : List ℕ) {r : Audited} (v : Verdict p (length st)
 -- ---- open
 
 module _ (p st : List ℕ) (B P S : ℕ) {b : Bool} (test : b ≡ sizesOk B P S (length p) (length st)) where
-  is-openable : not b ≡ false → Is (openable B P S (lent p st))
+  is-openable : b ≡ true → Is (openable B P S (lent p st))
   unfolding openable
-  is-openable q = subst Is (sym (not-false b q) ∙ test) tt
+  is-openable q = subst Is (sym q ∙ test) tt
 
-  not-openable : not b ≡ true → Is (openable B P S (lent p st)) → ⊥
+  not-openable : b ≡ false → Is (openable B P S (lent p st)) → ⊥
   unfolding openable
-  not-openable q t = subst Is (sym test ∙ not-true b q) t
+  not-openable q t = subst Is (sym test ∙ q) t
 
   -- a count out of range, or a length that is not the one it asks
-  pub open-no : {a : Answer} → not b ≡ true → a ≡ record { code = refusalCode Counts; number = 0 } → resultOf a p st [] noView ≡ step (Open B P S) (lent p st)
+  pub open-no : {a : Answer} → b ≡ false → a ≡ record { code = refusalCode Counts; number = 0 } → resultOf a p st [] noView ≡ step (Open B P S) (lent p st)
   unfolding step
   open-no q e = ap (λ (x : Answer). resultOf x p st [] noView) e ∙ sym (if-F (openable B P S (lent p st)) _ _ (not-openable q))
 
-  pub open-length : not b ≡ false → length p ≡ poolLength B P S
+  pub open-length : b ≡ true → length p ≡ poolLength B P S
   unfolding openable
   open-length q = let f = simp (and-is, eqb-is, leb-is) at (is-openable q) in f .1 .1 .1 .0
 
-  pub open-done : {after : List ℕ} → not b ≡ false → after ≡ encode (freshTables B P S) → resultOf (record { code = 0; number = 0 }) after st [] noView ≡ step (Open B P S) (lent p st)
+  pub open-done : {after : List ℕ} → b ≡ true → after ≡ encode (freshTables B P S) → resultOf (record { code = 0; number = 0 }) after st [] noView ≡ step (Open B P S) (lent p st)
   unfolding step
   open-done q e = (λ i. record { code = 0; number = 0; pool = e i; storage = st; output = []; view = noView }) ∙ sym (if-T (openable B P S (lent p st)) _ _ (is-openable q))

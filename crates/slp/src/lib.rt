@@ -83,11 +83,10 @@ pub extern "C" fn slp_open(
 pub extern "C" fn slp_audit(pool: &[u8], storage: &[u8]) -> Answer
     ensures { λ r. ⌜ resultOf r (now (pool .entry)) (now (storage .entry)) [] noView ≡ step (Do Audit) (lent (now (pool .entry)) (now (storage .entry))) ⌝ }
 {
-    let a = audit::audit(pool, storage.len());
-    if !a.sound {
-        return refused(Refusal::Torn);
+    if audit::audit(pool, storage.len()).sound {
+        return Answer { code: 0, number: 0 };
     }
-    Answer { code: 0, number: 0 }
+    refused(Refusal::Torn)
 }
 
 // length: the byte count of a chain.

@@ -12,16 +12,9 @@ use Rattle.look.proofs.length.Tie as tie
 held-requires : tie.Need-held-requires
 held-requires c κs = search needs
 
-returns : tie.Need-returns
-returns c =
-    let z = c .before .before .before in
-    let p = z .args .pool .now in
-    let s = z .args .s .0 in
-    (λ st. length-slip p st s (is-unnamed (decode p) s (c .before .held .ensures) (c .if1 .taken)), tt)
-
 -- the slip is named
-named-here : (c : tie.Else1) → Is (unnamed (decode (c .before .before .before .args .pool .now)) (c .before .before .before .args .s .0)) → ⊥
-named-here c = let z = c .before .before .before in is-named (decode (z .args .pool .now)) (z .args .s .0) (c .before .held .ensures) (c .if1 .left)
+named-here : (c : tie.Then1) → Is (unnamed (decode (c .before .before .before .args .pool .now)) (c .before .before .before .args .s .0)) → ⊥
+named-here c = let z = c .before .before .before in is-named (decode (z .args .pool .now)) (z .args .s .0) (c .before .held .ensures) (c .if1 .taken)
 
 chain-length-requires : tie.Need-chain-length-requires
 chain-length-requires c κs =
@@ -33,8 +26,8 @@ done-requires c κs =
     let z = c .before .before .before .before in
     (z .pre .shaped, named-below (z .pre .shaped) (z .args .s .0) (named-here (c .before)))
 
-returns-2 : tie.Need-returns-2
-returns-2 c =
+returns : tie.Need-returns
+returns c =
     let e = c .before .before in
     let k = e .before .before in
     let z = k .before in
@@ -42,6 +35,13 @@ returns-2 c =
     let whole = fits-decode p (λ i. omega (arith, k .shared-slice-known .given i)) (z .pre .shaped .fits) in
     (λ st. length-done p st (z .args .s .0) (c .done .ensures) (named-here e) (c .before .chain-length .ensures) whole, rw (c .done .ensures))
 
+returns-2 : tie.Need-returns-2
+returns-2 c =
+    let z = c .before .before .before in
+    let p = z .args .pool .now in
+    let s = z .args .s .0 in
+    (λ st. length-slip p st s (is-unnamed (decode p) s (c .before .held .ensures) (c .if1 .left)), tt)
+
 pub length-spec : {M : Type 1} → statement M
 length-spec =
-    tie.close (tie.spec held-requires returns chain-length-requires done-requires returns-2)
+    tie.close (tie.spec held-requires chain-length-requires done-requires returns returns-2)

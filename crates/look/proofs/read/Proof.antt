@@ -3,6 +3,7 @@ use mathlib.Core.Path.{sym, subst}
 use Prim.Native.Nat.{ℕ, _+_, _≤_}
 use native.Mathlib.Omega.{arith}
 use borrow.Author.Needs.{needs}
+use borrow.Author.Tests.{not-true, not-false}
 use Rattle.rules.specs.Basics.{Is}
 use Rattle.rules.specs.Bytes.{decode}
 use Rattle.rules.specs.Chain.{total, lengthOf}
@@ -21,11 +22,11 @@ returns : tie.Need-returns
 returns c =
     let a = c .before .before .before .before .before .args in
     let p = a .pool .now in
-    (read-slip p (a .storage .now) (a .output .now) (a .s .0) (a .off) (a .n) (is-unnamed (decode p) (a .s .0) (c .before .held .ensures) (c .if1 .taken)), tt)
+    (read-slip p (a .storage .now) (a .output .now) (a .s .0) (a .off) (a .n) (is-unnamed (decode p) (a .s .0) (c .before .held .ensures) (not-true _ (c .if1 .taken))), tt)
 
 -- the slip is named
 named-here : (c : tie.Else1) → Is (unnamed (decode (c .before .before .before .before .before .args .pool .now)) (c .before .before .before .before .before .args .s .0)) → ⊥
-named-here c = let a = c .before .before .before .before .before .args in is-named (decode (a .pool .now)) (a .s .0) (c .before .held .ensures) (c .if1 .left)
+named-here c = let a = c .before .before .before .before .before .args in is-named (decode (a .pool .now)) (a .s .0) (c .before .held .ensures) (not-false _ (c .if1 .left))
 
 chain-length-requires : tie.Need-chain-length-requires
 chain-length-requires c κs =
@@ -35,8 +36,8 @@ chain-length-requires c κs =
 cast-length : tie.Need-cast-length
 cast-length c = search needs
 
-add-if2 : tie.Need-add-if2
-add-if2 c = search needs
+add-end : tie.Need-add-end
+add-end c = search needs
 
 returns-2 : tie.Need-returns-2
 returns-2 c =
@@ -108,7 +109,7 @@ read-spec =
     returns
     chain-length-requires
     cast-length
-    add-if2
+    add-end
     returns-2
     returns-3
     head-link-requires

@@ -24,7 +24,7 @@ returns : tie.Need-returns
 returns c =
     let t = c .before in
     let a = t .before .before .before .before .before .args in
-    show-slip (a .pool .now) (a .storage .now) (a .scratch .now) (a .s .0) (a .n) (c .unseen .ensures) (is-unnamed (decode (a .pool .now)) (a .s .0) (t .before .held .ensures) (t .if1 .taken))
+    show-slip (a .pool .now) (a .storage .now) (a .scratch .now) (a .s .0) (a .n) (c .unseen .ensures) (is-unnamed (decode (a .pool .now)) (a .s .0) (t .before .held .ensures) (not-true _ (t .if1 .taken)))
 
 fits-requires : tie.Need-fits-requires
 fits-requires c κs = search needs
@@ -34,7 +34,7 @@ unseen-requires-2 c κs = search needs
 
 -- the slip is named
 named-here : (c : tie.Else1) → Is (unnamed (decode (c .before .before .before .before .before .args .pool .now)) (c .before .before .before .before .before .args .s .0)) → ⊥
-named-here c = let a = c .before .before .before .before .before .args in is-named (decode (a .pool .now)) (a .s .0) (c .before .held .ensures) (c .if1 .left)
+named-here c = let a = c .before .before .before .before .before .args in is-named (decode (a .pool .now)) (a .s .0) (c .before .held .ensures) (not-false _ (c .if1 .left))
 
 returns-2 : tie.Need-returns-2
 returns-2 c =

@@ -1,5 +1,6 @@
 -- `slp::slp_length` meets its contract. Assumes nothing.
 use borrow.Author.Needs.{needs}
+use borrow.Author.Tests.{not-true, not-false}
 use Rattle.rules.specs.Step.{Length}
 use Rattle.slp.proofs.Laws.{torn-answer, opened, answered}
 use Rattle.slp.proofs.slp_length.Statement.{statement}
@@ -16,13 +17,13 @@ returns c =
     let t = c .before in
     let u = t .before .before in
     let a = u .before .before .before .args in
-    torn-answer (a .storage .now) (u .audit .ensures) (t .if1 .taken) (Length (a .slip)) (c .refused .ensures)
+    torn-answer (a .storage .now) (u .audit .ensures) (not-true _ (t .if1 .taken)) (Length (a .slip)) (c .refused .ensures)
 
 length-requires : tie.Need-length-requires
 length-requires c κs =
     let e = c .before in
     let u = e .before .before in
-    opened (u .before .before .before .args .storage .now) (u .audit .ensures) (e .if1 .left)
+    opened (u .before .before .before .args .storage .now) (u .audit .ensures) (not-false _ (e .if1 .left))
 
 answer-of-requires : tie.Need-answer-of-requires
 answer-of-requires c κs = search needs
@@ -33,7 +34,7 @@ returns-2 c =
     let e = l .before .before in
     let u = e .before .before in
     let a = u .before .before .before .args in
-    answered (a .storage .now) (u .audit .ensures) (e .if1 .left) (l .length .result) (Length (a .slip)) (c .answer-of .ensures) (l .length .ensures .0 (a .storage .now))
+    answered (a .storage .now) (u .audit .ensures) (not-false _ (e .if1 .left)) (l .length .result) (Length (a .slip)) (c .answer-of .ensures) (l .length .ensures .0 (a .storage .now))
 
 pub slp-length-spec : {M : Type 1} → statement M
 slp-length-spec =

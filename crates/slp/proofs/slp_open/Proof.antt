@@ -1,5 +1,6 @@
 -- `slp::slp_open` meets its contract. Assumes nothing.
 use borrow.Author.Needs.{needs}
+use borrow.Author.Tests.{not-true, not-false}
 use Rattle.slp.proofs.Laws.{open-no, open-length, open-done}
 use Rattle.slp.proofs.slp_open.Statement.{statement}
 use Rattle.slp.proofs.slp_open.Tie as tie
@@ -14,13 +15,13 @@ returns : tie.Need-returns
 returns c =
     let t = c .before in
     let a = t .before .before .before .before .args in
-    open-no (a .pool .now) (a .storage .now) (a .buffers) (a .pieces) (a .slips) (t .before .sized .ensures) (t .if1 .taken) (c .refused .ensures)
+    open-no (a .pool .now) (a .storage .now) (a .buffers) (a .pieces) (a .slips) (t .before .sized .ensures) (not-true _ (t .if1 .taken)) (c .refused .ensures)
 
 fresh-requires : tie.Need-fresh-requires
 fresh-requires c κs =
     let e = c .before in
     let a = e .before .before .before .before .args in
-    open-length (a .pool .now) (a .storage .now) (a .buffers) (a .pieces) (a .slips) (e .before .sized .ensures) (e .if1 .left)
+    open-length (a .pool .now) (a .storage .now) (a .buffers) (a .pieces) (a .slips) (e .before .sized .ensures) (not-false _ (e .if1 .left))
 
 same-length : tie.Need-same-length
 same-length c = search needs
@@ -30,7 +31,7 @@ returns-2 c =
     let k = c .before .before in
     let e = k .before .before in
     let a = e .before .before .before .before .args in
-    open-done (a .pool .now) (a .storage .now) (a .buffers) (a .pieces) (a .slips) (e .before .sized .ensures) (e .if1 .left) (k .fresh .ensures)
+    open-done (a .pool .now) (a .storage .now) (a .buffers) (a .pieces) (a .slips) (e .before .sized .ensures) (not-false _ (e .if1 .left)) (k .fresh .ensures)
 
 pub slp-open-spec : {M : Type 1} → statement M
 slp-open-spec =

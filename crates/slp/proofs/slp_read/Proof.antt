@@ -1,5 +1,6 @@
 -- `slp::slp_read` meets its contract. Assumes nothing.
 use borrow.Author.Needs.{needs}
+use borrow.Author.Tests.{not-true, not-false}
 use Rattle.rules.specs.Step.{Read}
 use Rattle.slp.proofs.Laws.{torn-answer, opened, fitted, answered}
 use Rattle.slp.proofs.slp_read.Statement.{statement}
@@ -16,14 +17,14 @@ returns c =
     let t = c .before in
     let u = t .before .before in
     let a = u .before .before .before .before .args in
-    torn-answer (a .storage .now) (u .audit .ensures) (t .if1 .taken) (Read (a .slip) (a .offset) (a .length) (a .output .now)) (c .refused .ensures)
+    torn-answer (a .storage .now) (u .audit .ensures) (not-true _ (t .if1 .taken)) (Read (a .slip) (a .offset) (a .length) (a .output .now)) (c .refused .ensures)
 
 read-requires : tie.Need-read-requires
 read-requires c κs =
     let e = c .before .before in
     let u = e .before .before in
     let st = u .before .before .before .before .args .storage .now in
-    (opened st (u .audit .ensures) (e .if1 .left), fitted st (u .audit .ensures) (e .if1 .left))
+    (opened st (u .audit .ensures) (not-false _ (e .if1 .left)), fitted st (u .audit .ensures) (not-false _ (e .if1 .left)))
 
 answer-of-requires : tie.Need-answer-of-requires
 answer-of-requires c κs = search needs
@@ -37,7 +38,7 @@ returns-2 c =
     let e = k .before .before .before in
     let u = e .before .before in
     let a = u .before .before .before .before .args in
-    answered (a .storage .now) (u .audit .ensures) (e .if1 .left) (k .read .result) (Read (a .slip) (a .offset) (a .length) (a .output .now)) (c .answer-of .ensures) (k .read .ensures .0)
+    answered (a .storage .now) (u .audit .ensures) (not-false _ (e .if1 .left)) (k .read .result) (Read (a .slip) (a .offset) (a .length) (a .output .now)) (c .answer-of .ensures) (k .read .ensures .0)
 
 pub slp-read-spec : {M : Type 1} → statement M
 slp-read-spec =

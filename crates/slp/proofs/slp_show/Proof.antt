@@ -1,6 +1,7 @@
 -- `slp::slp_show` meets its contract. Assumes nothing.
 use native.Mathlib.Omega.{arith}
 use borrow.Author.Needs.{needs}
+use borrow.Author.Tests.{not-true, not-false}
 use Rattle.rules.specs.Step.{Show}
 use Rattle.slp.proofs.Laws.{torn-shown, opened, fitted, start-small, shown}
 use Rattle.slp.proofs.slp_show.Statement.{statement}
@@ -21,21 +22,21 @@ returns c =
     let t = k .before in
     let u = t .before .before in
     let a = u .before .before .before .before .args in
-    torn-shown (a .storage .now) (u .audit .ensures) (t .if1 .taken) (Show (a .slip) (a .n) (a .scratch .now)) (c .shown-of .ensures) (k .unseen .ensures)
+    torn-shown (a .storage .now) (u .audit .ensures) (not-true _ (t .if1 .taken)) (Show (a .slip) (a .n) (a .scratch .now)) (c .shown-of .ensures) (k .unseen .ensures)
 
 show-requires : tie.Need-show-requires
 show-requires c κs =
     let e = c .before .before in
     let u = e .before .before in
     let st = u .before .before .before .before .args .storage .now in
-    (opened st (u .audit .ensures) (e .if1 .left), fitted st (u .audit .ensures) (e .if1 .left))
+    (opened st (u .audit .ensures) (not-false _ (e .if1 .left)), fitted st (u .audit .ensures) (not-false _ (e .if1 .left)))
 
 shown-of-requires-2 : tie.Need-shown-of-requires-2
 shown-of-requires-2 c κs =
     let k = c .before .before in
     let e = k .before .before .before in
     let u = e .before .before in
-    start-small (u .before .before .before .before .args .storage .now) (u .audit .ensures) (e .if1 .left) _ (k .show .result .place) _ (k .show .ensures .lies)
+    start-small (u .before .before .before .before .args .storage .now) (u .audit .ensures) (not-false _ (e .if1 .left)) _ (k .show .result .place) _ (k .show .ensures .lies)
 
 same-length : tie.Need-same-length
 same-length c = search needs
@@ -45,7 +46,7 @@ returns-2 c =
     let k = c .before .before .before in
     let e = k .before .before .before in
     let u = e .before .before in
-    shown (u .before .before .before .before .args .storage .now) (u .audit .ensures) (e .if1 .left) (c .shown-of2 .ensures) (k .show .ensures)
+    shown (u .before .before .before .before .args .storage .now) (u .audit .ensures) (not-false _ (e .if1 .left)) (c .shown-of2 .ensures) (k .show .ensures)
 
 pub slp-show-spec : {M : Type 1} → statement M
 slp-show-spec =
