@@ -1,18 +1,17 @@
 -- The counters after each slip and each piece hold what the rules count. Assumes nothing.
 use mathlib.Core.Path.{_≡_, refl, sym, ap, _∙_}
-use mathlib.Core.Logic.{_≢_, ⊎-elim}
-use mathlib.Core.Bool.{Bool, true, false, _&&_, true≢false, false≢true}
+use mathlib.Core.Logic.{_≢_}
+use mathlib.Core.Bool.{Bool, true, false, _&&_, false≢true}
 use mathlib.Core.List.{List}
 use Prim.Native.Nat.{ℕ, zero, suc, _+_, _-_, _≤_, _<_}
-use native.Mathlib.Nat.{not-suc-le-zero}
 use native.Mathlib.Decide.{ℕ-discrete, decLt}
 use native.Mathlib.Numerals.{add-one}
 use native.Mathlib.Omega.{arith}
-use lib.ListN.{length, getD, set, replicate, length-set, length-replicate, getD-replicate, List·getD-eq-default}
+use lib.ListN.{length, getD, set, length-set, length-replicate, getD-replicate, List·getD-eq-default}
 use lib.Seq.{getD-set-same, getD-set-other}
-use lib.Dec.{ltb, ltb→lt, lt→ltb, eqb, eqb→eq, leb, leb→le, le→leb}
+use lib.Dec.{lt→ltb, eqb, eqb→eq, leb→le, le→leb}
 use Rattle.kinds.specs.Limits.{mostPieces, mostBuffers, mostSlips}
-use Rattle.rules.specs.Basics.{Is, if_then_else_, bit, sumTo, allTo}
+use Rattle.rules.specs.Basics.{Is, bit, allTo}
 use Rattle.rules.specs.Tables.{Piece, Tables, piece, headOf, slipTotal, pieceTotal, bufferTotal}
 use Rattle.rules.specs.Bytes.{decode}
 use Rattle.rules.specs.Sound.{inUse, leads, heads, nexts, lying}

@@ -1,5 +1,5 @@
 -- The audit's parts are the rules' test: where the counts agree, a link in range leads to a piece in use. Assumes nothing.
-use mathlib.Core.Path.{_≡_, refl, sym, ap, _∙_}
+use mathlib.Core.Path.{_≡_, refl}
 use mathlib.Core.Logic.{_≢_}
 use mathlib.Core.Bool.{Bool, true, false, _&&_}
 use Prim.Native.Nat.{ℕ, zero, suc, _+_, _≤_, _<_}
@@ -8,10 +8,10 @@ use lib.Dec.{ltb, lt→ltb, ltb→lt, eqb, eqb→eq, eqb-refl, leb, leb→le, le
 use Rattle.kinds.specs.Limits.{sizeOf}
 use Rattle.rules.specs.Basics.{Is, if_then_else_, bit, allTo}
 use Rattle.rules.specs.Tables.{Piece, Tables, piece, isBlank, headOf, slipTotal, pieceTotal, bufferTotal}
-use Rattle.rules.specs.Sound.{inUse, leads, heads, nexts, lying, linkOk, pieceOk, acyclic, soundTables}
+use Rattle.rules.specs.Sound.{inUse, leads, heads, nexts, linkOk, pieceOk, acyclic, soundTables}
 use Rattle.rules.proofs.Logic.{if-T, if-F, and-intro, and-0, and-1, and-parts, bit-T, eq→eqb, not-zero, is-true, same-test, all-intro, all-at}
 use Rattle.rules.proofs.Sums.{sumTo-at}
-use Rattle.rules.proofs.Moves.{hit-same, heads-at}
+use Rattle.rules.proofs.Moves.{heads-at}
 use Rattle.audit.specs.Ranges.{linkInRange, pieceInRange, slipsInRange, piecesInRange, countsAgree, buffersAgree, referencesOk}
 
 -- ---- tests

@@ -12,7 +12,6 @@ use Rattle.rules.specs.Sound.{Lent, headerOk, soundTables, sound}
 use Rattle.rules.proofs.Logic.{is-true, is-false, and-0}
 use Rattle.rules.proofs.Bytes.{and-is, eqb-is, leb-is, Header, header-facts, header-test, decode-pieces}
 use Rattle.tables.specs.declared.Shape.{Shape}
-use Rattle.tables.specs.Shape.{Shaped}
 use Rattle.tables.proofs.Laws.{fits-by}
 use Rattle.audit.specs.Ranges.{partsOk}
 use Rattle.audit.specs.Counters.{Limited, zeros}

@@ -16,6 +16,7 @@ use Rattle.chain.specs.Free.{firstOr, firstFrom}
 
 -- ---- tests against zero
 
+-- what was loaded, v, tells of the entry m
 pub is-zero : {v m : ℕ} → v ≡ m → v ≡ 0 → eqb m 0 ≡ true
 is-zero {v} {m} e z = eq-eqb m 0 (omega arith)
 
@@ -25,9 +26,11 @@ not-zero {v} {m} e z = ne-eqb m 0 (omega arith)
 -- ---- how many
 
 module _ (f : ℕ → Bool) where
+  -- one number more is looked at
   one-more : (i : ℕ) → length (places f 0 (i + 1)) ≡ bit (f i) + length (places f 0 i)
   one-more i = rw (add-one, places-count-0, places-count-0)
 
+  -- none is looked at
   pub count-none : 0 ≡ length (places f 0 0)
   unfolding places
   count-none = refl
@@ -46,6 +49,7 @@ module _ (f : ℕ → Bool) where
 -- ---- the first
 
 module _ (f : ℕ → Bool) (i n : ℕ) where
+  -- none is left
   pub first-end : n ≤ i → firstFrom f i n ≡ n
   unfolding firstFrom places
   first-end h = let e : n - i ≡ 0 = omega arith in rw e
@@ -59,6 +63,7 @@ module _ (f : ℕ → Bool) (i n : ℕ) where
   unfolding places if_then_else_
   past h t = let e : n - i ≡ suc (n - suc i) = omega arith in rw (e, t)
 
+  -- i passes, or the scan goes on
   pub first-here : i < n → f i ≡ true → firstFrom f i n ≡ i
   unfolding firstFrom
   first-here h t = ap (firstOr n) (here h t)
@@ -73,6 +78,7 @@ module _ (f : ℕ → Bool) (i n : ℕ) where
 abbrev Splits : (ℕ → Bool) → ℕ → List ℕ → Type 0
 Splits f n l = let r = firstOr n l in l ≡ (if ltb r n then r ∷ places f (suc r) (n - suc r) else [])
 
+-- so it is of the k numbers from i on
 splits : (f : ℕ → Bool) (k i n : ℕ) → k ≡ n - i → Splits f n (places f i k)
 unfolding places
 splits f zero i n e = sym (if-F (ltb n n) _ _ (λ t. omega (arith, ltb→lt n n t)))
@@ -92,6 +98,7 @@ places-first f i n = splits f (n - i) i n refl
 abbrev pub Lies : (ℕ → Bool) → ℕ → ℕ → ℕ → Type 0
 Lies f i n r = (r ≤ n) × (r < n → (i ≤ r) × Is (f r))
 
+-- so it is of the k numbers from i on
 lies : (f : ℕ → Bool) (k i n : ℕ) → k ≡ n - i → Lies f i n (firstOr n (places f i k))
 unfolding places
 lies f zero i n e = (omega arith, λ h. absurd (omega arith))
@@ -102,6 +109,7 @@ lies f (suc k) i n e =
     (λ t. (omega arith, λ _. (omega arith, t)))
     (λ _. (after .0, λ h. (omega (arith, after .1 h .0), after .1 h .1)))
 
+-- and of the lowest
 pub first-lies : (f : ℕ → Bool) (i n : ℕ) → Lies f i n (firstFrom f i n)
 unfolding firstFrom
 first-lies f i n = lies f (n - i) i n refl

@@ -26,6 +26,7 @@ head-none e z = omega arith
 pub head-some : {v n : ℕ} → v ≡ n → (v ≡ 0 → ⊥) → v - 1 ≡ pred n
 head-some e z = omega arith
 
+-- a test negated twice
 not-twice : (b : Bool) → not (not b) ≡ b
 not-twice true = refl
 not-twice false = refl
@@ -83,6 +84,7 @@ follow-good T (suc j) (suc d) S t =
 
 -- ---- the pieces met from a link
 
+-- no piece is met from the link 0
 pub walk-none : (k : ℕ) (T : Tables) → walk k T 0 ≡ []
 unfolding walk
 walk-none zero T = refl
@@ -108,6 +110,7 @@ walk-meets T n S t =
     let (l, m, h) = link-meets T n S t in
     subst (Meets T n) (sym (meets-walk (pieceTotal T) m h)) m
 
+-- from the pieces met, one follow takes the first away
 next-met : (T : Tables) (P n : ℕ) (l : List ℕ) → Meets T n l → length l ≤ P → (n ≡ 0 → ⊥) → walk P T n ≡ (n - 1) ∷ walk P T (piece T (n - 1) .next)
 next-met T P zero l m h i = absurd (i refl)
 next-met T P (suc d) l (go {l = r} m) h i =
@@ -126,6 +129,7 @@ walk-less T n S t i = omega (arith, ap length (walk-on T n S t i))
 
 -- ---- the length of the pieces met
 
+-- where no piece is allowed, where none is met, and of the first piece and the rest
 pub length-none : (k n : ℕ) (T : Tables) → k ≡ 0 → total (stretches T (walk k T n)) ≡ 0
 unfolding walk stretches total
 length-none zero n T h = refl

@@ -31,6 +31,7 @@ runOf c l T n ds = record { count = c + length ds; last = lastOr l ds; next = fo
 abbrev pub ownFrom : ℕ → ℕ → ℕ → Tables → ℕ → OwnRun
 ownFrom c l k T n = runOf c l T n (ownPieces k T n)
 
+-- the last of none, and of one more in front
 last-none : (ds : List ℕ) → lastOr 0 ds ≡ lastLink ds
 last-none [] = refl
 last-none (d ∷ ds) = refl
@@ -39,6 +40,7 @@ last-more : (l d : ℕ) (ds : List ℕ) → lastOr l (d ∷ ds) ≡ lastOr (suc 
 last-more l d [] = refl
 last-more l d (x ∷ ds) = refl
 
+-- before any own piece is passed
 pub own-start : (k n : ℕ) (T : Tables) → ownFrom 0 0 k T n ≡ ownRun k T n
 unfolding ownRun
 own-start k n T =
@@ -51,6 +53,7 @@ run-none : (c l : ℕ) (T : Tables) (n : ℕ) → runOf c l T n [] ≡ record { 
 unfolding follow
 run-none c l T n = let e : c + 0 ≡ c = omega arith in λ i. record { count = e i; last = l; next = n }
 
+-- no piece is own where the first has another count
 none-own : (k n : ℕ) (T : Tables) → single T n ≡ false → ownPieces k T n ≡ []
 unfolding ownPieces if_then_else_
 none-own zero n T e = refl
@@ -66,13 +69,14 @@ unfolding ownPieces
 own-full c l zero n T e = run-none c l T n
 own-full c l (suc k) n T e = absurd (omega arith)
 
--- the piece that n leads to is own
+-- one own piece more is passed
 run-more : (c l d : ℕ) (T : Tables) (ds : List ℕ) → runOf c l T (suc d) (d ∷ ds) ≡ runOf (c + 1) (suc d) T (piece T d .next) ds
 unfolding follow
 run-more c l d T ds =
     let e : c + suc (length ds) ≡ c + 1 + length ds = omega arith in
     λ i. record { count = e i; last = last-more l d ds i; next = follow T (length ds) (piece T d .next) }
 
+-- the piece that n leads to is own
 pub own-more : (c l k n : ℕ) (T : Tables) → (k ≡ 0 → ⊥) → single T n ≡ true → ownFrom c l k T n ≡ ownFrom (c + 1) n (k - 1) T (piece T (n - 1) .next)
 unfolding ownPieces if_then_else_
 own-more c l zero n T h e = absurd (h refl)
@@ -124,6 +128,7 @@ pub record OwnLaws (T : Tables) (n : ℕ) (own : List ℕ) (r : OwnRun) : Type 0
   pub pieces : walk (pieceTotal T) T n ≡ own ++ walk (pieceTotal T) T (r .next)
   pub rest : drop (r .count) (stretches T (walk (pieceTotal T) T n)) ≡ stretches T (walk (pieceTotal T) T (r .next))
 
+-- they hold of the own pieces from a good link
 pub own-laws : (k n : ℕ) (T : Tables) → SoundTables T → Is (linkOk T n) → OwnLaws T n (ownPieces k T n) (ownRun k T n)
 unfolding ownRun
 own-laws k n T S t =

@@ -18,10 +18,12 @@ use Rattle.chain.proofs.Links.{link-leads, walk-none, walk-on, walk-les
 
 -- ---- the place, over the pieces met
 
+-- the place off bytes into the pieces of a list
 abbrev spotIn : Tables → List ℕ → ℕ → Spot
 spotIn T [] off = record { link = 0; into = off }
 spotIn T (d ∷ ds) off = if leb (piece T d .len) off then spotIn T ds (off - piece T d .len) else record { link = suc d; into = off }
 
+-- the place over the pieces allowed is that over the pieces met
 spot-walk : (k : ℕ) (T : Tables) (n off : ℕ) → spotOf k T n off ≡ spotIn T (walk k T n) off
 unfolding spotOf walk
 spot-walk zero T n off = refl
@@ -35,6 +37,7 @@ pub spot-end : (k : ℕ) (T : Tables) (off : ℕ) → spotOf k T 0 off ≡ recor
 spot-end k T off = spot-walk k T 0 off ∙ ap (λ (l : List ℕ). spotIn T l off) (walk-none k T)
 
 module _ (T : Tables) (n off : ℕ) (S : SoundTables T) (t : Is (linkOk T n)) (i : n ≡ 0 → ⊥) where
+  -- the stretch of the first piece, the link after it, and P
   abbrev first : Stretch
   first = stretch (piece T (n - 1))
 
@@ -44,6 +47,7 @@ module _ (T : Tables) (n off : ℕ) (S : SoundTables T) (t : Is (linkOk T n)) (i
   abbrev P : ℕ
   P = pieceTotal T
 
+  -- one turn, with P allowed before and after it
   spot-step : spotOf P T n off ≡ (if leb (first .len) off then spotOf P T after (off - first .len) else record { link = n; into = off })
   spot-step =
       let e : suc (n - 1) ≡ n = omega (arith, i) in
@@ -57,12 +61,14 @@ module _ (T : Tables) (n off : ℕ) (S : SoundTables T) (t : Is (linkOk T n)) (i
   pub spot-here : off < first .len → spotOf P T n off ≡ record { link = n; into = off }
   spot-here h = spot-step ∙ if-F (leb (first .len) off) _ _ (λ z. omega (arith, leb→le (first .len) off z))
 
+  -- the stretches met from n are the first and those met after it
   met : stretches T (walk P T n) ≡ first ∷ stretches T (walk P T after)
   unfolding stretches
   met = ap (stretches T) (walk-on T n S t i)
 
 -- ---- what is cut out, and what stays
 
+-- no bytes are no stretches
 cutOut-none : (xs : List Stretch) (off : ℕ) → cutOut xs off 0 ≡ []
 unfolding cutOut
 cutOut-none [] off = refl
@@ -85,21 +91,23 @@ total-first x xs = refl
 -- ---- the laws of the place found
 
 -- the stretches from the link n on
-abbrev pub from : Tables → ℕ → List Stretch
-from T n = stretches T (walk (pieceTotal T) T n)
+abbrev pub stretchesFrom : Tables → ℕ → List Stretch
+stretchesFrom T n = stretches T (walk (pieceTotal T) T n)
 
 -- s is the place off bytes after the link n
 pub record Found (T : Tables) (n off : ℕ) (s : Spot) : Type 0 where
   pub good : Is (linkOk T (s .link))
   pub inside : (s .link ≡ 0 → ⊥) → s .into < piece T (s .link - 1) .len
-  pub cut : (c : ℕ) → cutOut (from T n) off c ≡ cutOut (from T (s .link)) (s .into) c
-  pub stays : dropOut (from T n) off ≡ dropOut (from T (s .link)) (s .into)
-  pub lengths : total (from T n) + s .into ≡ total (from T (s .link)) + off
+  pub cut : (c : ℕ) → cutOut (stretchesFrom T n) off c ≡ cutOut (stretchesFrom T (s .link)) (s .into) c
+  pub stays : dropOut (stretchesFrom T n) off ≡ dropOut (stretchesFrom T (s .link)) (s .into)
+  pub lengths : total (stretchesFrom T n) + s .into ≡ total (stretchesFrom T (s .link)) + off
 
 module _ (T : Tables) (S : SoundTables T) where
+  -- the laws, where at most j pieces are met
   abbrev AtMost : ℕ → Type 0
   AtMost j = (n off : ℕ) → Is (linkOk T n) → length (walk (pieceTotal T) T n) ≤ j → Found T n off (spotOf (pieceTotal T) T n off)
 
+  -- past the last piece there is nothing
   found-end : (off : ℕ) → Found T 0 off (spotOf (pieceTotal T) T 0 off)
   found-end off =
       subst (Found T 0 off) (sym (spot-end (pieceTotal T) T off))
@@ -111,7 +119,7 @@ module _ (T : Tables) (S : SoundTables T) where
       → Found T n off (spotOf (pieceTotal T) T n off)
   found-next n off t i h f =
       let x = first T n off S t i in
-      let xs = from T (piece T (n - 1) .next) in
+      let xs = stretchesFrom T (piece T (n - 1) .next) in
       let m = met T n off S t i in
       subst (Found T n off) (sym (spot-skip T n off S t i h))
       (record {
@@ -122,6 +130,7 @@ module _ (T : Tables) (S : SoundTables T) where
         lengths = omega (arith, ap total m, total-first x xs, f .lengths);
       })
 
+  -- else it is in the first piece
   found-here : (n off : ℕ) → Is (linkOk T n) → (n ≡ 0 → ⊥) → off < piece T (n - 1) .len → Found T n off (spotOf (pieceTotal T) T n off)
   found-here n off t i h =
       subst (Found T n off) (sym (spot-here T n off S t i h)) (record { good = t; inside = λ _. h; cut = λ c. refl; stays = refl; lengths = refl })

@@ -1,10 +1,7 @@
 -- `audit::count_entry` meets its contract. Assumes nothing.
 use mathlib.Core.Path.{ap, sym}
-use Prim.Native.Nat.{_<_}
 use native.Mathlib.Omega.{arith}
 use borrow.Author.Needs.{needs}
-use Rattle.rules.specs.Tables.{Piece}
-use Rattle.kinds.specs.Limits.{mostBuffers}
 use Rattle.audit.specs.Counters.{pieceOf, tallied}
 use Rattle.audit.proofs.Counters.{lie-free, lie-used}
 use Rattle.audit.proofs.count_entry.Statement.{statement}

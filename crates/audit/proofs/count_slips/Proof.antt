@@ -1,5 +1,5 @@
 -- `audit::count_slips` meets its contract. The invariant: the slips passed are in range and counted. Assumes nothing.
-use mathlib.Core.Path.{_≡_, ap, _∙_}
+use mathlib.Core.Path.{ap, _∙_}
 use Prim.Native.Nat.{_≤_, _-_, pred}
 use native.Mathlib.Omega.{arith}
 use borrow.Author.Needs.{needs}

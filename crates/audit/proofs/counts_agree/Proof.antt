@@ -1,9 +1,9 @@
 -- `audit::counts_agree` meets its contract. The invariant: the counts passed agree. Assumes nothing.
 use Prim.Native.Nat.{ℕ, _≤_, _-_, _+_}
 use native.Mathlib.Omega.{arith}
-use Rattle.rules.specs.Tables.{Tables, piece, bufferCount, pieceTotal, bufferTotal}
+use Rattle.rules.specs.Tables.{Tables, piece, pieceTotal}
 use Rattle.rules.specs.Bytes.{decode}
-use Rattle.rules.specs.Sound.{heads, nexts, lying}
+use Rattle.rules.specs.Sound.{heads, nexts}
 use Rattle.audit.specs.Ranges.{countsAgree}
 use Rattle.audit.proofs.Counters.{totals, Agree, agree-start, agree-on, agree-torn, agree-end}
 use Rattle.audit.proofs.counts_agree.Statement.{statement}

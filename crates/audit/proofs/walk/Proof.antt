@@ -1,6 +1,5 @@
 -- `audit::walk` meets its contract. The invariant is that of a walk under way; the pieces without a colour are the measure. Assumes nothing.
-use mathlib.Core.Path.{_≡_}
-use Prim.Native.Nat.{_≤_, _-_, _+_}
+use Prim.Native.Nat.{_-_, _+_}
 use native.Mathlib.Omega.{arith}
 use lib.ListN.{set}
 use Rattle.rules.specs.Bytes.{decode}
