@@ -1,5 +1,5 @@
 -- A new piece and a further reference, store by store. Assumes nothing.
-use mathlib.Core.Path.{_≡_, refl, sym, ap, _∙_}
+use mathlib.Core.Path.{_≡_, refl, ap, subst, _∙_}
 use mathlib.Core.Bool.{_&&_}
 use mathlib.Core.List.{List, [], _∷_}
 use Prim.Native.Nat.{ℕ, zero, suc, _+_, _-_, _≤_, _<_}
@@ -7,17 +7,22 @@ use native.Mathlib.Omega.{arith}
 use lib.ListN.{length}
 use lib.Dec.{eqb}
 use Rattle.rules.specs.Tables.{Piece, Tables, piece, bufferCount, headOf, slipTotal, pieceTotal, setPiece, setPieceCount, withCount}
-use Rattle.rules.specs.Sound.{inUse, leads, heads, lying}
+use Rattle.rules.specs.Basics.{Is}
+use Rattle.rules.specs.Sound.{inUse, leads, heads, lying, linkOk}
 use Rattle.rules.specs.Bytes.{decode}
 use Rattle.rules.specs.Release.{shared}
 use Rattle.rules.specs.Build.{taken}
 use Rattle.rules.proofs.Logic.{bit-one}
 use Rattle.rules.proofs.Sums.{sumTo-ones}
+use Rattle.rules.proofs.Audit.{tables-now}
 use Rattle.rules.proofs.Moves.{SoundWith, hit, lies, links, occ, used-in-range}
 use Rattle.tables.specs.declared.Shape.{Shape}
 use Rattle.tables.specs.Shape.{Shaped, Holds, setCount}
-use Rattle.tables.proofs.Laws.{onward}
+use Rattle.tables.proofs.Laws.{whole, total-slips, total-pieces, onward}
+use Rattle.chain.specs.Opened.{Opened}
+use Rattle.chain.proofs.Links.{InUse, link-leads}
 use Rattle.build.specs.Share.{Sharable}
+use Rattle.build.specs.Clone.{Copyable}
 
 -- the buffer's count, then the piece
 pub take-done : (T : Tables) (f : ℕ) (x : Piece) {h : Shape} {p q : List ℕ} {m : ℕ} → m ≡ bufferCount T (x .buffer)
@@ -57,9 +62,12 @@ occ-small [] d = omega arith
 occ-small (n ∷ fl) d = omega (arith, bit-one (leads n d), occ-small fl d)
 
 module _ (T : Tables) {fl : List ℕ} (S : SoundWith fl T) where
-  pub buffer-room : pieceTotal T < 65535 → (b : ℕ) → bufferCount T b < 65535
+  pub buffer-most : (b : ℕ) → bufferCount T b ≤ pieceTotal T
   unfolding lying
-  buffer-room l b = omega (arith, S .1 .lain b, sumTo-ones (pieceTotal T) (λ c. lies (piece T c) b) (λ c. bit-one (inUse (piece T c) && eqb (piece T c .buffer) b)))
+  buffer-most b = omega (arith, S .1 .lain b, sumTo-ones (pieceTotal T) (λ c. lies (piece T c) b) (λ c. bit-one (inUse (piece T c) && eqb (piece T c .buffer) b)))
+
+  pub buffer-room : pieceTotal T < 65535 → (b : ℕ) → bufferCount T b < 65535
+  buffer-room l b = omega (arith, buffer-most b)
 
   pub piece-room : slipTotal T + pieceTotal T + length fl < 65535 → (d : ℕ) → piece T d .count < 65535
   unfolding heads links
@@ -72,3 +80,27 @@ module _ (T : Tables) {fl : List ℕ} (S : SoundWith fl T) where
   pub sharable : slipTotal T + pieceTotal T + length fl < 65535 → (n : ℕ) → ((d : ℕ) → n ≡ suc d → 0 < piece T d .count) → Sharable T n
   sharable l zero u = record { inside = omega arith; room = λ d e. piece-room l d }
   sharable l (suc d) u = record { inside = used-in-range T d (u d refl); room = λ e _. piece-room l e }
+
+-- ---- in an opened pool
+
+module _ {p : List ℕ} {h : Shape} (o : Opened p h) where
+  -- a buffer's count is at most P, a piece's at most P + S: both can rise
+  pub opened-buffer : (b : ℕ) → bufferCount (decode p) b < 65535
+  opened-buffer b = buffer-room (decode p) (tables-now (decode p) (o .sound)) (omega (arith, total-pieces (whole (o .shaped)), o .few-pieces)) b
+
+  opened-sums : slipTotal (decode p) + pieceTotal (decode p) + 0 < 65535
+  opened-sums = omega (arith, total-pieces (whole (o .shaped)), total-slips (whole (o .shaped)), o .few-pieces, o .few-slips)
+
+  pub opened-piece : (d : ℕ) → piece (decode p) d .count < 65535
+  opened-piece d = piece-room (decode p) (tables-now (decode p) (o .sound)) opened-sums d
+
+  -- so there can be a reference more to where a good link leads
+  pub opened-sharable : (n : ℕ) → Is (linkOk (decode p) n) → Sharable (decode p) n
+  opened-sharable n t =
+      let T = decode p in
+      sharable T (tables-now T (o .sound)) opened-sums n
+      (λ d q. (let e : n - 1 ≡ d = omega arith in subst (λ (i : ℕ). 0 < piece T i .count) e (link-leads T n (o .sound) t (omega arith) .used)))
+
+  -- and a new piece for what a piece in use has from a place inside it
+  pub opened-copyable : (d n : ℕ) → InUse (decode p) d → n < piece (decode p) d .len → Copyable (decode p) d n
+  opened-copyable d n u l = record { below = u .below; inside = l; small = u .inside; in-store = u .in-store; room = opened-buffer (piece (decode p) d .buffer) }

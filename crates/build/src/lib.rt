@@ -1,14 +1,43 @@
-// The making of chains: a new piece, and one reference more.
+// The making of chains: a new piece, one reference more, new pieces for a range or on free buffers, and what drop leaves.
 use kinds::BufferNumber;
 use kinds::PieceNumber;
 use tables::Shape;
-ghost use Prim.Native.Nat.{_<_};
-ghost use Rattle.rules.specs.Tables.{bufferCount};
+ghost use mathlib.Core.Path.{_≡_};
+ghost use Prim.Native.Nat.{_+_, _-_, _≤_, _<_};
+ghost use lib.ListN.{length};
+ghost use Rattle.rules.specs.Basics.{Is, places};
+ghost use Rattle.rules.specs.Tables.{Tables, piece, bufferCount, pieceTotal, bufferTotal, setPiece};
 ghost use Rattle.rules.specs.Bytes.{decode};
-ghost use Rattle.rules.specs.Release.{shared};
-ghost use Rattle.rules.specs.Build.{taken, fresh};
+ghost use Rattle.rules.specs.Chain.{stretch, cutOut};
+ghost use Rattle.rules.specs.Sound.{linkOk};
+ghost use Rattle.rules.specs.Room.{isFree, isUnheld, freePieces, freeBuffers, newBuffers};
+ghost use Rattle.rules.specs.Release.{raised, shared};
+ghost use Rattle.rules.specs.Build.{taken, fresh, built, builtLink, made, madeLink, laid};
+ghost use Rattle.rules.specs.Drop.{shorter};
 ghost use Rattle.tables.specs.Shape.{Shaped, Holds};
+ghost use Rattle.chain.specs.Opened.{Opened};
+ghost use Rattle.chain.specs.Free.{lowestFor};
+ghost use Rattle.chain.specs.Length.{stretchesFrom};
+ghost use Rattle.chain.specs.Rest.{restFrom};
 ghost use Rattle.build.specs.Share.{Sharable};
+ghost use Rattle.build.specs.Line.{nextInLine, linkInLine};
+ghost use Rattle.build.specs.Clone.{stretchAt, partOf, cloned, Copyable, Clonable};
+ghost use Rattle.build.specs.Laid.{laidAt, laidOn, Layable};
+
+// How far copying is: the free piece to take, the link to the piece to copy, the bytes of it to skip, and the bytes still to come (a cursor).
+struct Cloning {
+    free: u16,
+    at: u16,
+    skip: u32,
+    left: u32,
+}
+
+// How far laying is: the free piece to take, the number from which the next free buffer is looked for, and the bytes still to come (a cursor).
+struct Laying {
+    free: u16,
+    from: u16,
+    left: u32,
+}
 
 // The free piece `f` becomes a new piece of count 1, and its buffer's count rises by 1: a descriptor taken.
 pub fn take_piece(
@@ -39,4 +68,197 @@ pub fn share(pool: &mut [u8], shape: Shape, link: u16)
     let d = PieceNumber(link - 1);
     let n = tables::piece_count(pool, shape, d);
     tables::set_piece_count(pool, shape, d, n + 1);
+}
+
+// The free piece `f` becomes a new piece with `more` to come after it: its next is the next free piece, `tail` where it is the last; answers the piece after it (a descriptor taken in line).
+fn take_in_line(
+    pool: &mut [u8],
+    shape: Shape,
+    f: u16,
+    buffer: BufferNumber,
+    offset: u16,
+    length: u16,
+    more: u16,
+    tail: u16,
+) -> u16
+    requires { ⌜ Shaped (now pool) shape × (f < shape .pieces) × (shape .pieces < 65535) ⌝ }
+    requires { ⌜ (buffer .0 < shape .buffers) × (bufferCount (decode (now pool)) (buffer .0) < 65535) ⌝ }
+    ensures { λ r. ⌜ Holds (now (pool .exit)) shape (taken (decode (now (pool .entry))) f (fresh (record { buffer = buffer .0; offset = offset; len = length }) (linkInLine (decode (now (pool .entry))) f more tail))) × (r ≡ nextInLine (decode (now (pool .entry))) f more) ⌝ }
+{
+    if more == 0 {
+        take_piece(pool, shape, PieceNumber(f), buffer, offset, length, tail);
+        return f;
+    }
+    let g = chain::next_free_piece(pool, shape, f + 1);
+    take_piece(pool, shape, PieceNumber(f), buffer, offset, length, g + 1);
+    g
+}
+
+// Takes a new piece for what the range has of the piece to copy, `more` to come after it; answers how far copying is then: a descriptor cloned.
+fn clone_piece(pool: &mut [u8], shape: Shape, c: Cloning, more: u16, tail: u16) -> Cloning
+    requires { ⌜ Shaped (now pool) shape × (shape .pieces < 65535) × Clonable (decode (now pool)) c ⌝ }
+    ensures { λ r. ⌜ Holds (now (pool .exit)) shape (taken (decode (now (pool .entry))) (c .free) (fresh (partOf (stretchAt (decode (now (pool .entry))) (c .at)) c) (linkInLine (decode (now (pool .entry))) (c .free) more tail))) × (r ≡ cloned (decode (now (pool .entry))) c more) ⌝ }
+{
+    let d = PieceNumber(c.at - 1);
+    let length = kinds::lesser(c.left, tables::piece_length(pool, shape, d) as u32 - c.skip);
+    let buffer = tables::piece_buffer(pool, shape, d);
+    let offset = tables::piece_offset(pool, shape, d) + c.skip as u16;
+    let next = tables::piece_next(pool, shape, d);
+    let free = take_in_line(
+        pool,
+        shape,
+        c.free,
+        buffer,
+        offset,
+        length as u16,
+        more,
+        tail,
+    );
+    Cloning {
+        free: free,
+        at: next,
+        skip: 0,
+        left: c.left - length,
+    }
+}
+
+// New pieces for the `n` bytes that start `into` bytes into the chain from `link`, on the same buffers, taken from the lowest free piece `first` on, before the link `tail`; answers the link to the first: descriptors cloned over shared clusters.
+pub fn copy_pieces(
+    pool: &mut [u8],
+    shape: Shape,
+    link: u16,
+    into: u32,
+    n: u32,
+    pieces: u16,
+    first: u16,
+    tail: u16,
+) -> u16
+    requires { ⌜ Opened (now pool) shape × Is (linkOk (decode (now pool)) link) ⌝ }
+    requires { ⌜ (pieces ≡ length (cutOut (stretchesFrom (decode (now pool)) link) into n)) × (pieces ≤ length (freePieces (decode (now pool)))) ⌝ }
+    requires { ⌜ ((link ≡ 0 → ⊥) → into < piece (decode (now pool)) (link - 1) .len) ⌝ }
+    requires { ⌜ first ≡ lowestFor (isFree (decode (now pool))) pieces (pieceTotal (decode (now pool))) ⌝ }
+    ensures { λ r. ⌜ Holds (now (pool .exit)) shape (built (decode (now (pool .entry))) (freePieces (decode (now (pool .entry)))) (cutOut (stretchesFrom (decode (now (pool .entry))) link) into n) tail) × (r ≡ builtLink (freePieces (decode (now (pool .entry)))) (cutOut (stretchesFrom (decode (now (pool .entry))) link) into n) tail) ⌝ }
+{
+    if pieces == 0 {
+        return tail;
+    }
+    let mut c = Cloning {
+        free: first,
+        at: link,
+        skip: into,
+        left: n,
+    };
+    let mut more = pieces;
+    while 0 < more {
+        more -= 1;
+        c = clone_piece(pool, shape, c, more, tail);
+    }
+    first + 1
+}
+
+// Takes a new piece on the lowest free buffer, `more` to come after it; answers how far laying is then: a descriptor over a fresh cluster.
+fn lay_piece(pool: &mut [u8], shape: Shape, c: Laying, more: u16) -> Laying
+    requires { ⌜ Shaped (now pool) shape × (shape .pieces < 65535) × Layable (decode (now pool)) c ⌝ }
+    ensures { λ r. ⌜ Holds (now (pool .exit)) shape (taken (decode (now (pool .entry))) (c .free) (fresh (laidAt (decode (now (pool .entry))) c) (linkInLine (decode (now (pool .entry))) (c .free) more 0))) × (r ≡ laidOn (decode (now (pool .entry))) c more) ⌝ }
+{
+    let b = chain::next_free_buffer(pool, shape, c.from);
+    let length = kinds::lesser(BufferNumber::SIZE as u32, c.left);
+    let buffer = BufferNumber(b);
+    let free = take_in_line(pool, shape, c.free, buffer, 0, length as u16, more, 0);
+    let from = b + 1;
+    let left = c.left - length;
+    Laying {
+        free: free,
+        from: from,
+        left: left,
+    }
+}
+
+// New pieces for `n` bytes, taken from the lowest free piece `first` on, on the `count` lowest free buffers, from `buffer` on, from offset 0, each full but the last; answers the link to the first: descriptors over fresh clusters.
+pub fn lay(pool: &mut [u8], shape: Shape, n: u32, count: u16, first: u16, buffer: u16) -> u16
+    requires { ⌜ Opened (now pool) shape ⌝ }
+    requires { ⌜ (count ≤ length (freePieces (decode (now pool)))) × (count ≤ length (freeBuffers (decode (now pool)))) ⌝ }
+    requires { ⌜ (first ≡ lowestFor (isFree (decode (now pool))) count (pieceTotal (decode (now pool)))) × (buffer ≡ lowestFor (isUnheld (decode (now pool))) count (bufferTotal (decode (now pool)))) ⌝ }
+    ensures { λ r. ⌜ Holds (now (pool .exit)) shape (built (decode (now (pool .entry))) (freePieces (decode (now (pool .entry)))) (laid (newBuffers (decode (now (pool .entry))) count) n) 0) × (r ≡ builtLink (freePieces (decode (now (pool .entry)))) (laid (newBuffers (decode (now (pool .entry))) count) n) 0) ⌝ }
+{
+    if count == 0 {
+        return 0;
+    }
+    let mut c = Laying {
+        free: first,
+        from: buffer,
+        left: n,
+    };
+    let mut more = count;
+    while 0 < more {
+        more -= 1;
+        c = lay_piece(pool, shape, c, more);
+    }
+    first + 1
+}
+
+// Piece `d` gets one reference more and loses its first `n` bytes: a head trimmed in place.
+fn shorten(pool: &mut [u8], shape: Shape, d: PieceNumber, n: u16)
+    requires { ⌜ Shaped (now pool) shape × (d .0 < shape .pieces) × (piece (decode (now pool)) (d .0) .count < 65535) ⌝ }
+    requires { ⌜ (n ≤ piece (decode (now pool)) (d .0) .len) × (piece (decode (now pool)) (d .0) .offset + n < 65536) ⌝ }
+    ensures { λ _. ⌜ Holds (now (pool .exit)) shape (setPiece (raised (decode (now (pool .entry))) (d .0)) (d .0) (shorter (piece (raised (decode (now (pool .entry))) (d .0)) (d .0)) n)) ⌝ }
+{
+    let count = tables::piece_count(pool, shape, d);
+    let offset = tables::piece_offset(pool, shape, d);
+    let length = tables::piece_length(pool, shape, d);
+    tables::set_piece_count(pool, shape, d, count + 1);
+    tables::set_piece_place(pool, shape, d, offset + n, length - n);
+}
+
+// The free piece `f` becomes what piece `d` has from its byte `n` on, before the same next, to which there is one reference more: a descriptor cloned and trimmed.
+pub fn clone_rest(pool: &mut [u8], shape: Shape, d: PieceNumber, n: u16, f: PieceNumber)
+    requires { ⌜ Shaped (now pool) shape × (f .0 < shape .pieces) × Copyable (decode (now pool)) (d .0) n × Sharable (decode (now pool)) (piece (decode (now pool)) (d .0) .next) ⌝ }
+    ensures { λ _. ⌜ Holds (now (pool .exit)) shape (taken (shared (decode (now (pool .entry))) (piece (decode (now (pool .entry))) (d .0) .next)) (f .0) (fresh (stretch (shorter (piece (decode (now (pool .entry))) (d .0)) n)) (piece (decode (now (pool .entry))) (d .0) .next))) ⌝ }
+{
+    let buffer = tables::piece_buffer(pool, shape, d);
+    let offset = tables::piece_offset(pool, shape, d);
+    let length = tables::piece_length(pool, shape, d);
+    let next = tables::piece_next(pool, shape, d);
+    share(pool, shape, next);
+    take_piece(pool, shape, f, buffer, offset + n, length - n, next);
+}
+
+// How many new pieces `settle` takes, 0 or 1: the descriptors wanted.
+pub fn wanted(link: u16, into: u32, own: bool) -> u16
+    ensures { λ r. ⌜ ((T : Tables) → r ≡ length (restFrom T own link into .more)) ⌝ }
+{
+    if link == 0 {
+        return 0;
+    }
+    if into == 0 {
+        return 0;
+    }
+    if own {
+        return 0;
+    }
+    1
+}
+
+// Makes what stays from `into` bytes into the piece that `link` leads to, with the lowest free piece from `from` on where a new one is needed; answers the link to it: a head trimmed in place or copied.
+pub fn settle(pool: &mut [u8], shape: Shape, link: u16, into: u32, own: bool, from: u16) -> u16
+    requires { ⌜ Opened (now pool) shape × Is (linkOk (decode (now pool)) link) ⌝ }
+    requires { ⌜ ((link ≡ 0 → ⊥) → into < piece (decode (now pool)) (link - 1) .len) ⌝ }
+    requires { ⌜ length (restFrom (decode (now pool)) own link into .more) ≤ length (places (isFree (decode (now pool))) from (pieceTotal (decode (now pool)) - from)) ⌝ }
+    ensures { λ r. ⌜ Holds (now (pool .exit)) shape (made (restFrom (decode (now (pool .entry))) own link into) (places (isFree (decode (now (pool .entry)))) from (pieceTotal (decode (now (pool .entry))) - from))) × (r ≡ madeLink (restFrom (decode (now (pool .entry))) own link into) (places (isFree (decode (now (pool .entry)))) from (pieceTotal (decode (now (pool .entry))) - from))) ⌝ }
+{
+    if link == 0 {
+        return 0;
+    }
+    if into == 0 {
+        share(pool, shape, link);
+        return link;
+    }
+    let d = PieceNumber(link - 1);
+    if own {
+        shorten(pool, shape, d, into as u16);
+        return link;
+    }
+    let f = chain::next_free_piece(pool, shape, from);
+    clone_rest(pool, shape, d, into as u16, PieceNumber(f));
+    f + 1
 }

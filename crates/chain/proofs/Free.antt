@@ -1,18 +1,21 @@
--- The numbers that pass a test, by a scan from the lowest on: how many, and the first. Assumes nothing.
-use mathlib.Core.Path.{_≡_, refl, sym, ap, _∙_}
+-- The numbers that pass a test, by a scan from the lowest on: the first, and whether there are enough. Assumes nothing.
+use mathlib.Core.Path.{_≡_, refl, sym, ap, subst, _∙_}
 use mathlib.Core.Bool.{Bool, true, false}
 use mathlib.Core.List.{List, [], _∷_}
 use Prim.Native.Nat.{ℕ, zero, suc, _+_, _-_, _≤_, _<_}
 use native.Mathlib.Numerals.{add-one}
+use native.Mathlib.Decide.{decLt}
 use native.Mathlib.Omega.{arith}
-use lib.ListN.{length}
-use borrow.Author.Tests.{eq-eqb, ne-eqb}
-use lib.Dec.{eqb, ltb, lt→ltb, ltb→lt}
-use Rattle.rules.specs.Basics.{Is, if_then_else_, bit, places}
-use Rattle.rules.proofs.Logic.{if-T, if-F, if-either, bit-one}
+use lib.ListN.{length, getD}
+use borrow.Author.Tests.{eq-eqb, ne-eqb, le-leb, lt-leb}
+use lib.Dec.{eqb, leb, leb·suc-suc, ltb, lt→ltb, ltb→lt}
+use Rattle.rules.specs.Basics.{Is, if_then_else_, places, bit}
+use Rattle.rules.specs.Tables.{Tables, slipTotal, pieceTotal, bufferTotal}
+use Rattle.rules.specs.Room.{isVacant, isFree, isUnheld, vacantSlips, freePieces, freeBuffers, newSlip}
+use Rattle.rules.proofs.Logic.{if-T, if-F, if-either, bit-one, is-true}
 use Rattle.rules.proofs.Sums.{sumTo-ones}
 use Rattle.rules.proofs.Room.{places-count-0}
-use Rattle.chain.specs.Free.{firstOr, firstFrom}
+use Rattle.chain.specs.Free.{firstOr, firstFrom, lowestFor}
 
 -- ---- tests against zero
 
@@ -22,29 +25,6 @@ is-zero {v} {m} e z = eq-eqb m 0 (omega arith)
 
 pub not-zero : {v m : ℕ} → v ≡ m → (v ≡ 0 → ⊥) → eqb m 0 ≡ false
 not-zero {v} {m} e z = ne-eqb m 0 (omega arith)
-
--- ---- how many
-
-module _ (f : ℕ → Bool) where
-  -- one number more is looked at
-  one-more : (i : ℕ) → length (places f 0 (i + 1)) ≡ bit (f i) + length (places f 0 i)
-  one-more i = rw (add-one, places-count-0, places-count-0)
-
-  -- none is looked at
-  pub count-none : 0 ≡ length (places f 0 0)
-  unfolding places
-  count-none = refl
-
-  -- the numbers that pass, of the first i and of one more
-  pub count-in : (n i : ℕ) → n ≡ length (places f 0 i) → f i ≡ true → n + 1 ≡ length (places f 0 (i + 1))
-  count-in n i e t = omega (arith, one-more i, ap bit t)
-
-  pub count-out : (n i : ℕ) → n ≡ length (places f 0 i) → f i ≡ false → n ≡ length (places f 0 (i + 1))
-  count-out n i e t = omega (arith, one-more i, ap bit t)
-
-  -- they are no more than those looked at
-  pub count-most : (i : ℕ) → length (places f 0 i) ≤ i
-  count-most i = rw places-count-0 (sumTo-ones i (λ j. bit (f j)) (λ j. bit-one (f j)))
 
 -- ---- the first
 
@@ -113,3 +93,120 @@ lies f (suc k) i n e =
 pub first-lies : (f : ℕ → Bool) (i n : ℕ) → Lies f i n (firstFrom f i n)
 unfolding firstFrom
 first-lies f i n = lies f (n - i) i n refl
+
+-- ---- from the lowest found
+
+module _ (f : ℕ → Bool) (i n : ℕ) {r : ℕ} (e : r ≡ firstFrom f i n) where
+  -- the lowest found, r, and those after it
+  abbrev Begins : ℕ → Type 0
+  Begins x = places f i (n - i) ≡ (if ltb x n then x ∷ places f (suc x) (n - suc x) else [])
+
+  begins : Begins r
+  begins = subst Begins (sym e) (places-first f i n)
+
+  -- where r is below n, the numbers that pass from i on are r and those after it
+  pub free-first : r < n → places f i (n - i) ≡ r ∷ places f (suc r) (n - suc r)
+  free-first h = begins ∙ if-T (ltb r n) _ _ (lt→ltb r n h)
+
+  -- else there is none
+  pub free-none : r ≡ n → places f i (n - i) ≡ []
+  free-none h = begins ∙ if-F (ltb r n) _ _ (λ t. omega (arith, ltb→lt r n t))
+
+-- the same of all numbers below n
+all-first : (f : ℕ → Bool) (n : ℕ) {r : ℕ} → r ≡ firstFrom f 0 n → r < n → places f 0 n ≡ r ∷ places f (suc r) (n - suc r)
+all-first f n e h = let z : n - 0 ≡ n = omega arith in ap (places f 0) (sym z) ∙ free-first f 0 n e h
+
+all-none : (f : ℕ → Bool) (n : ℕ) {r : ℕ} → r ≡ firstFrom f 0 n → r ≡ n → places f 0 n ≡ []
+all-none f n e h = let z : n - 0 ≡ n = omega arith in ap (places f 0) (sym z) ∙ free-none f 0 n e h
+
+module _ (T : Tables) {r : ℕ} where
+  -- the lowest free piece and the free pieces after it, or none is free
+  pub piece-first : r ≡ firstFrom (isFree T) 0 (pieceTotal T) → r < pieceTotal T
+      → freePieces T ≡ r ∷ places (isFree T) (suc r) (pieceTotal T - suc r)
+  piece-first = all-first (isFree T) (pieceTotal T)
+
+  pub no-piece : r ≡ firstFrom (isFree T) 0 (pieceTotal T) → r ≡ pieceTotal T → freePieces T ≡ []
+  no-piece = all-none (isFree T) (pieceTotal T)
+
+  -- the lowest free buffer and the free buffers after it, or none is free
+  pub buffer-first : r ≡ firstFrom (isUnheld T) 0 (bufferTotal T) → r < bufferTotal T
+      → freeBuffers T ≡ r ∷ places (isUnheld T) (suc r) (bufferTotal T - suc r)
+  buffer-first = all-first (isUnheld T) (bufferTotal T)
+
+  pub no-buffer : r ≡ firstFrom (isUnheld T) 0 (bufferTotal T) → r ≡ bufferTotal T → freeBuffers T ≡ []
+  no-buffer = all-none (isUnheld T) (bufferTotal T)
+
+-- the lowest vacant slip is the new one, or none is vacant
+pub new-slip : (T : Tables) {t : ℕ} → t ≡ firstFrom (isVacant T) 0 (slipTotal T) → t < slipTotal T → (newSlip T ≡ t) × (1 ≤ length (vacantSlips T))
+new-slip T e h =
+    let s = all-first (isVacant T) (slipTotal T) e h in
+    (ap (λ (l : List ℕ). getD l 0 0) s, omega (arith, ap length s))
+
+pub no-slip : (T : Tables) {t : ℕ} → t ≡ firstFrom (isVacant T) 0 (slipTotal T) → t ≡ slipTotal T → length (vacantSlips T) ≡ 0
+no-slip T e h = ap length (all-none (isVacant T) (slipTotal T) e h)
+
+-- ---- from the lowest wanted
+
+-- it is the lowest where any is wanted
+pub lowest-some : (f : ℕ → Bool) (k n : ℕ) → (k ≡ 0 → ⊥) → lowestFor f k n ≡ firstFrom f 0 n
+lowest-some f zero n h = absurd (h refl)
+lowest-some f (suc k) n h = refl
+
+-- the first is at most n
+first-most : (f : ℕ → Bool) (i n : ℕ) → firstFrom f i n ≤ n
+first-most f i n = first-lies f i n .0
+
+-- of no numbers none passes
+none-of : (f : ℕ → Bool) (i : ℕ) → places f i 0 ≡ []
+unfolding places
+none-of f i = refl
+
+-- none that passes is below the first
+pub places-skip : (f : ℕ → Bool) (n : ℕ) {r : ℕ} → r ≡ firstFrom f 0 n → places f r (n - r) ≡ places f 0 n
+places-skip f n {r} e =
+    elim (decLt r n) [
+      | yes h ↦
+          (let here : firstFrom f r n ≡ r = first-here f r n h (is-true (f r) (subst (λ (x : ℕ). Is (f x)) (sym e) (first-lies f 0 n .1 (omega (arith, e)) .1))) in
+          free-first f r n (sym here) h ∙ sym (all-first f n e h))
+      | no h ↦
+          (let z : r ≡ n = omega (arith, first-most f 0 n) in
+          let none : n - r ≡ 0 = omega arith in
+          ap (places f r) none ∙ none-of f r ∙ sym (all-none f n e z))
+    ]
+
+-- so they are all from the lowest wanted on
+pub lowest-all : (f : ℕ → Bool) (k n : ℕ) {r : ℕ} → r ≡ lowestFor f k n → places f r (n - r) ≡ places f 0 n
+lowest-all f zero n e = let z : n - 0 ≡ n = omega arith in ap (λ (x : ℕ). places f x (n - x)) e ∙ ap (places f 0) z
+lowest-all f (suc k) n e = places-skip f n e
+
+-- no more pass than are looked at
+pub count-most : (f : ℕ → Bool) (i : ℕ) → length (places f 0 i) ≤ i
+count-most f i = rw places-count-0 (sumTo-ones i (λ j. bit (f j)) (λ j. bit-one (f j)))
+
+-- ---- whether there are enough
+
+-- at least k of the numbers from i on and below n pass
+abbrev pub enough : (ℕ → Bool) → ℕ → ℕ → ℕ → Bool
+enough f k i n = leb k (length (places f i (n - i)))
+
+-- before any is looked at, from the lowest wanted on
+pub enough-all : (f : ℕ → Bool) (k n : ℕ) {r : ℕ} → r ≡ lowestFor f k n → enough f k r n ≡ leb k (length (places f 0 n))
+enough-all f k n e = ap (λ (l : List ℕ). leb k (length l)) (lowest-all f k n e)
+
+module _ (f : ℕ → Bool) (k i n : ℕ) where
+  -- none is asked for
+  pub enough-found : k ≡ 0 → true ≡ enough f k i n
+  enough-found z = sym (le-leb k (length (places f i (n - i))) (omega arith))
+
+  -- one is asked for, and none is left
+  pub enough-none : {r : ℕ} → 0 < k → r ≡ firstFrom f i n → r ≡ n → false ≡ enough f k i n
+  enough-none h e z = sym (ap (λ (l : List ℕ). leb k (length l)) (free-none f i n e z) ∙ lt-leb k 0 h)
+
+  -- one is found, and the rest is asked for after it
+  pub enough-more : {r : ℕ} → 0 < k → r ≡ firstFrom f i n → r < n → enough f (k - 1) (r + 1) n ≡ enough f k i n
+  enough-more {r} h e b =
+      let x : r + 1 ≡ suc r = add-one r in
+      let y : k ≡ suc (k - 1) = omega arith in
+      ap (λ (j : ℕ). enough f (k - 1) j n) x
+      ∙ sym (leb·suc-suc (k - 1) (length (places f (suc r) (n - suc r))))
+      ∙ (λ j. leb (sym y j) (length (sym (free-first f i n e b) j)))

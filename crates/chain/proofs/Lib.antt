@@ -1,5 +1,6 @@
 -- The laws of chain.
 pub mod Links
 pub mod Spots
+pub mod Parts
 pub mod Own
 pub mod Free

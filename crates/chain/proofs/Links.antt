@@ -2,20 +2,25 @@
 use mathlib.Core.Path.{_≡_, refl, sym, ap, subst}
 use mathlib.Core.Bool.{Bool, true, false, not}
 use mathlib.Core.List.{List, [], _∷_}
-use Prim.Native.Nat.{ℕ, zero, suc, pred, _+_, _-_, _≤_, _<_}
+use Prim.Native.Nat.{ℕ, zero, suc, pred, _+_, _-_, _≤_, _<_, _*_}
 use native.Mathlib.Omega.{arith}
 use borrow.Author.Tests.{lt-ltb, le-ltb}
 use lib.ListN.{length}
 use lib.Dec.{eqb, eqb→eq, ltb, ltb→lt, leb, leb→le}
-use Rattle.kinds.specs.Limits.{sizeOf}
+use Rattle.kinds.specs.Limits.{sizeOf, bufferSize}
+use Rattle.rules.proofs.Bounds.{total-small}
+use Rattle.rules.proofs.Hang.{stretches-length}
 use Rattle.rules.specs.Basics.{Is}
 use Rattle.rules.specs.Tables.{Tables, slip, piece, slipTotal, pieceTotal, bufferTotal}
-use Rattle.rules.specs.Chain.{follow, walk, stretches, total}
+use Rattle.rules.specs.Chain.{follow, walk, stretch, stretches, total}
 use Rattle.rules.specs.Sound.{linkOk, SoundTables}
 use Rattle.rules.specs.Rule.{unnamed}
 use Rattle.rules.proofs.Logic.{if-F, and-parts}
 use Rattle.rules.proofs.Meets.{Meets, go, meets-walk, meets-some}
 use Rattle.rules.proofs.Audit.{tables-now}
+use Rattle.rules.proofs.Build.{Good}
+use Rattle.rules.proofs.Chain.{walk-used, stretches-good, AllUsed}
+use Rattle.chain.specs.Length.{stretchesFrom}
 
 -- ---- a slip's entry
 
@@ -73,6 +78,11 @@ link-leads T (suc d) S t h = subst (InUse T) (omega arith) it
           onward = n;
         }
 
+-- a good link is at most P
+pub link-below : (T : Tables) (n : ℕ) → SoundTables T → Is (linkOk T n) → n ≤ pieceTotal T
+link-below T zero S t = omega arith
+link-below T (suc d) S t = omega (arith, link-leads T (suc d) S t (λ z. omega arith) .below)
+
 -- following next from a good link comes to a good link
 pub follow-good : (T : Tables) (j n : ℕ) → SoundTables T → Is (linkOk T n) → Is (linkOk T (follow T j n))
 unfolding follow
@@ -126,6 +136,36 @@ walk-on T n S t i = let (l, m, h) = link-meets T n S t in next-met T (pieceTotal
 pub walk-less : (T : Tables) (n : ℕ) → SoundTables T → Is (linkOk T n) → (n ≡ 0 → ⊥)
     → length (walk (pieceTotal T) T (piece T (n - 1) .next)) < length (walk (pieceTotal T) T n)
 walk-less T n S t i = omega (arith, ap length (walk-on T n S t i))
+
+-- it meets at most P
+pub walk-most : (T : Tables) (n : ℕ) → SoundTables T → Is (linkOk T n) → length (walk (pieceTotal T) T n) ≤ pieceTotal T
+walk-most T n S t =
+    let (l, m, h) = link-meets T n S t in
+    subst (λ (x : List ℕ). length x ≤ pieceTotal T) (sym (meets-walk (pieceTotal T) m h)) h
+
+-- the stretches met: none, or the first and those met after it
+pub stretches-none : (T : Tables) → stretchesFrom T 0 ≡ []
+unfolding stretches
+stretches-none T = ap (stretches T) (walk-none (pieceTotal T) T)
+
+pub stretches-on : (T : Tables) (n : ℕ) → SoundTables T → Is (linkOk T n) → (n ≡ 0 → ⊥)
+    → stretchesFrom T n ≡ stretch (piece T (n - 1)) ∷ stretchesFrom T (piece T (n - 1) .next)
+unfolding stretches
+stretches-on T n S t i = ap (stretches T) (walk-on T n S t i)
+
+-- the pieces met are in use
+pub walk-in-use : (T : Tables) (n : ℕ) → SoundTables T → Is (linkOk T n) → AllUsed T (walk (pieceTotal T) T n)
+walk-in-use T n S t =
+    walk-used (pieceTotal T) n (tables-now T S .1) (λ d e. subst (λ (x : ℕ). 0 < piece T x .count) (omega arith) (link-leads T n S t (omega arith) .used))
+
+-- each stretch lies in its buffer
+pub stretches-in : (T : Tables) (n : ℕ) → SoundTables T → Is (linkOk T n) → Good (bufferTotal T) (stretchesFrom T n)
+stretches-in T n S t = stretches-good (walk (pieceTotal T) T n) (tables-now T S .1) (walk-in-use T n S t)
+
+-- and they have at most as many bytes as P buffers
+pub stretches-small : (T : Tables) (n : ℕ) → SoundTables T → Is (linkOk T n) → total (stretchesFrom T n) ≤ bufferSize * pieceTotal T
+stretches-small T n S t =
+    omega (arith, total-small (bufferTotal T) (stretchesFrom T n) (stretches-in T n S t), stretches-length T (walk (pieceTotal T) T n), walk-most T n S t)
 
 -- ---- the length of the pieces met
 

@@ -1,22 +1,27 @@
 -- The own pieces of a chain, met one by one. Assumes nothing.
 use mathlib.Core.Path.{_≡_, refl, sym, ap, subst, _∙_}
-use mathlib.Core.Bool.{true, false}
+use mathlib.Core.Bool.{Bool, true, false, _&&_}
 use mathlib.Core.List.{List, [], _∷_, _++_}
-use Prim.Native.Nat.{ℕ, zero, suc, _+_, _-_}
+use Prim.Native.Nat.{ℕ, zero, suc, _+_, _-_, _<_}
 use native.Mathlib.Omega.{arith}
 use lib.ListN.{length, drop}
 use lib.Seq.{drop-at}
 use lib.Dec.{eqb}
 use Rattle.rules.specs.Basics.{Is, if_then_else_, lastOf}
 use Rattle.rules.specs.Tables.{Tables, piece, pieceTotal}
-use Rattle.rules.specs.Chain.{follow, walk, ownPieces, stretches}
+use Rattle.rules.specs.Chain.{follow, walk, ownPieces, stretches, total, cutOut}
 use Rattle.rules.specs.Sound.{linkOk, SoundTables}
+use Rattle.rules.specs.Drop.{ownAt}
 use Rattle.rules.proofs.Logic.{if-either}
 use Rattle.rules.proofs.Meets.{meets-one}
 use Rattle.rules.proofs.Hang.{Run, run-split, stretches-append, stretches-length}
 use Rattle.chain.specs.declared.OwnRun.{OwnRun}
-use Rattle.chain.specs.Own.{single, lastLink, ownRun}
+use Rattle.chain.specs.declared.OwnPart.{OwnPart}
+use Rattle.chain.specs.Length.{stretchesFrom}
+use Rattle.chain.specs.Own.{single, lastLink, ownRun, ownPart}
 use Rattle.chain.proofs.Links.{follow-good, walk-meets}
+use Rattle.chain.proofs.Spots.{cutOut-none}
+use Rattle.chain.proofs.Parts.{part-first}
 
 -- the link to the last of the pieces, l where there is none
 abbrev pub lastOr : ℕ → List ℕ → ℕ
@@ -97,6 +102,72 @@ single-is zero v T h e = absurd (h refl)
 single-is (suc d) v T h e =
     let b : suc d - 1 ≡ d = omega arith in
     ap (λ (x : ℕ). eqb x 1) (e ∙ ap (λ (x : ℕ). piece T x .count) b)
+
+-- ---- the own pieces that the first bytes overlap
+
+-- b bytes of own pieces, the link l to the last of them, and then the pieces ds, from the link n on
+abbrev bytesRun : ℕ → ℕ → Tables → ℕ → List ℕ → OwnPart
+bytesRun b l T n ds = record { bytes = b + total (stretches T ds); last = lastOr l ds; next = follow T (length ds) n }
+
+-- b bytes of own pieces, the link l to the last of them, and then those that the first m bytes from the link n overlap
+abbrev pub ownPartFrom : ℕ → ℕ → ℕ → Tables → ℕ → OwnPart
+ownPartFrom b l m T n = bytesRun b l T n (ownPieces (length (cutOut (stretchesFrom T n) 0 m)) T n)
+
+-- before any own piece is passed
+pub own-part-start : (m n : ℕ) (T : Tables) → ownPartFrom 0 0 m T n ≡ ownPart T n m
+unfolding ownPart
+own-part-start m n T =
+    let own = ownPieces (length (cutOut (stretchesFrom T n) 0 m)) T n in
+    let e : 0 + total (stretches T own) ≡ total (stretches T own) = omega arith in
+    λ i. record { bytes = e i; last = last-none own i; next = follow T (length own) n }
+
+-- none is left
+bytes-none : (b l : ℕ) (T : Tables) (n : ℕ) (ds : List ℕ) → ds ≡ [] → bytesRun b l T n ds ≡ record { bytes = b; last = l; next = n }
+unfolding follow stretches total
+bytes-none b l T n [] z = let e : b + 0 ≡ b = omega arith in λ i. record { bytes = e i; last = l; next = n }
+bytes-none b l T n (d ∷ ds) z = absurd (omega (arith, ap length z))
+
+-- the piece that n leads to is not own, or no more bytes are asked for
+pub own-part-stop : (b l m n : ℕ) (T : Tables) → single T n ≡ false → ownPartFrom b l m T n ≡ record { bytes = b; last = l; next = n }
+own-part-stop b l m n T e = bytes-none b l T n _ (none-own (length (cutOut (stretchesFrom T n) 0 m)) n T e)
+
+pub own-part-full : (b l m n : ℕ) (T : Tables) → m ≡ 0 → ownPartFrom b l m T n ≡ record { bytes = b; last = l; next = n }
+unfolding ownPieces
+own-part-full b l m n T e =
+    let none : length (cutOut (stretchesFrom T n) 0 m) ≡ 0 = ap length (ap (cutOut (stretchesFrom T n) 0) e ∙ cutOut-none (stretchesFrom T n) 0) in
+    bytes-none b l T n _ (ap (λ (k : ℕ). ownPieces k T n) none)
+
+-- one own piece more is passed
+bytes-more : (b l d : ℕ) (T : Tables) (ds : List ℕ) → bytesRun b l T (suc d) (d ∷ ds) ≡ bytesRun (b + piece T d .len) (suc d) T (piece T d .next) ds
+unfolding follow stretches total
+bytes-more b l d T ds =
+    let e : b + (piece T d .len + total (stretches T ds)) ≡ b + piece T d .len + total (stretches T ds) = omega arith in
+    λ i. record { bytes = e i; last = last-more l d ds i; next = follow T (length ds) (piece T d .next) }
+
+own-first : (b l k n : ℕ) (T : Tables) → single T n ≡ true
+    → bytesRun b l T n (ownPieces (suc k) T n) ≡ bytesRun (b + piece T (n - 1) .len) n T (piece T (n - 1) .next) (ownPieces k T (piece T (n - 1) .next))
+unfolding ownPieces if_then_else_
+own-first b l k zero T e = absurd (subst Is (sym e) tt)
+own-first b l k (suc d) T e =
+    let a : suc d - 1 ≡ d = omega arith in
+    rw (a, e) (bytes-more b l d T (ownPieces k T (piece T d .next)))
+
+-- the piece that n leads to is own, and bytes are asked for
+pub own-part-more : (b l m n : ℕ) (T : Tables) → SoundTables T → Is (linkOk T n) → 0 < m → single T n ≡ true
+    → ownPartFrom b l m T n ≡ ownPartFrom (b + piece T (n - 1) .len) n (m - piece T (n - 1) .len) T (piece T (n - 1) .next)
+own-part-more b l m n T S t h e =
+    let rest = length (cutOut (stretchesFrom T (piece T (n - 1) .next)) 0 (m - piece T (n - 1) .len)) in
+    ap (λ (k : ℕ). bytesRun b l T n (ownPieces k T n)) (part-first T n m S t (single-link n T e) h) ∙ own-first b l rest n T e
+
+-- ---- whether one piece is own
+
+-- none is behind one that is not
+pub own-lost : (T : Tables) (own : Bool) (d : ℕ) → own ≡ false → false ≡ ownAt T own d
+own-lost T own d e = ap (λ (b : Bool). b && eqb (piece T d .count) 1) (sym e)
+
+-- behind own pieces its count, v, tells
+pub own-kept : (T : Tables) (own : Bool) (d v : ℕ) → own ≡ true → v ≡ piece T d .count → eqb v 1 ≡ ownAt T own d
+own-kept T own d v e c = ap (λ (x : ℕ). eqb x 1) c ∙ ap (λ (b : Bool). b && eqb (piece T d .count) 1) (sym e)
 
 -- ---- the own pieces in sound tables
 

@@ -1,7 +1,7 @@
 -- The lowest free numbers.
 use mathlib.Core.Bool.{Bool}
 use mathlib.Core.List.{List, [], _∷_}
-use Prim.Native.Nat.{ℕ, _-_}
+use Prim.Native.Nat.{ℕ, zero, suc, _-_}
 use Rattle.rules.specs.Basics.{places}
 
 -- the first of a list, or n where it has none
@@ -12,3 +12,8 @@ firstOr n (x ∷ xs) = x
 -- the lowest number from i on and below n that passes, or n where none does
 unfoldable pub firstFrom : (ℕ → Bool) → ℕ → ℕ → ℕ
 firstFrom f i n = firstOr n (places f i (n - i))
+
+-- the lowest number below n that passes, or n; 0 where none is wanted
+abbrev pub lowestFor : (ℕ → Bool) → ℕ → ℕ → ℕ
+lowestFor f zero n = 0
+lowestFor f (suc k) n = firstFrom f 0 n

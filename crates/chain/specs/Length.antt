@@ -1,9 +1,14 @@
--- The length of a part of a chain.
+-- What is met from a link on, and its length.
 use mathlib.Core.Path.{_≡_}
 use Prim.Native.Nat.{ℕ, _*_, _≤_}
 use Rattle.kinds.specs.Limits.{bufferSize}
-use Rattle.rules.specs.Tables.{Tables}
-use Rattle.rules.specs.Chain.{walk, stretches, total}
+use mathlib.Core.List.{List}
+use Rattle.rules.specs.Tables.{Tables, pieceTotal}
+use Rattle.rules.specs.Chain.{Stretch, walk, stretches, total}
+
+-- the stretches of the pieces met from the link n on
+abbrev pub stretchesFrom : Tables → ℕ → List Stretch
+stretchesFrom T n = stretches T (walk (pieceTotal T) T n)
 
 -- r is the length of the pieces met from the link n, at most k of them
 pub record LengthIs (T : Tables) (n k r : ℕ) : Type 0 where

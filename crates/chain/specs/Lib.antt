@@ -2,5 +2,7 @@
 pub mod Opened
 pub mod Length
 pub mod Find
+pub mod Rest
+pub mod Part
 pub mod Own
 pub mod Free

@@ -6,8 +6,10 @@ use lib.ListN.{length}
 use lib.Dec.{eqb}
 use Rattle.rules.specs.Basics.{lastOf}
 use Rattle.rules.specs.Tables.{Tables, piece}
-use Rattle.rules.specs.Chain.{follow, ownPieces}
+use Rattle.rules.specs.Chain.{follow, ownPieces, stretches, total, cutOut}
 use Rattle.chain.specs.declared.OwnRun.{OwnRun}
+use Rattle.chain.specs.declared.OwnPart.{OwnPart}
+use Rattle.chain.specs.Length.{stretchesFrom}
 
 -- the link n leads to a piece of count 1
 abbrev pub single : Tables → ℕ → Bool
@@ -24,3 +26,9 @@ unfoldable pub ownRun : ℕ → Tables → ℕ → OwnRun
 ownRun k T n =
     let own = ownPieces k T n in
     record { count = length own; last = lastLink own; next = follow T (length own) n }
+
+-- the own pieces that the first m bytes from the link n overlap: their bytes, the link to the last, and the link after them
+unfoldable pub ownPart : Tables → ℕ → ℕ → OwnPart
+ownPart T n m =
+    let own = ownPieces (length (cutOut (stretchesFrom T n) 0 m)) T n in
+    record { bytes = total (stretches T own); last = lastLink own; next = follow T (length own) n }

@@ -4,27 +4,31 @@ use kinds::PieceNumber;
 use kinds::SlipNumber;
 use tables::Shape;
 ghost use mathlib.Core.Path.{_≡_};
-ghost use mathlib.Core.Bool.{not};
-ghost use Prim.Native.Nat.{_<_};
+ghost use mathlib.Core.Bool.{true, not};
+ghost use Prim.Native.Nat.{_-_, _<_};
 ghost use lib.ListN.{length};
+ghost use lib.Dec.{leb};
 ghost use Rattle.rules.specs.Basics.{Is};
 ghost use Rattle.rules.specs.Tables.{piece, headOf, slipTotal, pieceTotal, bufferTotal};
 ghost use Rattle.rules.specs.Bytes.{decode};
 ghost use Rattle.rules.specs.Chain.{lengthOf};
 ghost use Rattle.rules.specs.Sound.{linkOk};
-ghost use Rattle.rules.specs.Room.{isVacant, isFree, isUnheld, vacantSlips, freePieces, freeBuffers};
+ghost use Rattle.rules.specs.Room.{isVacant, isFree, isUnheld, freePieces, freeBuffers};
 ghost use Rattle.rules.specs.Rule.{unnamed};
+ghost use Rattle.rules.specs.Drop.{ownAt};
 ghost use Rattle.tables.specs.Shape.{Shaped};
 ghost use Rattle.chain.specs.Opened.{Opened};
 ghost use Rattle.chain.specs.Length.{LengthIs};
-ghost use Rattle.chain.specs.Find.{spotOf};
-ghost use Rattle.chain.specs.Own.{single, ownRun};
-ghost use Rattle.chain.specs.Free.{firstFrom};
+ghost use Rattle.chain.specs.Find.{spotOf, pastEnd};
+ghost use Rattle.chain.specs.Part.{partOf};
+ghost use Rattle.chain.specs.Own.{single, ownRun, ownPart};
+ghost use Rattle.chain.specs.Free.{firstFrom, lowestFor};
 
-// A place in a chain, the link to a piece and the bytes of it before the place: a cursor.
+// A place in a chain, the link to a piece, the bytes of it before the place, and whether that piece is own: a cursor.
 pub struct Spot {
     pub link: u16,
     pub into: u32,
+    pub own: bool,
 }
 
 // The own pieces of a chain: how many, the link to the last (0 none), and the link after it.
@@ -32,6 +36,19 @@ pub struct OwnRun {
     pub count: u16,
     pub last: u16,
     pub next: u16,
+}
+
+// The own pieces that the first bytes of a chain overlap: their bytes, the link to the last (0 none), and the link after it.
+pub struct OwnPart {
+    pub bytes: u32,
+    pub last: u16,
+    pub next: u16,
+}
+
+// What the first bytes of a chain take: how many pieces, and whether it has them (an extent).
+pub struct Part {
+    pub pieces: u16,
+    pub enough: bool,
 }
 
 // The link that slip `s` holds, 0 none and 1 + d piece d: a chain's head.
@@ -93,20 +110,34 @@ pub fn chain_length(pool: &[u8], shape: Shape, s: SlipNumber) -> u32
     length_from(pool, shape, link, shape.pieces)
 }
 
-// The place `off` bytes into the chain that starts at `link`; its link is 0 past the end: a seek.
+// Whether piece `d` is own, where `own` says so of all before it: none has a second reference.
+fn own_at(pool: &[u8], shape: Shape, own: bool, d: PieceNumber) -> bool
+    requires { ⌜ Shaped (now pool) shape × (d .0 < shape .pieces) ⌝ }
+    ensures { λ r. ⌜ r ≡ ownAt (decode (now (pool .entry))) own (d .0) ⌝ }
+{
+    if !own {
+        return false;
+    }
+    tables::piece_count(pool, shape, d) == 1
+}
+
+// The place `off` bytes into the chain that starts at `link`, and whether its piece is own; its link is 0 past the end: a seek.
 pub fn find(pool: &[u8], shape: Shape, link: u16, off: u32) -> Spot
     requires { ⌜ Opened (now pool) shape × Is (linkOk (decode (now pool)) link) ⌝ }
-    ensures { λ r. ⌜ r ≡ spotOf (pieceTotal (decode (now (pool .entry)))) (decode (now (pool .entry))) link off ⌝ }
+    ensures { λ r. ⌜ r ≡ spotOf (pieceTotal (decode (now (pool .entry)))) (decode (now (pool .entry))) true link off ⌝ }
 {
     let mut at = link;
     let mut left = off;
+    let mut own = true;
     while at != 0 {
         let d = PieceNumber(at - 1);
         let n = piece_bytes(pool, shape, d);
+        own = own_at(pool, shape, own, d);
         if left < n {
             return Spot {
                 link: at,
                 into: left,
+                own: own,
             };
         }
         left = left - n;
@@ -115,6 +146,51 @@ pub fn find(pool: &[u8], shape: Shape, link: u16, off: u32) -> Spot
     Spot {
         link: 0,
         into: left,
+        own: own,
+    }
+}
+
+// Whether a place found lies past the end of its chain, which then has fewer bytes: a seek past the end.
+pub fn past_end(at: Spot) -> bool
+    ensures { λ r. ⌜ r ≡ pastEnd at ⌝ }
+{
+    at.link == 0 && 0 < at.into
+}
+
+// The bytes of `n` past the first `k`, or none: a difference that stops at 0.
+fn past(n: u64, k: u64) -> u64
+    ensures { λ r. ⌜ r ≡ n - k ⌝ }
+{
+    if n < k {
+        return 0;
+    }
+    n - k
+}
+
+// The pieces that the first `n` bytes from `link` overlap, and whether there are so many bytes: a bounded walk.
+pub fn part_of(pool: &[u8], shape: Shape, link: u16, n: u64) -> Part
+    requires { ⌜ Opened (now pool) shape × Is (linkOk (decode (now pool)) link) ⌝ }
+    ensures { λ r. ⌜ r ≡ partOf (decode (now (pool .entry))) link n ⌝ }
+{
+    let mut at = link;
+    let mut left = n;
+    let mut pieces = 0;
+    while 0 < left {
+        if at == 0 {
+            return Part {
+                pieces: pieces,
+                enough: false,
+            };
+        }
+        let d = PieceNumber(at - 1);
+        let k = piece_bytes(pool, shape, d) as u64;
+        left = past(left, k);
+        pieces += 1;
+        at = tables::piece_next(pool, shape, d);
+    }
+    Part {
+        pieces: pieces,
+        enough: true,
     }
 }
 
@@ -152,20 +228,28 @@ pub fn own_run(pool: &[u8], shape: Shape, link: u16, most: u16) -> OwnRun
     }
 }
 
-// How many slips are vacant: the free handles.
-pub fn vacant_slips(pool: &[u8], shape: Shape) -> u16
-    requires { ⌜ Shaped (now pool) shape ⌝ }
-    ensures { λ r. ⌜ r ≡ length (vacantSlips (decode (now (pool .entry)))) ⌝ }
+// The own pieces from `link` on, up to the one in which the first `n` bytes end: those of a single reference.
+pub fn own_part(pool: &[u8], shape: Shape, link: u16, n: u32) -> OwnPart
+    requires { ⌜ Opened (now pool) shape × Is (linkOk (decode (now pool)) link) ⌝ }
+    ensures { λ r. ⌜ r ≡ ownPart (decode (now (pool .entry))) link n ⌝ }
 {
-    let mut n = 0;
-    let mut s = 0;
-    while s < shape.slips {
-        if tables::slip(pool, shape, SlipNumber(s)) == 0 {
-            n += 1;
+    let mut bytes = 0;
+    let mut last = 0;
+    let mut at = link;
+    while bytes < n {
+        if !single(pool, shape, at) {
+            break;
         }
-        s += 1;
+        last = at;
+        let d = PieceNumber(at - 1);
+        bytes += piece_bytes(pool, shape, d);
+        at = tables::piece_next(pool, shape, d);
     }
-    n
+    OwnPart {
+        bytes: bytes,
+        last: last,
+        next: at,
+    }
 }
 
 // The lowest vacant slip from `from` on, or the count of slips: a scan for a free handle.
@@ -183,22 +267,6 @@ pub fn next_vacant(pool: &[u8], shape: Shape, from: u16) -> u16
     shape.slips
 }
 
-// How many pieces are free: the free segment descriptors.
-pub fn free_pieces(pool: &[u8], shape: Shape) -> u16
-    requires { ⌜ Shaped (now pool) shape ⌝ }
-    ensures { λ r. ⌜ r ≡ length (freePieces (decode (now (pool .entry)))) ⌝ }
-{
-    let mut n = 0;
-    let mut d = 0;
-    while d < shape.pieces {
-        if tables::piece_count(pool, shape, PieceNumber(d)) == 0 {
-            n += 1;
-        }
-        d += 1;
-    }
-    n
-}
-
 // The lowest free piece from `from` on, or the count of pieces: a scan for a free descriptor.
 pub fn next_free_piece(pool: &[u8], shape: Shape, from: u16) -> u16
     requires { ⌜ Shaped (now pool) shape ⌝ }
@@ -214,20 +282,33 @@ pub fn next_free_piece(pool: &[u8], shape: Shape, from: u16) -> u16
     shape.pieces
 }
 
-// How many buffers are free: the free clusters.
-pub fn free_buffers(pool: &[u8], shape: Shape) -> u16
+// The lowest free piece where any is wanted, 0 where `k` is: a scan for a free descriptor.
+pub fn lowest_piece(pool: &[u8], shape: Shape, k: usize) -> u16
     requires { ⌜ Shaped (now pool) shape ⌝ }
-    ensures { λ r. ⌜ r ≡ length (freeBuffers (decode (now (pool .entry)))) ⌝ }
+    ensures { λ r. ⌜ r ≡ lowestFor (isFree (decode (now (pool .entry)))) k (pieceTotal (decode (now (pool .entry)))) ⌝ }
 {
-    let mut n = 0;
-    let mut b = 0;
-    while b < shape.buffers {
-        if tables::buffer_count(pool, shape, BufferNumber(b)) == 0 {
-            n += 1;
-        }
-        b += 1;
+    if k == 0 {
+        return 0;
     }
-    n
+    next_free_piece(pool, shape, 0)
+}
+
+// Whether at least `k` pieces are free, by a scan from the lowest that stops at the k-th: a room test.
+pub fn has_pieces(pool: &[u8], shape: Shape, lowest: u16, k: usize) -> bool
+    requires { ⌜ Shaped (now pool) shape × (lowest ≡ lowestFor (isFree (decode (now pool))) k (pieceTotal (decode (now pool)))) ⌝ }
+    ensures { λ r. ⌜ r ≡ leb k (length (freePieces (decode (now (pool .entry))))) ⌝ }
+{
+    let mut pieces_left = k;
+    let mut from = lowest;
+    while 0 < pieces_left {
+        let d = next_free_piece(pool, shape, from);
+        if d == shape.pieces {
+            return false;
+        }
+        from = d + 1;
+        pieces_left -= 1;
+    }
+    true
 }
 
 // The lowest free buffer from `from` on, or the count of buffers: a scan for a free cluster.
@@ -243,4 +324,33 @@ pub fn next_free_buffer(pool: &[u8], shape: Shape, from: u16) -> u16
         b += 1;
     }
     shape.buffers
+}
+
+// The lowest free buffer where any is wanted, 0 where `k` is: a scan for a free cluster.
+pub fn lowest_buffer(pool: &[u8], shape: Shape, k: usize) -> u16
+    requires { ⌜ Shaped (now pool) shape ⌝ }
+    ensures { λ r. ⌜ r ≡ lowestFor (isUnheld (decode (now (pool .entry)))) k (bufferTotal (decode (now (pool .entry)))) ⌝ }
+{
+    if k == 0 {
+        return 0;
+    }
+    next_free_buffer(pool, shape, 0)
+}
+
+// Whether at least `k` buffers are free, by a scan from the lowest that stops at the k-th: a room test.
+pub fn has_buffers(pool: &[u8], shape: Shape, lowest: u16, k: usize) -> bool
+    requires { ⌜ Shaped (now pool) shape × (lowest ≡ lowestFor (isUnheld (decode (now pool))) k (bufferTotal (decode (now pool)))) ⌝ }
+    ensures { λ r. ⌜ r ≡ leb k (length (freeBuffers (decode (now (pool .entry))))) ⌝ }
+{
+    let mut buffers_left = k;
+    let mut from = lowest;
+    while 0 < buffers_left {
+        let b = next_free_buffer(pool, shape, from);
+        if b == shape.buffers {
+            return false;
+        }
+        from = b + 1;
+        buffers_left -= 1;
+    }
+    true
 }

@@ -1,6 +1,6 @@
 // The numbers of slips, pieces and buffers, a slip's state, the refusals and the answers.
 ghost use mathlib.Core.Path.{_≡_};
-ghost use Prim.Native.Nat.{_+_, _<_};
+ghost use Prim.Native.Nat.{_+_, _<_, min};
 ghost use lib.Dec.{ltb, leb};
 ghost use Rattle.kinds.specs.Limits.{mostBuffers, mostPieces, mostSlips, bufferSize, startOf, counted};
 ghost use Rattle.kinds.specs.SlipState.{stateOf, rawOf};
@@ -54,6 +54,13 @@ pub enum Outcome {
 pub struct Answer {
     pub code: u16,
     pub number: u32,
+}
+
+// The lesser of two numbers: a minimum.
+pub fn lesser(a: u32, b: u32) -> u32
+    ensures { λ r. ⌜ r ≡ min a b ⌝ }
+{
+    if a < b { a } else { b }
 }
 
 // Whether `n` is a count from 1 to `most`: a range test.

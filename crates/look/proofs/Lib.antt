@@ -1,4 +1,3 @@
 -- The laws of look.
-pub mod Copy
 pub mod Perform
 pub mod Places

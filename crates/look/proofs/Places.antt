@@ -36,11 +36,11 @@ use Rattle.chain.proofs.Links.{walk-first, length-none, length-empty}
 use Rattle.look.specs.declared.Place.{Place}
 use Rattle.look.specs.declared.Place.the-variants.{Storage, Scratch}
 use Rattle.look.specs.Place.{viewAt, partAt, Lies}
-use Rattle.look.specs.Copy.{stretchesFrom}
-use Rattle.look.specs.Result.{lent, resultOf}
+use Rattle.chain.specs.Length.{stretchesFrom}
+use Rattle.answer.specs.Result.{lent, resultOf}
 use Rattle.look.specs.declared.Shown.{Shown}
 use Rattle.look.specs.Show.{Seen}
-use Rattle.look.proofs.Perform.{perform-first, perform-none}
+use Rattle.answer.proofs.Perform.{perform-first, perform-none}
 
 -- ---- where the bytes are seen
 

@@ -1,2 +1,4 @@
 -- The laws of release.
 pub mod Laws
+pub mod Behind
+pub mod Under

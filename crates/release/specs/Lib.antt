@@ -1,2 +1,3 @@
 -- What the contracts of release cite.
 pub mod Release
+pub mod Hang

@@ -3,11 +3,12 @@ use kinds::PieceNumber;
 use kinds::SlipNumber;
 use tables::Shape;
 ghost use mathlib.Core.Path.{_≡_};
-ghost use Prim.Native.Nat.{_<_, pred};
+ghost use Prim.Native.Nat.{_<_, _≤_, pred};
 ghost use Rattle.rules.specs.Tables.{piece, setPiece, withNext};
 ghost use Rattle.rules.specs.Bytes.{decode};
 ghost use Rattle.tables.specs.Shape.{Shaped, Holds};
 ghost use Rattle.release.specs.Release.{Held, Releasable, stepped, stepNext, released, turnedTo, relinkedTo};
+ghost use Rattle.release.specs.Hang.{Hangable, hungTo};
 
 // Gives up one reference to piece `d` and returns the link to give up next, 0 none: a count lowered, or a descriptor freed.
 pub fn step(pool: &mut [u8], shape: Shape, d: PieceNumber) -> u16
@@ -59,4 +60,16 @@ pub fn relink(pool: &mut [u8], shape: Shape, l: PieceNumber, n: u16)
     let old = tables::piece_next(pool, shape, l);
     tables::set_piece_next(pool, shape, l, n);
     release(pool, shape, old);
+}
+
+// The link `n` goes behind the piece that `last` leads to, or under slip `s` where that is 0, and what stood there is released: a tail put behind a run of own pieces.
+pub fn hang(pool: &mut [u8], shape: Shape, s: SlipNumber, last: u16, n: u16)
+    requires { ⌜ Shaped (now pool) shape × (s .0 < shape .slips) × (last ≤ shape .pieces) × (n < 65535) × Hangable (decode (now pool)) last n ⌝ }
+    ensures { λ _. ⌜ Holds (now (pool .exit)) shape (hungTo (decode (now (pool .entry))) (s .0) last n) ⌝ }
+{
+    if last == 0 {
+        turn(pool, shape, s, n + 1);
+        return;
+    }
+    relink(pool, shape, PieceNumber(last - 1), n);
 }

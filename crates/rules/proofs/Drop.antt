@@ -28,7 +28,7 @@ use Rattle.rules.proofs.Meets.{Meets, stop, go, chain-meets, meets-low,
 use Rattle.rules.proofs.Hang.{Gives, gives-as, old-gives}
 use Rattle.rules.proofs.Contents.{dropOut}
 
-drop-here : (T : Tables) (own : Bool) (d n : ℕ) → n < piece T d .len → 0 < piece T d .count → SoundNow T → Planned T (dropHere T own d n)
+pub drop-here : (T : Tables) (own : Bool) (d n : ℕ) → n < piece T d .len → 0 < piece T d .count → SoundNow T → Planned T (dropHere T own d n)
 unfolding dropHere
 drop-here T own d zero h u (rank, S) = record { still = still-shared T (suc d) (λ e q. subst (λ y. 0 < piece T y .count) (suc-inj q) u); good = tt; held = (rank, share-sound (suc d) (λ e q. subst (λ y. 0 < piece T y .count) (suc-inj q) u) S) }
 drop-here T own d (suc r) h u (rank, S) =

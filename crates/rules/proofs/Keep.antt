@@ -27,7 +27,7 @@ own-last : (j : ℕ) (T : Tables) (n l : ℕ) → OwnTo j T n l → piece T l .c
 own-last zero T n l o = o .1
 own-last (suc j) T n l (d, e, c, o) = own-last j T (piece T d .next) l o
 
-shortened-ok : (T : Tables) (n : ℕ) (own : List ℕ) (xs : List Stretch) → OwnList T n own → Good (length (T .counts)) xs → SoundNow T
+pub shortened-ok : (T : Tables) (n : ℕ) (own : List ℕ) (xs : List Stretch) → OwnList T n own → Good (length (T .counts)) xs → SoundNow T
     → SoundNow (shortened T own xs) × (shortened T own xs .slips ≡ T .slips) × OwnList (shortened T own xs) n own
 unfolding shortened
 shortened-ok T n [] xs o g S = (S, refl, tt)
@@ -75,19 +75,19 @@ keep-sound s n S l h =
 
 -- ---- the stretches that stay
 
-cut-cons : (y : Stretch) (ys : List Stretch) (n : ℕ) → 1 ≤ y .len
+pub cut-cons : (y : Stretch) (ys : List Stretch) (n : ℕ) → 1 ≤ y .len
     → cutOut (y ∷ ys) 0 (suc n) ≡ record { buffer = y .buffer; offset = y .offset + 0; len = min (suc n) (y .len - 0) } ∷ cutOut ys 0 (suc n - (y .len - 0))
 unfolding cutOut
 cut-cons y ys n h = if-F (leb (y .len) 0) _ _ (λ t. (let q = leb→le (y .len) 0 t in omega arith))
 
-cut-some : (ys : List Stretch) (off n : ℕ) → 0 < length (cutOut ys off n) → 0 < n
+pub cut-some : (ys : List Stretch) (off n : ℕ) → 0 < length (cutOut ys off n) → 0 < n
 unfolding cutOut
 cut-some [] off n h = absurd (omega arith)
 cut-some (y ∷ ys) off zero h = absurd (omega arith)
 cut-some (y ∷ ys) off (suc n) h = omega arith
 
 -- a stretch before another that stays is whole
-cut-whole : (y : Stretch) (ys : List Stretch) (n : ℕ) → 0 < length (cutOut ys 0 (suc n - (y .len - 0))) → _≡_ {A = Stretch} (record { buffer = y .buffer; offset = y .offset + 0; len = min (suc n) (y .len - 0) }) y
+pub cut-whole : (y : Stretch) (ys : List Stretch) (n : ℕ) → 0 < length (cutOut ys 0 (suc n - (y .len - 0))) → _≡_ {A = Stretch} (record { buffer = y .buffer; offset = y .offset + 0; len = min (suc n) (y .len - 0) }) y
 cut-whole y ys n h =
     let l = cut-some ys 0 (suc n - (y .len - 0)) h in
     let o : y .offset + 0 ≡ y .offset = omega arith in

@@ -190,7 +190,7 @@ unfolding behindOwn relinked
 behind-storage S s [] n = turned-storage S s (holding n)
 behind-storage S s (d ∷ ds) n = release-storage (withTables S (setPiece (S .tables) (lastOf d ds) _)) (piece (S .tables) (lastOf d ds) .next)
 
-kept-storage : (S : State) (s : ℕ) (own : List ℕ) (xs rest : List Stretch) → keptBy S s own xs rest .storage ≡ S .storage
+pub kept-storage : (S : State) (s : ℕ) (own : List ℕ) (xs rest : List Stretch) → keptBy S s own xs rest .storage ≡ S .storage
 unfolding keptBy
 kept-storage S s own xs [] = behind-storage _ s own 0
 kept-storage S s own xs (y ∷ ys) = behind-storage _ s own _

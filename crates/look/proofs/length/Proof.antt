@@ -5,7 +5,8 @@ use Rattle.rules.specs.Basics.{Is}
 use Rattle.rules.specs.Bytes.{decode}
 use Rattle.rules.specs.Rule.{unnamed}
 use Rattle.tables.proofs.Laws.{fits-decode}
-use Rattle.look.proofs.Perform.{is-unnamed, is-named, named-below, length-slip, length-done}
+use Rattle.answer.proofs.Perform.{is-unnamed, is-named, named-below}
+use Rattle.look.proofs.Perform.{length-slip, length-done}
 use Rattle.look.proofs.length.Statement.{statement}
 use Rattle.look.proofs.length.Tie as tie
 

@@ -10,8 +10,9 @@ use Rattle.rules.specs.Chain.{total, lengthOf}
 use Rattle.rules.specs.Rule.{unnamed}
 use Rattle.rules.specs.Sound.{linkOk}
 use Rattle.tables.proofs.Laws.{whole, total-slips, fits-decode}
-use Rattle.look.specs.Copy.{stretchesFrom}
-use Rattle.look.proofs.Perform.{is-unnamed, is-named, named-below, read-slip, read-range, read-narrow, read-done}
+use Rattle.chain.specs.Length.{stretchesFrom}
+use Rattle.answer.proofs.Perform.{is-unnamed, is-named, named-below}
+use Rattle.look.proofs.Perform.{read-slip, read-range, read-narrow, read-done}
 use Rattle.look.proofs.read.Statement.{statement}
 use Rattle.look.proofs.read.Tie as tie
 

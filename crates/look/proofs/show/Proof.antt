@@ -9,7 +9,7 @@ use Rattle.kinds.specs.Limits.{bufferSize}
 use Rattle.rules.specs.Basics.{Is}
 use Rattle.rules.specs.Bytes.{decode}
 use Rattle.rules.specs.Rule.{unnamed}
-use Rattle.look.proofs.Perform.{is-unnamed, is-named, named-below}
+use Rattle.answer.proofs.Perform.{is-unnamed, is-named, named-below}
 use Rattle.look.proofs.Places.{show-slip, show-long, show-range}
 use Rattle.look.proofs.show.Statement.{statement}
 use Rattle.look.proofs.show.Tie as tie

@@ -16,8 +16,8 @@ use Rattle.rules.proofs.Audit.{tables-now}
 use Rattle.rules.proofs.Chain.{spans-good}
 use Rattle.tables.proofs.Laws.{whole, total-slips, total-buffers, fits-decode}
 use Rattle.look.specs.Place.{viewAt}
-use Rattle.look.specs.Copy.{stretchesFrom}
-use Rattle.look.proofs.Perform.{named-below}
+use Rattle.chain.specs.Length.{stretchesFrom}
+use Rattle.answer.proofs.Perform.{named-below}
 use Rattle.look.proofs.Places.{show-narrow, show-storage, show-scratch}
 use Rattle.look.proofs.show_first.Statement.{statement}
 use Rattle.look.proofs.show_first.Tie as tie

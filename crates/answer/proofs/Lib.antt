@@ -1,0 +1,3 @@
+-- The laws of answer.
+pub mod Perform
+pub mod New

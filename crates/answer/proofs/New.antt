@@ -1,0 +1,33 @@
+-- New pieces under a new slip: what the stores leave, and the link to the first of the pieces. Assumes nothing.
+use mathlib.Core.Path.{_≡_, ap, _∙_}
+use mathlib.Core.List.{List, [], _∷_}
+use Prim.Native.Nat.{ℕ, _≤_}
+use native.Mathlib.Omega.{arith}
+use Rattle.rules.specs.Tables.{Tables, pieceTotal, holding, setSlip}
+use Rattle.rules.specs.Bytes.{decode}
+use Rattle.rules.specs.Chain.{Stretch}
+use Rattle.rules.specs.Room.{freePieces}
+use Rattle.rules.specs.Build.{Plan, builtLink, made, madeLink, underNew}
+use Rattle.rules.proofs.Build.{Free}
+use Rattle.rules.proofs.Room.{free-pieces}
+use Rattle.tables.specs.declared.Shape.{Shape}
+use Rattle.tables.specs.Shape.{Holds}
+use Rattle.tables.proofs.Laws.{onward}
+
+-- the pieces of a plan, and then the slip
+pub under-made : (x : Plan) (fs : List ℕ) (t : ℕ) {p q : List ℕ} {h : Shape} {n : ℕ} → Holds p h (made x fs) → n ≡ madeLink x fs
+    → Holds q h (setSlip (decode p) t (holding n)) → Holds q h (underNew x fs t)
+unfolding underNew
+under-made x fs t {n = n} was e is =
+    let now = onward was (λ (T : Tables). setSlip T t (holding n)) is in
+    record { shaped = now .shaped; is = now .is ∙ ap (λ (m : ℕ). setSlip (made x fs) t (holding m)) e }
+
+-- the link to the first of the new pieces fs, or to what stands behind them, is one of the pool's
+link-most : (T : Tables) (fs : List ℕ) (xs : List Stretch) (tail : ℕ) → Free T fs → tail ≤ pieceTotal T → builtLink fs xs tail ≤ pieceTotal T
+unfolding builtLink
+link-most T fs [] tail f h = h
+link-most T [] (x ∷ xs) tail f h = h
+link-most T (d ∷ fs) (x ∷ xs) tail f h = f .0
+
+pub new-link : (T : Tables) (xs : List Stretch) (tail : ℕ) {n : ℕ} → n ≡ builtLink (freePieces T) xs tail → tail ≤ pieceTotal T → n ≤ pieceTotal T
+new-link T xs tail e h = omega (arith, link-most T (freePieces T) xs tail (free-pieces T) h)

@@ -1,0 +1,125 @@
+-- The bytes of a chain written to free buffers: the chain lies on others, so that it holds the same bytes afterwards. Assumes nothing.
+use mathlib.Core.Path.{_≡_, sym, ap, subst, _∙_}
+use mathlib.Core.List.{List, [], _∷_, List·Memᴰ·eq-of-singleton}
+use Prim.Native.Nat.{ℕ, _+_, _-_, _≤_, _<_, min}
+use native.Mathlib.Omega.{arith}
+use lib.ListN.{length, take, drop, length-drop}
+use lib.Seq.{length-take-le, take-all, take-take, drop-drop, take-at}
+use lib.Dec.{eqb→eq}
+use Rattle.kinds.specs.Limits.{bufferSize}
+use Rattle.rules.specs.Basics.{Is}
+use Rattle.rules.specs.Tables.{Tables, bufferCount, pieceTotal, bufferTotal}
+use Rattle.rules.specs.Chain.{walk, stretches, total, contents}
+use Rattle.rules.specs.Sound.{linkOk, SoundTables}
+use Rattle.rules.specs.Room.{isUnheld, freeBuffers, newBuffers}
+use Rattle.rules.specs.Build.{buffersFor, filled, stored}
+use Rattle.rules.specs.Read.{copied}
+use Rattle.rules.proofs.Moves.{SoundBy, buffer-pos}
+use Rattle.rules.proofs.Audit.{tables-now}
+use Rattle.rules.proofs.Chain.{AllUsed}
+use Rattle.rules.proofs.Contents.{Fit, Off, contents-length, filled-length, stored-others}
+use Rattle.chain.proofs.Links.{walk-in-use, stretches-in}
+use Rattle.chain.specs.Free.{firstFrom, lowestFor}
+use Rattle.chain.specs.Length.{stretchesFrom}
+use Rattle.transfer.specs.declared.Cursor.{Cursor}
+use Rattle.transfer.specs.Behind.{Behind}
+use Rattle.transfer.proofs.Copy.{drop-take, take-most, drop-most}
+use Rattle.transfer.proofs.Fill.{Filling, filling-first, filling-done, filling-below, filling-passes, filling-on}
+
+-- ---- one buffer
+
+-- pieces in use lie on no free buffer
+used-off : {rank : ℕ → ℕ} (T : Tables) (b : ℕ) (ds : List ℕ) → SoundBy rank [] T → Is (isUnheld T b) → AllUsed T ds → Off (b ∷ []) (stretches T ds)
+unfolding stretches
+used-off T b [] S t u = tt
+used-off T b (d ∷ ds) S t u = (
+  λ m. omega (arith, eqb→eq (bufferCount T b) 0 t, buffer-pos d (u .0) S, ap (bufferCount T) (List·Memᴰ·eq-of-singleton m)),
+  used-off T b ds S t (u .1),
+)
+
+-- so a chain holds the same bytes once a free buffer is filled
+chain-stays : (T : Tables) (n b : ℕ) (st xs : List ℕ) → SoundTables T → Is (linkOk T n) → Fit (bufferTotal T) st → b < bufferTotal T → Is (isUnheld T b)
+    → contents (filled st b xs) (stretchesFrom T n) ≡ contents st (stretchesFrom T n)
+unfolding stored
+chain-stays T n b st xs sound t s h f =
+    stored-others (isUnheld T) b (bufferTotal T) (b ∷ []) st xs (stretchesFrom T n) (omega arith, h, f, tt) s (stretches-in T n sound t)
+    (used-off T b (walk (pieceTotal T) T n) (tables-now T sound .1) f (walk-in-use T n sound t))
+
+-- ---- a refill under way
+
+-- the n bytes of a chain from the place c on
+abbrev pub bytesFrom : Tables → List ℕ → Cursor → ℕ → List ℕ
+bytesFrom T st c n = take n (drop (c .into) (contents st (stretchesFrom T (c .link))))
+
+-- there are n of them, where the chain has as many
+pub bytes-count : (T : Tables) (st : List ℕ) (c : Cursor) (n : ℕ) → SoundTables T → Fit (bufferTotal T) st → Is (linkOk T (c .link)) → c .into + n ≤ total (stretchesFrom T (c .link))
+    → length (bytesFrom T st c n) ≡ n
+bytes-count T st c n sound s t h =
+    length-take-le n _ (simp length-drop (omega (arith, contents-length (bufferTotal T) st (stretchesFrom T (c .link)) s (stretches-in T (c .link) sound t))))
+
+-- the first bytes of a chain, as many as it has, are all of them
+pub bytes-all : (T : Tables) (st : List ℕ) (l : ℕ) → SoundTables T → Fit (bufferTotal T) st → Is (linkOk T l) → take (total (stretchesFrom T l)) (contents st (stretchesFrom T l)) ≡ contents st (stretchesFrom T l)
+bytes-all T st l sound s t =
+    let xs = stretchesFrom T l in
+    take-all (total xs) (contents st xs) (omega (arith, contents-length (bufferTotal T) st xs s (stretches-in T l sound t)))
+
+-- bytes that were copied out are the front of what they were copied to
+pub bytes-front : (T : Tables) (st : List ℕ) (c : Cursor) (n : ℕ) (out : List ℕ) {part : List ℕ} → length (bytesFrom T st c n) ≡ n → part ≡ copied (bytesFrom T st c n) out → take n part ≡ bytesFrom T st c n
+bytes-front T st c n out l e = ap (take n) e ∙ take-at (bytesFrom T st c n) _ n l
+
+-- the chain has n bytes more from the place c on, which are still to go to the lowest free buffers from i on
+pub record Refilling (T : Tables) (goal : List ℕ) (i : ℕ) (st : List ℕ) (c : Cursor) (n : ℕ) : Type 0 where
+  pub good : Is (linkOk T (c .link))
+  pub enough : c .into + n ≤ total (stretchesFrom T (c .link))
+  pub filling : Filling (isUnheld T) (bufferTotal T) goal i st (bytesFrom T st c n)
+
+-- all of them go to the lowest, from the first of those on
+pub refilling-first : (T : Tables) (st : List ℕ) (l n : ℕ) {i : ℕ} → i ≡ lowestFor (isUnheld T) (buffersFor n) (bufferTotal T) → SoundTables T → Fit (bufferTotal T) st → Is (linkOk T l) → n ≤ total (stretchesFrom T l) → buffersFor n ≤ length (freeBuffers T)
+    → Refilling T (stored st (newBuffers T (buffersFor n)) (take n (contents st (stretchesFrom T l)))) i st (record { link = l; into = 0 }) n
+refilling-first T st l n {i} q sound s t h r =
+    let c : Cursor = record { link = l; into = 0 } in
+    let xs = bytesFrom T st c n in
+    let e = bytes-count T st c n sound s t (omega arith) in
+    record {
+      good = t;
+      enough = omega arith;
+      filling = subst (λ k. Filling (isUnheld T) (bufferTotal T) (stored st (newBuffers T (buffersFor k)) xs) i st xs) e (filling-first (isUnheld T) (bufferTotal T) st xs (rw e q) s (rw e r));
+    }
+
+module _ {T : Tables} {goal : List ℕ} {i : ℕ} {st : List ℕ} {c : Cursor} {n : ℕ} (sound : SoundTables T) (w : Refilling T goal i st c n) where
+  -- n bytes are left
+  count : length (bytesFrom T st c n) ≡ n
+  count = bytes-count T st c n sound (w .filling .fits) (w .good) (w .enough)
+
+  -- where none is left, the storage is the goal
+  pub refilling-done : n ≤ 0 → st ≡ goal
+  refilling-done h = filling-done (w .filling) (omega (arith, count))
+
+  module _ (h : 0 < n) {b : ℕ} (eb : b ≡ firstFrom (isUnheld T) i (bufferTotal T)) where
+    -- which are some
+    some : 0 < length (bytesFrom T st c n)
+    some = omega (arith, count)
+
+    -- the lowest free buffer is one of the pool's
+    pub refilling-below : b < bufferTotal T
+    refilling-below = filling-below (w .filling) some eb
+
+    -- and once it is filled the refill goes on behind the bytes that went there
+    pub refilling-on : {m : ℕ} {st′ : List ℕ} {c′ : Cursor} → m ≡ min n bufferSize → st′ ≡ filled st b (bytesFrom T st c m) → Behind T c m c′ → Refilling T goal (b + 1) st′ c′ (n - m)
+    refilling-on {m} {st′} {c′} em es r =
+        let D = drop (c .into) (contents st (stretchesFrom T (c .link))) in
+        let k : m ≡ min bufferSize (length (take n D)) = rw count (omega arith) in
+        let below = refilling-below in
+        let s : Fit (bufferTotal T) st′ = ap length es ∙ filled-length (bufferTotal T) st b _ (w .filling .fits) below ∙ w .filling .fits in
+        let same : contents st′ (stretchesFrom T (c .link)) ≡ contents st (stretchesFrom T (c .link)) =
+        ap (λ (q : List ℕ). contents q (stretchesFrom T (c .link))) es
+        ∙ chain-stays T (c .link) b st _ sound (w .good) (w .filling .fits) below (filling-passes (w .filling) some eb) in
+        let part : take m D ≡ take bufferSize (take n D) = sym (take-most bufferSize m (take n D) k ∙ take-take m n D (omega arith)) in
+        let rest : take (n - m) (drop (c′ .into) (contents st′ (stretchesFrom T (c′ .link)))) ≡ drop bufferSize (take n D) =
+        ap (take (n - m)) (sym (r .rest st′ s) ∙ ap (drop (c .into + m)) same ∙ sym (drop-drop m (c .into) _))
+        ∙ sym (drop-most bufferSize m (take n D) k ∙ drop-take m n D) in
+        record {
+          good = r .good;
+          enough = omega (arith, r .lengths, w .enough);
+          filling = filling-on (w .filling) some eb part rest es;
+        }

@@ -1,0 +1,3 @@
+-- What the contracts of transfer cite.
+pub mod Copy
+pub mod Behind

@@ -1,0 +1,212 @@
+// The bytes of chains: copied out to a lent slice, and filled into free buffers.
+use kinds::BufferNumber;
+use kinds::PieceNumber;
+use tables::Shape;
+ghost use mathlib.Core.Path.{_≡_};
+ghost use Prim.Native.Nat.{_+_, _<_, _≤_, min};
+ghost use lib.ListN.{length, take, drop};
+ghost use Rattle.kinds.specs.Limits.{bufferSize};
+ghost use Rattle.rules.specs.Basics.{Is};
+ghost use Rattle.rules.specs.Layout.{storageLength};
+ghost use Rattle.rules.specs.Tables.{piece, bufferTotal};
+ghost use Rattle.rules.specs.Bytes.{decode};
+ghost use Rattle.rules.specs.Chain.{stretch, total, positionOf, contents};
+ghost use Rattle.rules.specs.Sound.{linkOk};
+ghost use Rattle.rules.specs.Room.{isUnheld, freeBuffers, newBuffers};
+ghost use Rattle.rules.specs.Build.{buffersFor, filled, stored};
+ghost use Rattle.rules.specs.Read.{copied};
+ghost use Rattle.tables.specs.Shape.{Shaped};
+ghost use Rattle.chain.specs.Opened.{Opened};
+ghost use Rattle.chain.specs.Length.{stretchesFrom};
+ghost use Rattle.chain.specs.Free.{lowestFor};
+ghost use Rattle.transfer.specs.Copy.{past, written};
+ghost use Rattle.transfer.specs.Behind.{Behind};
+
+// The bytes of a buffer, to count and to index by.
+const SIZE: usize = BufferNumber::SIZE as usize;
+
+// A place in a chain, the link to a piece and the bytes from there on before the place: a cursor.
+pub struct Cursor {
+    pub link: u16,
+    pub into: u32,
+}
+
+// How far a copy is: the bytes still to skip, those still to copy, and where the next one goes.
+pub struct Copying {
+    pub skip: u32,
+    pub left: u32,
+    pub at: usize,
+}
+
+// How many buffers `n` bytes need: a ceiling division.
+pub fn buffers_for(n: usize) -> usize
+    ensures { λ r. ⌜ r ≡ buffersFor n ⌝ }
+{
+    if n % SIZE == 0 {
+        return n / SIZE;
+    }
+    n / SIZE + 1
+}
+
+// The byte of storage at which the stretch of piece `d` starts: its data pointer.
+pub fn position(pool: &[u8], shape: Shape, d: PieceNumber) -> usize
+    requires { ⌜ Shaped (now pool) shape × (d .0 < shape .pieces) ⌝ }
+    ensures { λ r. ⌜ r ≡ positionOf (stretch (piece (decode (now (pool .entry))) (d .0))) ⌝ }
+{
+    let start = tables::piece_buffer(pool, shape, d).start();
+    start + tables::piece_offset(pool, shape, d) as usize
+}
+
+// Copies what the range has of piece `d` to `output`, and answers how far the copy is then: one step of a gather.
+fn copy_piece(
+    pool: &[u8],
+    shape: Shape,
+    storage: &[u8],
+    d: PieceNumber,
+    g: Copying,
+    output: &mut [u8],
+) -> Copying
+    requires { ⌜ Shaped (now pool) shape × (d .0 < shape .pieces) ⌝ }
+    requires { ⌜ positionOf (stretch (piece (decode (now pool)) (d .0))) + piece (decode (now pool)) (d .0) .len ≤ length (now storage) ⌝ }
+    requires { ⌜ g .at + g .left ≤ length (now output) ⌝ }
+    ensures { λ r. ⌜ r ≡ past (stretch (piece (decode (now (pool .entry))) (d .0))) g ⌝ }
+    ensures { λ _. ⌜ now (output .exit) ≡ written (now (storage .entry)) (stretch (piece (decode (now (pool .entry))) (d .0))) g (now (output .entry)) ⌝ }
+{
+    let length = tables::piece_length(pool, shape, d) as u32;
+    let skip = kinds::lesser(g.skip, length);
+    let n = kinds::lesser(g.left, length - skip);
+    let at = g.at;
+    let from = position(pool, shape, d) + skip as usize;
+    storage::copy_part(output, at, storage, from, n as usize);
+    Copying {
+        skip: g.skip - skip,
+        left: g.left - n,
+        at: at + n as usize,
+    }
+}
+
+// Copies the `n` bytes from the place `c` on to the front of `output`, one piece after another, and answers the place behind them: a gather.
+fn gather(pool: &[u8], shape: Shape, storage: &[u8], c: Cursor, n: u32, output: &mut [u8]) -> Cursor
+    requires { ⌜ Opened (now pool) shape × Is (linkOk (decode (now pool)) (c .link)) ⌝ }
+    requires { ⌜ length (now storage) ≡ storageLength (shape .buffers) ⌝ }
+    requires { ⌜ (c .into + n ≤ total (stretchesFrom (decode (now pool)) (c .link))) × (n ≤ length (now output)) ⌝ }
+    ensures { λ _. ⌜ now (output .exit) ≡ copied (take n (drop (c .into) (contents (now (storage .entry)) (stretchesFrom (decode (now (pool .entry))) (c .link))))) (now (output .entry)) ⌝ }
+    ensures { λ r. ⌜ Behind (decode (now (pool .entry))) c n r ⌝ }
+{
+    let mut g = Copying {
+        skip: c.into,
+        left: n,
+        at: 0,
+    };
+    let mut from = c.link;
+    let mut end = Cursor {
+        link: c.link,
+        into: c.into + n,
+    };
+    while 0 < g.left {
+        let d = PieceNumber(from - 1);
+        end = Cursor {
+            link: from,
+            into: g.skip + g.left,
+        };
+        g = copy_piece(pool, shape, storage, d, g, output);
+        from = tables::piece_next(pool, shape, d);
+    }
+    end
+}
+
+// Copies the `n` bytes from `off` on of the chain from `link` to the front of `output`: a gather to a lent slice.
+pub fn copy_out(
+    pool: &[u8],
+    shape: Shape,
+    storage: &[u8],
+    link: u16,
+    off: u32,
+    n: u32,
+    output: &mut [u8],
+)
+    requires { ⌜ Opened (now pool) shape × Is (linkOk (decode (now pool)) link) ⌝ }
+    requires { ⌜ length (now storage) ≡ storageLength (shape .buffers) ⌝ }
+    requires { ⌜ (off + n ≤ total (stretchesFrom (decode (now pool)) link)) × (n ≤ length (now output)) ⌝ }
+    ensures { λ _. ⌜ now (output .exit) ≡ copied (take n (drop off (contents (now (storage .entry)) (stretchesFrom (decode (now (pool .entry))) link)))) (now (output .entry)) ⌝ }
+{
+    let c = Cursor {
+        link: link,
+        into: off,
+    };
+    gather(pool, shape, storage, c, n, output);
+}
+
+// Where the part of at most a buffer's bytes from `at` on ends, of `length` bytes: a chunk's end.
+fn part_end(at: usize, length: usize) -> usize
+    requires { ⌜ at ≤ length ⌝ }
+    ensures { λ r. ⌜ r ≡ min (at + bufferSize) length ⌝ }
+{
+    if length - at < SIZE {
+        return length;
+    }
+    at + SIZE
+}
+
+// Fills the lowest free buffers, from `buffer` on, with `input`, in order, and the rest of the last with zeros: a scatter to fresh clusters.
+pub fn fill_free(pool: &[u8], shape: Shape, storage: &mut [u8], input: &[u8], buffer: u16)
+    requires { ⌜ Shaped (now pool) shape × (length (now storage) ≡ storageLength (shape .buffers)) ⌝ }
+    requires { ⌜ buffersFor (length (now input)) ≤ length (freeBuffers (decode (now pool))) ⌝ }
+    requires { ⌜ buffer ≡ lowestFor (isUnheld (decode (now pool))) (buffersFor (length (now input))) (bufferTotal (decode (now pool))) ⌝ }
+    ensures { λ _. ⌜ now (storage .exit) ≡ stored (now (storage .entry)) (newBuffers (decode (now (pool .entry))) (buffersFor (length (now (input .entry))))) (now (input .entry)) ⌝ }
+{
+    let mut at = 0;
+    let mut from = buffer;
+    while at < input.len() {
+        let b = chain::next_free_buffer(pool, shape, from);
+        let end = part_end(at, input.len());
+        storage::fill_buffer(storage, BufferNumber(b), &input[at..end]);
+        at = end;
+        from = b + 1;
+    }
+}
+
+// Fills buffer `b` with the `n` bytes of a chain from the place `c` on and then zeros, and answers the place behind them: one cluster of a gather.
+fn refill_buffer(
+    pool: &[u8],
+    shape: Shape,
+    storage: &mut [u8],
+    c: Cursor,
+    n: u32,
+    b: BufferNumber,
+) -> Cursor
+    requires { ⌜ Opened (now pool) shape × Is (linkOk (decode (now pool)) (c .link)) ⌝ }
+    requires { ⌜ (length (now storage) ≡ storageLength (shape .buffers)) × (b .0 < shape .buffers) ⌝ }
+    requires { ⌜ (c .into + n ≤ total (stretchesFrom (decode (now pool)) (c .link))) × (n ≤ bufferSize) ⌝ }
+    ensures { λ _. ⌜ now (storage .exit) ≡ filled (now (storage .entry)) (b .0) (take n (drop (c .into) (contents (now (storage .entry)) (stretchesFrom (decode (now (pool .entry))) (c .link))))) ⌝ }
+    ensures { λ r. ⌜ Behind (decode (now (pool .entry))) c n r ⌝ }
+{
+    let mut part = [0u8; SIZE];
+    let next = gather(pool, shape, storage, c, n, &mut part);
+    let m = n as usize;
+    storage::fill_buffer(storage, b, &part[..m]);
+    next
+}
+
+// Fills the lowest free buffers, from `buffer` on, with the first `n` bytes of the chain from `link`, in order, and the rest of the last with zeros: a gather into fresh clusters.
+pub fn refill(pool: &[u8], shape: Shape, storage: &mut [u8], link: u16, n: u32, buffer: u16)
+    requires { ⌜ Opened (now pool) shape × Is (linkOk (decode (now pool)) link) ⌝ }
+    requires { ⌜ (length (now storage) ≡ storageLength (shape .buffers)) × (n ≤ total (stretchesFrom (decode (now pool)) link)) ⌝ }
+    requires { ⌜ buffersFor n ≤ length (freeBuffers (decode (now pool))) ⌝ }
+    requires { ⌜ buffer ≡ lowestFor (isUnheld (decode (now pool))) (buffersFor n) (bufferTotal (decode (now pool))) ⌝ }
+    ensures { λ _. ⌜ now (storage .exit) ≡ stored (now (storage .entry)) (newBuffers (decode (now (pool .entry))) (buffersFor n)) (take n (contents (now (storage .entry)) (stretchesFrom (decode (now (pool .entry))) link))) ⌝ }
+{
+    let mut c = Cursor {
+        link: link,
+        into: 0,
+    };
+    let mut left = n;
+    let mut from = buffer;
+    while 0 < left {
+        let b = BufferNumber(chain::next_free_buffer(pool, shape, from));
+        let m = kinds::lesser(left, BufferNumber::SIZE as u32);
+        c = refill_buffer(pool, shape, storage, c, m, b);
+        left = left - m;
+        from = b.0 + 1;
+    }
+}
