@@ -26,16 +26,16 @@ use Rattle.tables.proofs.Laws.{fits-decode}
 use Rattle.audit.specs.declared.Audited.{Audited}
 use Rattle.audit.specs.Ranges.{sizesOk}
 use Rattle.audit.specs.Verdict.{Verdict}
-use Rattle.audit.proofs.Laws.{verdict-torn, verdict-is, verdict-sound, verdict-header, verdict-shaped}
+use Rattle.audit.proofs.Laws.{verdict-torn, verdict-is, verdict-sound, verdict-header, verdict-shaped, verdict-limited}
 use Rattle.chain.specs.Opened.{Opened}
 use Rattle.look.specs.declared.Place.{Place}
 use Rattle.look.specs.declared.Place.the-variants.{Storage, Scratch}
 use Rattle.look.specs.declared.Shown as look
 use Rattle.look.specs.Place.{viewAt, Lies}
-use Rattle.look.specs.Result as seen
-use Rattle.look.specs.Result.{lent}
+use Rattle.answer.specs.Result as seen
+use Rattle.answer.specs.Result.{lent}
 use Rattle.look.specs.Show.{Seen}
-use Rattle.look.proofs.Perform.{perform-none}
+use Rattle.answer.proofs.Perform.{perform-none}
 use Rattle.slp.specs.declared.Shown.{Shown}
 use Rattle.slp.specs.Result.{resultOf, shownAs, shownOf}
 
@@ -63,7 +63,9 @@ module _ {p : List ℕ} (st : List ℕ) {r : Audited} (v : Verdict p (length st)
   module _ (q : r .sound ≡ true) where
     -- a sound pool is what the operation asks
     pub opened : Opened p (r .shape)
-    opened = record { shaped = verdict-shaped v q; sound = verdict-sound v q st refl .tables-ok }
+    opened =
+        let k = verdict-limited v q in
+        record { shaped = verdict-shaped v q; few-buffers = k .few-buffers; few-pieces = k .few-pieces; few-slips = k .few-slips; sound = verdict-sound v q st refl .tables-ok }
 
     pub fitted : length st ≡ storageLength (r .shape .buffers)
     fitted = verdict-header v q st refl .storage-long ∙ ap storageLength (sym (opened .shaped .buffers))

@@ -10,9 +10,9 @@ ghost use mathlib.Core.List.{[]};
 ghost use Prim.Native.Nat.{_<_, _^_};
 ghost use Rattle.kinds.specs.Refusal.{refusalCode};
 ghost use Rattle.rules.specs.Rule.{noView};
-ghost use Rattle.rules.specs.Step.{Audit, Length, Read, Show, Open, Do, step};
+ghost use Rattle.rules.specs.Step.{Audit, Put, Free, Dup, Cut, Append, Drop, Keep, Pullup, Pack, Length, Read, Show, Open, Do, step};
 ghost use Rattle.look.specs.Place.{viewAt};
-ghost use Rattle.look.specs.Result.{lent};
+ghost use Rattle.answer.specs.Result.{lent};
 ghost use Rattle.slp.specs.Result.{resultOf, shownAs, shownOf};
 
 // What show answers to C: the view is `number` bytes from `start` on, of the scratch if `in_scratch` is 1, else of storage.
@@ -89,16 +89,139 @@ pub extern "C" fn slp_audit(pool: &[u8], storage: &[u8]) -> Answer
     refused(Refusal::Torn)
 }
 
+// put: bytes into fresh buffers, under a new slip.
+#[no_mangle]
+pub extern "C" fn slp_put(pool: &mut [u8], storage: &mut [u8], input: &[u8]) -> Answer
+    ensures { λ r. ⌜ resultOf r (now (pool .exit)) (now (storage .exit)) [] noView ≡ step (Do (Put (now (input .entry)))) (lent (now (pool .entry)) (now (storage .entry))) ⌝ }
+{
+    let audited = audit::audit(pool, storage.len());
+    if !audited.sound {
+        return refused(Refusal::Torn);
+    }
+    let shape = audited.shape;
+    kinds::answer_of(put::put(pool, shape, storage, input))
+}
+
+// free: a slip gives up its chain.
+#[no_mangle]
+pub extern "C" fn slp_free(pool: &mut [u8], storage: &[u8], slip: u16) -> Answer
+    ensures { λ r. ⌜ resultOf r (now (pool .exit)) (now (storage .entry)) [] noView ≡ step (Do (Free slip)) (lent (now (pool .entry)) (now (storage .entry))) ⌝ }
+{
+    let audited = audit::audit(pool, storage.len());
+    if !audited.sound {
+        return refused(Refusal::Torn);
+    }
+    let shape = audited.shape;
+    kinds::answer_of(free::free(pool, shape, SlipNumber(slip)))
+}
+
+// dup: a new slip on the same chain.
+#[no_mangle]
+pub extern "C" fn slp_dup(pool: &mut [u8], storage: &[u8], slip: u16) -> Answer
+    ensures { λ r. ⌜ resultOf r (now (pool .exit)) (now (storage .entry)) [] noView ≡ step (Do (Dup slip)) (lent (now (pool .entry)) (now (storage .entry))) ⌝ }
+{
+    let audited = audit::audit(pool, storage.len());
+    if !audited.sound {
+        return refused(Refusal::Torn);
+    }
+    let shape = audited.shape;
+    kinds::answer_of(dup::dup(pool, shape, SlipNumber(slip)))
+}
+
+// cut: a new slip on a range of a chain.
+#[no_mangle]
+pub extern "C" fn slp_cut(
+    pool: &mut [u8],
+    storage: &[u8],
+    slip: u16,
+    offset: u32,
+    length: u32,
+) -> Answer
+    ensures { λ r. ⌜ resultOf r (now (pool .exit)) (now (storage .entry)) [] noView ≡ step (Do (Cut slip offset length)) (lent (now (pool .entry)) (now (storage .entry))) ⌝ }
+{
+    let audited = audit::audit(pool, storage.len());
+    if !audited.sound {
+        return refused(Refusal::Torn);
+    }
+    let shape = audited.shape;
+    kinds::answer_of(cut::cut(pool, shape, SlipNumber(slip), offset, length))
+}
+
+// append: one chain behind another.
+#[no_mangle]
+pub extern "C" fn slp_append(pool: &mut [u8], storage: &[u8], a: u16, b: u16) -> Answer
+    ensures { λ r. ⌜ resultOf r (now (pool .exit)) (now (storage .entry)) [] noView ≡ step (Do (Append a b)) (lent (now (pool .entry)) (now (storage .entry))) ⌝ }
+{
+    let audited = audit::audit(pool, storage.len());
+    if !audited.sound {
+        return refused(Refusal::Torn);
+    }
+    let shape = audited.shape;
+    kinds::answer_of(append::append(pool, shape, SlipNumber(a), SlipNumber(b)))
+}
+
+// drop: the first bytes of a chain go.
+#[no_mangle]
+pub extern "C" fn slp_drop(pool: &mut [u8], storage: &[u8], slip: u16, n: u32) -> Answer
+    ensures { λ r. ⌜ resultOf r (now (pool .exit)) (now (storage .entry)) [] noView ≡ step (Do (Drop slip n)) (lent (now (pool .entry)) (now (storage .entry))) ⌝ }
+{
+    let audited = audit::audit(pool, storage.len());
+    if !audited.sound {
+        return refused(Refusal::Torn);
+    }
+    let shape = audited.shape;
+    kinds::answer_of(drop::drop_first(pool, shape, SlipNumber(slip), n))
+}
+
+// keep: the first bytes of a chain stay.
+#[no_mangle]
+pub extern "C" fn slp_keep(pool: &mut [u8], storage: &[u8], slip: u16, n: u32) -> Answer
+    ensures { λ r. ⌜ resultOf r (now (pool .exit)) (now (storage .entry)) [] noView ≡ step (Do (Keep slip n)) (lent (now (pool .entry)) (now (storage .entry))) ⌝ }
+{
+    let audited = audit::audit(pool, storage.len());
+    if !audited.sound {
+        return refused(Refusal::Torn);
+    }
+    let shape = audited.shape;
+    kinds::answer_of(keep::keep(pool, shape, SlipNumber(slip), n))
+}
+
+// pullup: the first bytes of a chain in one piece.
+#[no_mangle]
+pub extern "C" fn slp_pullup(pool: &mut [u8], storage: &mut [u8], slip: u16, n: u32) -> Answer
+    ensures { λ r. ⌜ resultOf r (now (pool .exit)) (now (storage .exit)) [] noView ≡ step (Do (Pullup slip n)) (lent (now (pool .entry)) (now (storage .entry))) ⌝ }
+{
+    let audited = audit::audit(pool, storage.len());
+    if !audited.sound {
+        return refused(Refusal::Torn);
+    }
+    let shape = audited.shape;
+    kinds::answer_of(pullup::pullup(pool, shape, storage, SlipNumber(slip), n))
+}
+
+// pack: a chain's bytes put afresh under the same slip.
+#[no_mangle]
+pub extern "C" fn slp_pack(pool: &mut [u8], storage: &mut [u8], slip: u16) -> Answer
+    ensures { λ r. ⌜ resultOf r (now (pool .exit)) (now (storage .exit)) [] noView ≡ step (Do (Pack slip)) (lent (now (pool .entry)) (now (storage .entry))) ⌝ }
+{
+    let audited = audit::audit(pool, storage.len());
+    if !audited.sound {
+        return refused(Refusal::Torn);
+    }
+    let shape = audited.shape;
+    kinds::answer_of(pack::pack(pool, shape, storage, SlipNumber(slip)))
+}
+
 // length: the byte count of a chain.
 #[no_mangle]
 pub extern "C" fn slp_length(pool: &[u8], storage: &[u8], slip: u16) -> Answer
     ensures { λ r. ⌜ resultOf r (now (pool .entry)) (now (storage .entry)) [] noView ≡ step (Do (Length slip)) (lent (now (pool .entry)) (now (storage .entry))) ⌝ }
 {
-    let a = audit::audit(pool, storage.len());
-    if !a.sound {
+    let audited = audit::audit(pool, storage.len());
+    if !audited.sound {
         return refused(Refusal::Torn);
     }
-    let shape = a.shape;
+    let shape = audited.shape;
     kinds::answer_of(look::length(pool, shape, SlipNumber(slip)))
 }
 
@@ -114,11 +237,11 @@ pub extern "C" fn slp_read(
 ) -> Answer
     ensures { λ r. ⌜ resultOf r (now (pool .entry)) (now (storage .entry)) (now (output .exit)) noView ≡ step (Do (Read slip offset length (now (output .entry)))) (lent (now (pool .entry)) (now (storage .entry))) ⌝ }
 {
-    let a = audit::audit(pool, storage.len());
-    if !a.sound {
+    let audited = audit::audit(pool, storage.len());
+    if !audited.sound {
         return refused(Refusal::Torn);
     }
-    let shape = a.shape;
+    let shape = audited.shape;
     let o = look::read(
         pool,
         shape,
@@ -142,10 +265,10 @@ pub extern "C" fn slp_show(
 ) -> Shown
     ensures { λ r. ⌜ shownOf r (now (pool .entry)) (now (storage .entry)) (now (scratch .exit)) ≡ step (Do (Show slip n (now (scratch .entry)))) (lent (now (pool .entry)) (now (storage .entry))) ⌝ }
 {
-    let a = audit::audit(pool, storage.len());
-    if !a.sound {
+    let audited = audit::audit(pool, storage.len());
+    if !audited.sound {
         return shown_of(look::unseen(Refusal::Torn));
     }
-    let shape = a.shape;
+    let shape = audited.shape;
     shown_of(look::show(pool, shape, storage, SlipNumber(slip), n, scratch))
 }

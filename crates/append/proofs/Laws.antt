@@ -1,0 +1,154 @@
+-- What append answers and leaves: the rule's result. Assumes nothing.
+use mathlib.Core.Path.{_≡_, refl, sym, ap, _∙_}
+use mathlib.Core.Logic.{⊎-elim}
+use mathlib.Core.Bool.{_||_}
+use mathlib.Core.List.{List, []}
+use Prim.Native.Nat.{ℕ, pred, _+_, _≤_, _<_}
+use native.Mathlib.Omega.{arith}
+use lib.ListN.{length}
+use lib.Dec.{eqb, eqb→eq}
+use Rattle.kinds.specs.declared.SlipState.{SlipState}
+use Rattle.kinds.specs.declared.Refusal.the-variants.{Slip, Same, Pieces}
+use Rattle.kinds.specs.declared.Outcome.{Outcome}
+use Rattle.kinds.specs.declared.Outcome.the-variants.{Done, Refused}
+use Rattle.rules.specs.Basics.{Is, if_then_else_}
+use Rattle.rules.specs.Tables.{Tables, slip, headOf, vacant, setSlip}
+use Rattle.rules.specs.Bytes.{decode}
+use Rattle.rules.specs.Chain.{State}
+use Rattle.rules.specs.Room.{freePieces}
+use Rattle.rules.specs.Release.{withTables}
+use Rattle.rules.specs.Append.{ownOf, notOwn, oneEmpty, joined, appendAfter}
+use Rattle.rules.specs.Rule.{_⇐_, firstCode, unnamed, want, noView}
+use Rattle.rules.specs.Step.{Append, rule, stateIn, perform}
+use Rattle.rules.proofs.Logic.{if-T, if-F, eq→eqb, or-left, or-right, or-cases}
+use Rattle.rules.proofs.Audit.{tables-now}
+use Rattle.rules.proofs.Bounds.{small}
+use Rattle.rules.proofs.Bytes.{AllBytes}
+use Rattle.rules.proofs.Codes.{first-yes, first-no, first-none}
+use Rattle.rules.proofs.Sizes.{behind-storage}
+use Rattle.tables.specs.declared.Shape.{Shape}
+use Rattle.tables.specs.Shape.{Holds}
+use Rattle.tables.proofs.Laws.{whole, total-pieces, onward}
+use Rattle.chain.specs.Opened.{Opened}
+use Rattle.answer.specs.Result.{lent, resultOf}
+use Rattle.answer.proofs.Perform.{perform-first, perform-pieces, perform-all, changed}
+
+-- ---- what the rule leaves
+
+module _ (S : State) (a b : ℕ) where
+  -- an empty a takes b's head
+  after-first : headOf (S .tables) a ≡ 0 → withTables S (setSlip (setSlip (S .tables) b vacant) a (slip (S .tables) b)) ≡ appendAfter a b S
+  unfolding appendAfter
+  after-first z = sym (if-T (eqb (headOf (S .tables) a) 0) _ _ (eq→eqb _ 0 z))
+
+  module _ (some : headOf (S .tables) a ≡ 0 → ⊥) where
+    -- with an empty b it stays
+    after-second : headOf (S .tables) b ≡ 0 → withTables S (setSlip (S .tables) b vacant) ≡ appendAfter a b S
+    unfolding appendAfter
+    after-second z =
+        sym (if-F (eqb (headOf (S .tables) a) 0) _ _ (λ t. some (eqb→eq _ 0 t)) ∙ if-T (eqb (headOf (S .tables) b) 0) _ _ (eq→eqb _ 0 z))
+
+    -- else the two are joined
+    after-joined : (headOf (S .tables) b ≡ 0 → ⊥) → joined a b S ≡ appendAfter a b S
+    unfolding appendAfter
+    after-joined more =
+        sym (if-F (eqb (headOf (S .tables) a) 0) _ _ (λ t. some (eqb→eq _ 0 t)) ∙ if-F (eqb (headOf (S .tables) b) 0) _ _ (λ t. more (eqb→eq _ 0 t)))
+
+  -- a join leaves storage as it is
+  joined-storage : joined a b S .storage ≡ S .storage
+  unfolding joined
+  joined-storage = behind-storage _ a (ownOf (S .tables) a) _
+
+-- the link that a slip holds is small
+pub head-small : {p : List ℕ} {h : Shape} → Opened p h → (s : ℕ) {n : ℕ} → n ≡ headOf (decode p) s → n < 65535
+head-small {p} o s {n} e =
+    let T = decode p in
+    let is : n ≡ pred (slip T s) = e in
+    omega (arith, small T (tables-now T (o .sound)) .slips-small s, total-pieces (whole (o .shaped)), o .few-pieces)
+
+-- the entry of a slip that is held, from the link in it
+entry-of : {n v : ℕ} → 0 < v → n ≡ pred v → n + 1 ≡ v
+entry-of h e = omega arith
+
+-- the two stores that give a the chain of b
+pub moved : (T : Tables) (a b : ℕ) {p q : List ℕ} {h : Shape} {tail : ℕ} → 0 < slip T b → tail ≡ headOf T b → Holds p h (setSlip T b vacant) → Holds q h (setSlip (decode p) a (tail + 1))
+    → Holds q h (setSlip (setSlip T b vacant) a (slip T b))
+moved T a b {tail = tail} s e was is =
+    let now = onward was (λ (U : Tables). setSlip U a (tail + 1)) is in
+    record { shaped = now .shaped; is = now .is ∙ ap (setSlip (setSlip T b vacant) a) (entry-of s e) }
+
+-- ---- the answers
+
+module _ (p st : List ℕ) (a b : ℕ) where
+  -- a slip past the last, or vacant
+  pub append-slip : Is (unnamed (decode p) a || unnamed (decode p) b) → resultOf (Refused Slip) p st [] noView ≡ perform (Append a b) (lent p st)
+  unfolding rule
+  append-slip u = perform-first (Append a b) (lent p st) Slip (first-yes (Slip ⇐ (unnamed (decode p) a || unnamed (decode p) b)) _ u)
+
+  module _ (u : Is (unnamed (decode p) a) → ⊥) (v : Is (unnamed (decode p) b) → ⊥) where
+    -- neither refusal of a slip has a cause
+    both : Is (unnamed (decode p) a || unnamed (decode p) b) → ⊥
+    both t = ⊎-elim u v (or-cases (unnamed (decode p) a) (unnamed (decode p) b) t)
+
+    -- one slip named twice
+    pub append-same : a ≡ b → resultOf (Refused Same) p st [] noView ≡ perform (Append a b) (lent p st)
+    unfolding rule
+    append-same e =
+        perform-first (Append a b) (lent p st) Same
+        (first-no (Slip ⇐ (unnamed (decode p) a || unnamed (decode p) b)) _ both ∙ first-yes (Same ⇐ eqb a b) [] (eq→eqb a b e))
+
+    module _ (apart : a ≡ b → ⊥) where
+      -- none is given before room is judged
+      early : firstCode (rule (Append a b) (stateIn (lent p st)) .judged) ≡ 0
+      unfolding rule
+      early =
+          first-no (Slip ⇐ (unnamed (decode p) a || unnamed (decode p) b)) _ both
+          ∙ first-no (Same ⇐ eqb a b) [] (λ t. apart (eqb→eq a b t)) ∙ first-none
+
+      -- the state that the rule leaves
+      left : {o : Outcome} {x : SlipState} {q : List ℕ} {g : Shape} → (if oneEmpty (decode p) a b then 0 else length (notOwn (decode p) a)) ≤ length (freePieces (decode p))
+          → o ≡ Done (record { state = x; number = 0 }) → AllBytes q → (X : State) → X ≡ appendAfter a b (stateIn (lent p st)) → X .storage ≡ st → Holds q g (X .tables)
+          → resultOf o q st [] noView ≡ perform (Append a b) (lent p st)
+      unfolding rule
+      left l d c X e s is =
+          changed _ (want 0 (if oneEmpty (decode p) a b then 0 else length (notOwn (decode p) a)) 0) 0 (appendAfter a b (stateIn (lent p st))) d refl c
+          (record { shaped = is .shaped; is = is .is ∙ ap (λ (Y : State). Y .tables) e }) (sym s ∙ ap (λ (Y : State). Y .storage) e)
+          ∙ perform-all (Append a b) (lent p st) early (omega arith) l (omega arith)
+
+      -- where either chain is empty no piece is wanted
+      none-wanted : Is (oneEmpty (decode p) a b) → (if oneEmpty (decode p) a b then 0 else length (notOwn (decode p) a)) ≤ length (freePieces (decode p))
+      none-wanted t = omega (arith, if-T (oneEmpty (decode p) a b) 0 (length (notOwn (decode p) a)) t)
+
+      -- a is empty, and takes the chain of b
+      pub append-first : {o : Outcome} {x : SlipState} {q : List ℕ} {g : Shape} → headOf (decode p) a ≡ 0 → o ≡ Done (record { state = x; number = 0 }) → AllBytes q
+          → Holds q g (setSlip (setSlip (decode p) b vacant) a (slip (decode p) b)) → resultOf o q st [] noView ≡ perform (Append a b) (lent p st)
+      append-first z d c is =
+          let S = stateIn (lent p st) in
+          left (none-wanted (or-left (eqb (headOf (decode p) a) 0) _ (eq→eqb _ 0 z))) d c _ (after-first S a b z) refl is
+
+      module _ (some : headOf (decode p) a ≡ 0 → ⊥) where
+        -- b is empty, and a stays
+        pub append-second : {o : Outcome} {x : SlipState} {q : List ℕ} {g : Shape} → headOf (decode p) b ≡ 0 → o ≡ Done (record { state = x; number = 0 }) → AllBytes q
+            → Holds q g (setSlip (decode p) b vacant) → resultOf o q st [] noView ≡ perform (Append a b) (lent p st)
+        append-second z d c is =
+            let S = stateIn (lent p st) in
+            left (none-wanted (or-right (eqb (headOf (decode p) a) 0) _ (eq→eqb _ 0 z))) d c _ (after-second S a b some z) refl is
+
+        module _ (more : headOf (decode p) b ≡ 0 → ⊥) where
+          -- where neither is empty, a piece for each that is not own
+          others-wanted : (if oneEmpty (decode p) a b then 0 else length (notOwn (decode p) a)) ≡ length (notOwn (decode p) a)
+          others-wanted =
+              if-F (oneEmpty (decode p) a b) _ _
+              (λ t. ⊎-elim (λ z. some (eqb→eq _ 0 z)) (λ z. more (eqb→eq _ 0 z)) (or-cases (eqb (headOf (decode p) a) 0) (eqb (headOf (decode p) b) 0) t))
+
+          -- too few free pieces
+          pub append-pieces : length (freePieces (decode p)) < length (notOwn (decode p) a) → resultOf (Refused Pieces) p st [] noView ≡ perform (Append a b) (lent p st)
+          unfolding rule
+          append-pieces l = perform-pieces (Append a b) (lent p st) early (omega arith) (omega (arith, others-wanted))
+
+          -- the two are joined
+          pub append-joined : {o : Outcome} {x : SlipState} {q : List ℕ} {g : Shape} → length (notOwn (decode p) a) ≤ length (freePieces (decode p))
+              → o ≡ Done (record { state = x; number = 0 }) → AllBytes q → Holds q g (joined a b (stateIn (lent p st)) .tables) → resultOf o q st [] noView ≡ perform (Append a b) (lent p st)
+          append-joined l d c is =
+              let S = stateIn (lent p st) in
+              left (omega (arith, others-wanted)) d c _ (after-joined S a b some more) (joined-storage S a b) is

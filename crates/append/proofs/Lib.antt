@@ -1,0 +1,3 @@
+-- The laws of append.
+pub mod Ready
+pub mod Laws

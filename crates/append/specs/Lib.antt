@@ -1,0 +1,2 @@
+-- What the contracts of append cite.
+pub mod Join

@@ -1,0 +1,73 @@
+// append: one chain behind another, over a's own pieces and new ones for those that others hold.
+use kinds::Outcome;
+use kinds::Refusal;
+use kinds::SlipNumber;
+use tables::Shape;
+ghost use mathlib.Core.Path.{_≡_};
+ghost use mathlib.Core.List.{List, []};
+ghost use Prim.Native.Nat.{ℕ};
+ghost use Rattle.kinds.specs.SlipState.{stateOf};
+ghost use Rattle.rules.specs.Tables.{slip};
+ghost use Rattle.rules.specs.Bytes.{decode};
+ghost use Rattle.rules.specs.Rule.{noView};
+ghost use Rattle.rules.specs.Step.{Append, perform};
+ghost use Rattle.chain.specs.Opened.{Opened};
+ghost use Rattle.answer.specs.Result.{lent, resultOf, Leaves};
+ghost use Rattle.append.specs.Join.{Joinable};
+
+// The chain that `tail` starts, of slip `b`, goes behind that of slip `a`, which `head` starts: a chain concatenated, with its shared part copied.
+fn join(
+    pool: &mut [u8],
+    shape: Shape,
+    a: SlipNumber,
+    b: SlipNumber,
+    head: u16,
+    tail: u16,
+) -> Outcome
+    requires { ⌜ Opened (now pool) shape × Joinable (decode (now pool)) (a .0) (b .0) head tail ⌝ }
+    ensures { λ r. ⌜ ((st : List ℕ) → resultOf r (now (pool .exit)) st [] noView ≡ perform (Append (a .0) (b .0)) (lent (now (pool .entry)) st)) ⌝ }
+    ensures { λ r. ⌜ Leaves r (stateOf (slip (decode (now (pool .exit))) (a .0))) ⌝ }
+{
+    let own = chain::own_run(pool, shape, head, shape.pieces);
+    let last = own.last;
+    let next = own.next;
+    let part = chain::part_of(pool, shape, next, u32::MAX as u64);
+    let pieces = part.pieces;
+    let lowest = chain::lowest_piece(pool, shape, pieces as usize);
+    if !chain::has_pieces(pool, shape, lowest, pieces as usize) {
+        return Outcome::Refused(Refusal::Pieces);
+    }
+    let first = build::copy_pieces(pool, shape, next, 0, u32::MAX, pieces, lowest, tail);
+    tables::set_slip(pool, shape, b, 0);
+    release::hang(pool, shape, a, last, first);
+    answer::done(pool, shape, a, 0)
+}
+
+// Slip `a` comes to read as a and then b, and `b` is vacant: a chain concatenated.
+pub fn append(pool: &mut [u8], shape: Shape, a: SlipNumber, b: SlipNumber) -> Outcome
+    requires { ⌜ Opened (now pool) shape ⌝ }
+    ensures { λ r. ⌜ ((st : List ℕ) → resultOf r (now (pool .exit)) st [] noView ≡ perform (Append (a .0) (b .0)) (lent (now (pool .entry)) st)) ⌝ }
+    ensures { λ r. ⌜ Leaves r (stateOf (slip (decode (now (pool .exit))) (a .0))) ⌝ }
+{
+    if !chain::held(pool, shape, a) {
+        return Outcome::Refused(Refusal::Slip);
+    }
+    if !chain::held(pool, shape, b) {
+        return Outcome::Refused(Refusal::Slip);
+    }
+    if a.0 == b.0 {
+        return Outcome::Refused(Refusal::Same);
+    }
+    let head = chain::head_link(pool, shape, a);
+    let tail = chain::head_link(pool, shape, b);
+    if head == 0 {
+        tables::set_slip(pool, shape, b, 0);
+        tables::set_slip(pool, shape, a, tail + 1);
+        return answer::done(pool, shape, a, 0);
+    }
+    if tail == 0 {
+        tables::set_slip(pool, shape, b, 0);
+        return answer::done(pool, shape, a, 0);
+    }
+    join(pool, shape, a, b, head, tail)
+}

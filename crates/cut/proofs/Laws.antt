@@ -1,0 +1,107 @@
+-- What cut answers and leaves: the rule's result. Assumes nothing.
+use mathlib.Core.Path.{_≡_, refl, sym, ap, subst, _∙_}
+use mathlib.Core.Bool.{true, false}
+use mathlib.Core.List.{List, []}
+use Prim.Native.Nat.{ℕ, _+_, _≤_, _<_}
+use native.Mathlib.Decide.{ℕ-discrete}
+use native.Mathlib.Omega.{arith}
+use lib.ListN.{length}
+use lib.Dec.{ltb, ltb→lt, lt→ltb}
+use borrow.Author.Tests.{leb-true, leb-false}
+use Rattle.kinds.specs.declared.SlipState.{SlipState}
+use Rattle.kinds.specs.declared.Refusal.the-variants.{Slip, Range, Slips, Pieces}
+use Rattle.kinds.specs.declared.Outcome.{Outcome}
+use Rattle.kinds.specs.declared.Outcome.the-variants.{Done, Refused}
+use Rattle.rules.specs.Basics.{Is}
+use Rattle.rules.specs.Tables.{Tables, pieceTotal}
+use Rattle.rules.specs.Bytes.{decode}
+use Rattle.rules.specs.Chain.{Stretch, total, spans, lengthOf, cutOut}
+use Rattle.rules.specs.Sound.{linkOk, SoundTables}
+use Rattle.rules.specs.Room.{vacantSlips, freePieces, newSlip}
+use Rattle.rules.specs.Build.{plain, underNew}
+use Rattle.rules.specs.Rule.{_⇐_, firstCode, unnamed, want, noView}
+use Rattle.rules.specs.Cut.{cutAfter}
+use Rattle.rules.specs.Step.{Cut, rule, stateIn, perform}
+use Rattle.rules.proofs.Bytes.{AllBytes}
+use Rattle.rules.proofs.Codes.{first-yes, first-no, first-none}
+use Rattle.tables.specs.declared.Shape.{Shape}
+use Rattle.tables.specs.Shape.{Holds}
+use Rattle.chain.specs.declared.Spot.{Spot}
+use Rattle.chain.specs.declared.Part.{Part}
+use Rattle.chain.specs.Find.{spotOf}
+use Rattle.chain.specs.Length.{stretchesFrom}
+use Rattle.chain.specs.Part.{partOf}
+use Rattle.chain.proofs.Spots.{Found, found, cutOut-none}
+use Rattle.chain.proofs.Parts.{part-from, part-range}
+use Rattle.answer.specs.Result.{lent, resultOf}
+use Rattle.answer.proofs.Perform.{perform-first, perform-slips, perform-pieces, perform-all, changed}
+
+-- ---- the range, from the place found
+
+-- the place off bytes after the head link h, which the code has as n
+pub place-found : (T : Tables) (off : ℕ) {n h : ℕ} {at : Spot} → SoundTables T → Is (linkOk T n) → n ≡ h → at ≡ spotOf (pieceTotal T) T true n off → Found T h off at
+place-found T off {n} {h} {at} S t e is = subst (λ (x : ℕ). Found T x off at) e (subst (Found T n off) (sym is) (found T S true n off t))
+
+module _ (T : Tables) (h off n : ℕ) {at : Spot} {part : Part} (f : Found T h off at) (e : part ≡ partOf T (at .link) (at .into + n)) where
+  -- it goes past the end of the chain, or not
+  pub range-short : part .enough ≡ false → total (stretchesFrom T h) < off + n
+  unfolding partOf
+  range-short z = leb-false (off + n) (total (stretchesFrom T h)) (sym (part-range T h off at f n) ∙ sym (ap (λ (x : Part). x .enough) e) ∙ z)
+
+  pub range-there : part .enough ≡ true → off + n ≤ total (stretchesFrom T h)
+  unfolding partOf
+  range-there z = leb-true (off + n) (total (stretchesFrom T h)) (sym (part-range T h off at f n) ∙ sym (ap (λ (x : Part). x .enough) e) ∙ z)
+
+  -- the pieces that it overlaps: none where it is empty
+  pub range-pieces : {k : ℕ} → (n ≡ 0 → k ≡ 0) × ((n ≡ 0 → ⊥) → k ≡ part .pieces) → k ≡ length (cutOut (stretchesFrom T h) off n)
+  unfolding partOf
+  range-pieces c = elim (ℕ-discrete n 0) [
+    | yes z ↦ c .0 z ∙ sym (ap length (ap (cutOut (stretchesFrom T h) off) z ∙ cutOut-none (stretchesFrom T h) off))
+    | no z ↦ c .1 z ∙ ap (λ (x : Part). x .pieces) e ∙ sym (part-from T h off at f n (omega arith))
+  ]
+
+-- ---- the answers
+
+module _ (p st : List ℕ) (s off n : ℕ) where
+  -- a slip past the last, or vacant
+  pub cut-slip : Is (unnamed (decode p) s) → resultOf (Refused Slip) p st [] noView ≡ perform (Cut s off n) (lent p st)
+  unfolding rule
+  cut-slip u = perform-first (Cut s off n) (lent p st) Slip (first-yes (Slip ⇐ unnamed (decode p) s) _ u)
+
+  module _ (u : Is (unnamed (decode p) s) → ⊥) where
+    -- a range past the end of the chain
+    pub cut-range : lengthOf (decode p) s < off + n → resultOf (Refused Range) p st [] noView ≡ perform (Cut s off n) (lent p st)
+    unfolding rule
+    cut-range h =
+        perform-first (Cut s off n) (lent p st) Range
+        (first-no (Slip ⇐ unnamed (decode p) s) _ u ∙ first-yes (Range ⇐ ltb (lengthOf (decode p) s) (off + n)) [] (lt→ltb _ _ h))
+
+    module _ (h : off + n ≤ lengthOf (decode p) s) where
+      -- no refusal is given before room is judged
+      early : firstCode (rule (Cut s off n) (stateIn (lent p st)) .judged) ≡ 0
+      unfolding rule
+      early =
+          first-no (Slip ⇐ unnamed (decode p) s) _ u
+          ∙ first-no (Range ⇐ ltb (lengthOf (decode p) s) (off + n)) [] (λ t. omega (arith, ltb→lt (lengthOf (decode p) s) (off + n) t)) ∙ first-none
+
+      -- no vacant slip
+      pub cut-slips : length (vacantSlips (decode p)) ≡ 0 → resultOf (Refused Slips) p st [] noView ≡ perform (Cut s off n) (lent p st)
+      unfolding rule
+      cut-slips z = perform-slips (Cut s off n) (lent p st) early (omega (arith, z))
+
+      module _ (some : 1 ≤ length (vacantSlips (decode p))) where
+        -- too few free pieces
+        pub cut-pieces : length (freePieces (decode p)) < length (cutOut (spans (decode p) s) off n) → resultOf (Refused Pieces) p st [] noView ≡ perform (Cut s off n) (lent p st)
+        unfolding rule
+        cut-pieces l = perform-pieces (Cut s off n) (lent p st) early some l
+
+        -- the new pieces under the new slip
+        pub cut-done : {o : Outcome} {x : SlipState} {q : List ℕ} {g : Shape} {t : ℕ} {xs : List Stretch} → length (cutOut (spans (decode p) s) off n) ≤ length (freePieces (decode p))
+            → newSlip (decode p) ≡ t → o ≡ Done (record { state = x; number = t }) → AllBytes q
+            → Holds q g (underNew (plain (decode p) xs) (freePieces (decode p)) t) → cutOut (spans (decode p) s) off n ≡ xs → resultOf o q st [] noView ≡ perform (Cut s off n) (lent p st)
+        unfolding rule cutAfter
+        cut-done l e a b is same =
+            let T = decode p in
+            changed _ (want 1 (length (cutOut (spans T s) off n)) 0) (newSlip T) (cutAfter s off n (stateIn (lent p st))) a (sym e) b
+            (record { shaped = is .shaped; is = is .is ∙ (λ i. underNew (plain T (sym same i)) (freePieces T) (sym e i)) }) refl
+            ∙ perform-all (Cut s off n) (lent p st) early some l (omega arith)

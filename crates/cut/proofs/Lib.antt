@@ -1,0 +1,2 @@
+-- The laws of cut.
+pub mod Laws

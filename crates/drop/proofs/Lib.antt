@@ -1,0 +1,2 @@
+-- The laws of drop.
+pub mod Laws

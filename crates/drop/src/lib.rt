@@ -1,0 +1,42 @@
+// drop: the first bytes of a chain go.
+use kinds::Outcome;
+use kinds::Refusal;
+use kinds::SlipNumber;
+use tables::Shape;
+ghost use mathlib.Core.Path.{_≡_};
+ghost use mathlib.Core.List.{List, []};
+ghost use Prim.Native.Nat.{ℕ};
+ghost use Rattle.kinds.specs.SlipState.{stateOf};
+ghost use Rattle.rules.specs.Tables.{slip};
+ghost use Rattle.rules.specs.Bytes.{decode};
+ghost use Rattle.rules.specs.Rule.{noView};
+ghost use Rattle.rules.specs.Step.{Drop, perform};
+ghost use Rattle.chain.specs.Opened.{Opened};
+ghost use Rattle.answer.specs.Result.{lent, resultOf, Leaves};
+
+// Takes the first `n` bytes from the chain of slip `s`: a chain trimmed at its front.
+pub fn drop_first(pool: &mut [u8], shape: Shape, s: SlipNumber, n: u32) -> Outcome
+    requires { ⌜ Opened (now pool) shape ⌝ }
+    ensures { λ r. ⌜ ((st : List ℕ) → resultOf r (now (pool .exit)) st [] noView ≡ perform (Drop (s .0) n) (lent (now (pool .entry)) st)) ⌝ }
+    ensures { λ r. ⌜ Leaves r (stateOf (slip (decode (now (pool .exit))) (s .0))) ⌝ }
+{
+    if !chain::held(pool, shape, s) {
+        return Outcome::Refused(Refusal::Slip);
+    }
+    let head = chain::head_link(pool, shape, s);
+    let at = chain::find(pool, shape, head, n);
+    if chain::past_end(at) {
+        return Outcome::Refused(Refusal::Range);
+    }
+    if n == 0 {
+        return answer::done(pool, shape, s, 0);
+    }
+    let wanted = build::wanted(at.link, at.into, at.own) as usize;
+    let lowest = chain::lowest_piece(pool, shape, wanted);
+    if !chain::has_pieces(pool, shape, lowest, wanted) {
+        return Outcome::Refused(Refusal::Pieces);
+    }
+    let rest = build::settle(pool, shape, at.link, at.into, at.own, lowest);
+    release::turn(pool, shape, s, rest + 1);
+    answer::done(pool, shape, s, 0)
+}

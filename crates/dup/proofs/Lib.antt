@@ -1,0 +1,2 @@
+-- The laws of dup.
+pub mod Laws

@@ -1,0 +1,228 @@
+-- `dup::dup` meets its contract. Assumes nothing.
+use mathlib.Core.Path.{_≡_, sym, ap, subst, _∙_}
+use mathlib.Core.List.{[], _∷_}
+use Prim.Native.Nat.{ℕ, suc, _+_, _-_, _≤_, _<_}
+use native.Mathlib.Omega.{arith}
+use lib.ListN.{length}
+use borrow.Author.Needs.{needs}
+use borrow.Author.Tests.{not-true, not-false}
+use Rattle.rules.specs.Basics.{Is}
+use Rattle.rules.specs.Tables.{Tables, piece, headOf, slipTotal, pieceTotal, setSlip, holding}
+use Rattle.rules.specs.Bytes.{decode}
+use Rattle.rules.specs.Sound.{linkOk}
+use Rattle.rules.specs.Room.{isVacant, isFree, vacantSlips, freePieces, newSlip}
+use Rattle.rules.specs.Build.{made}
+use Rattle.rules.specs.Dup.{dupPlan}
+use Rattle.rules.specs.Rule.{unnamed}
+use Rattle.tables.proofs.Laws.{whole, total-slips, total-pieces, onward}
+use Rattle.chain.proofs.Links.{InUse, link-leads}
+use Rattle.chain.proofs.Free.{first-lies, new-slip, no-slip, piece-first, no-piece}
+use Rattle.build.proofs.Laws.{opened-copyable, opened-sharable}
+use Rattle.answer.proofs.Perform.{is-unnamed, is-named, named-below}
+use Rattle.dup.proofs.Laws.{plan-none, plan-one, empty-under, cloned-made, clone-under, dup-slip, dup-slips, dup-pieces, dup-done}
+use Rattle.dup.proofs.dup.Statement.{statement}
+use Rattle.dup.proofs.dup.Tie as tie
+
+held-requires : tie.Need-held-requires
+held-requires c κs = search needs
+
+same-length : tie.Need-same-length
+same-length c = search needs
+
+returns : tie.Need-returns
+returns c =
+    let z = c .before .before .before .before in
+    let p = z .args .pool .now in
+    let s = z .args .s .0 in
+    (λ st. dup-slip p st s (is-unnamed (decode p) s (c .before .held .ensures) (not-true _ (c .if1 .taken))), tt)
+
+next-vacant-requires : tie.Need-next-vacant-requires
+next-vacant-requires c κs = search needs
+
+-- where the call started, and the tables there
+abbrev start : tie.Else1 → tie.Start
+start e = e .before .before .before .before
+
+abbrev tables : tie.Else1 → Tables
+tables e = decode (start e .args .pool .now)
+
+-- the slip is named
+named-here : (e : tie.Else1) → Is (unnamed (tables e) (start e .args .s .0)) → ⊥
+named-here e = is-named (tables e) (start e .args .s .0) (e .before .held .ensures) (not-false _ (e .if1 .left))
+
+same-length-2 : tie.Need-same-length-2
+same-length-2 c = search needs
+
+returns-2 : tie.Need-returns-2
+returns-2 c =
+    let v = c .before .before in
+    let e = v .before .before in
+    let z = start e in
+    let all : v .next-vacant .result ≡ slipTotal (tables e) = omega (arith, c .if2 .taken, total-slips (whole (z .pre .shaped))) in
+    (λ st. dup-slips (z .args .pool .now) st (z .args .s .0) (named-here e) (no-slip (tables e) (v .next-vacant .ensures) all), tt)
+
+head-link-requires : tie.Need-head-link-requires
+head-link-requires c κs = let e = c .before .before .before .before .before in (start e .pre .shaped, named-below (start e .pre .shaped) (start e .args .s .0) (named-here e))
+
+-- the new slip: the lowest vacant one
+found : (c : tie.Else2) → let v = c .before .before in let T = tables (v .before .before) in
+    (v .next-vacant .result < slipTotal T) × (newSlip T ≡ v .next-vacant .result) × (1 ≤ length (vacantSlips T))
+found c =
+    let v = c .before .before in
+    let e = v .before .before in
+    let T = tables e in
+    let below : v .next-vacant .result < slipTotal T =
+    omega (arith, c .if2 .left, total-slips (whole (start e .pre .shaped)), v .next-vacant .ensures, first-lies (isVacant T) 0 (slipTotal T) .0) in
+    let new = new-slip T (v .next-vacant .ensures) below in
+    (below, new .0, new .1)
+
+-- the tables, the head link and the new slip are good where the chain has a piece
+module _ (c : tie.Else3) where
+  abbrev at : tie.Else2
+  at = c .before .before .before
+
+  abbrev from : tie.Else1
+  from = at .before .before .before .before
+
+  some : headOf (tables from) (start from .args .s .0) ≡ 0 → ⊥
+  some z = c .if3 .left (c .before .head-link .ensures ∙ z)
+
+  -- the head is a piece in use
+  leads : InUse (tables from) (c .before .head-link .result - 1)
+  leads =
+      let z = start from in
+      let T = tables from in
+      let n = named-below (z .pre .shaped) (z .args .s .0) (named-here from) in
+      let good = subst (λ (x : ℕ). Is (linkOk T x)) (sym (c .before .head-link .ensures)) (z .pre .sound .slips-ok (z .args .s .0) (omega (arith, total-slips (whole (z .pre .shaped))))) in
+      link-leads T (c .before .head-link .result) (z .pre .sound) good (c .if3 .left)
+
+under-new-requires : tie.Need-under-new-requires
+under-new-requires c κs =
+    let e2 = c .before .before .before .before in
+    let z = start (e2 .before .before .before .before) in
+    (z .pre .shaped, omega (arith, found e2 .0, total-slips (whole (z .pre .shaped))), omega arith)
+
+same-length-3 : tie.Need-same-length-3
+same-length-3 c = search needs
+
+returns-3 : tie.Need-returns-3
+returns-3 c =
+    let u = c .before .before in
+    let t = u .before .before in
+    let e2 = t .before .before .before in
+    let e = e2 .before .before .before .before in
+    let z = start e in
+    let T = tables e in
+    let s = z .args .s .0 in
+    let none : headOf T s ≡ 0 = sym (t .before .head-link .ensures) ∙ t .if3 .taken in
+    let is = u .under-new .ensures .0 in (
+      λ st. dup-done (z .args .pool .now) st s (named-here e) (found e2 .2) (omega (arith, plan-none T (headOf T s) none)) (found e2 .1) (u .under-new .ensures .1)
+          (λ i. omega (arith, c .slice-known2 .given i)) (record { shaped = is .shaped; is = is .is ∙ empty-under T (headOf T s) _ (freePieces T) none }),
+      rw (u .under-new .ensures .1),
+    )
+
+next-free-piece-requires : tie.Need-next-free-piece-requires
+next-free-piece-requires c κs = search needs
+
+same-length-4 : tie.Need-same-length-4
+same-length-4 c = search needs
+
+returns-4 : tie.Need-returns-4
+returns-4 c =
+    let f = c .before .before in
+    let e3 = f .before .before in
+    let e = from e3 in
+    let z = start e in
+    let T = tables e in
+    let all : f .next-free-piece .result ≡ pieceTotal T = omega (arith, c .if4 .taken, total-pieces (whole (z .pre .shaped))) in
+    let none = ap length (no-piece T (f .next-free-piece .ensures) all) in
+    (λ st. dup-pieces (z .args .pool .now) st (z .args .s .0) (named-here e) (found (at e3) .2) (omega (arith, none, plan-one T (headOf T (z .args .s .0)) (some e3))), tt)
+
+-- the new piece: the lowest free one
+taken-here : (c : tie.Else4) → let f = c .before .before in f .next-free-piece .result < pieceTotal (tables (from (f .before .before)))
+taken-here c =
+    let f = c .before .before in
+    let e = from (f .before .before) in
+    let T = tables e in
+    omega (arith, c .if4 .left, total-pieces (whole (start e .pre .shaped)), f .next-free-piece .ensures, first-lies (isFree T) 0 (pieceTotal T) .0)
+
+sub-under-new : tie.Need-sub-under-new
+sub-under-new c = search needs
+
+clone-rest-requires : tie.Need-clone-rest-requires
+clone-rest-requires c κs =
+    let e4 = c .before in
+    let e3 = e4 .before .before .before .before in
+    let z = start (from e3) in
+    let d = e3 .before .head-link .result - 1 in (
+      z .pre .shaped,
+      omega (arith, taken-here e4, total-pieces (whole (z .pre .shaped))),
+      opened-copyable (z .pre) d 0 (leads e3) (omega (arith, leads e3 .some-bytes)),
+      opened-sharable (z .pre) (piece (tables (from e3)) d .next) (leads e3 .onward),
+    )
+
+add-under-new : tie.Need-add-under-new
+add-under-new c =
+    let e4 = c .before .before .before .before .before in
+    let z = start (from (e4 .before .before .before .before)) in
+    omega (arith, taken-here e4, total-pieces (whole (z .pre .shaped)), z .pre .few-pieces)
+
+under-new-requires-2 : tie.Need-under-new-requires-2
+under-new-requires-2 c κs =
+    let w = c .before .before .before in
+    let e4 = w .before .before in
+    let e3 = e4 .before .before .before .before in
+    let z = start (from e3) in (
+      w .clone-rest .ensures .shaped,
+      omega (arith, found (at e3) .0, total-slips (whole (z .pre .shaped))),
+      omega (arith, taken-here e4, total-pieces (whole (z .pre .shaped)), z .pre .few-pieces),
+    )
+
+same-length-5 : tie.Need-same-length-5
+same-length-5 c = search needs
+
+returns-5 : tie.Need-returns-5
+returns-5 c =
+    let u = c .before .before in
+    let w = u .before .before .before .before in
+    let e4 = w .before .before in
+    let f = e4 .before .before in
+    let e3 = f .before .before in
+    let e = from e3 in
+    let z = start e in
+    let T = tables e in
+    let s = z .args .s .0 in
+    let t = at e3 .before .before .next-vacant .result in
+    let g = f .next-free-piece .result in
+    let fs = piece-first T (f .next-free-piece .ensures) (taken-here e4) in
+    let now = onward (w .clone-rest .ensures) (λ (U : Tables). setSlip U t (holding (g + 1))) (u .under-new2 .ensures .0) in
+    let head : e3 .before .head-link .result ≡ headOf T s = e3 .before .head-link .ensures in (
+      λ st. dup-done (z .args .pool .now) st s (named-here e) (found (at e3) .2) (omega (arith, ap length fs, plan-one T (headOf T s) (some e3))) (found (at e3) .1) (u .under-new2 .ensures .1)
+          (λ i. omega (arith, c .slice-known4 .given i))
+          (record { shaped = now .shaped; is = now .is ∙ ap (λ (U : Tables). setSlip U t (holding (g + 1))) (cloned-made T (e3 .before .head-link .result - 1) g) ∙ ap (λ (n : ℕ). setSlip (made (dupPlan T (suc (n - 1))) (g ∷ [])) t (holding (g + 1))) head ∙ clone-under T (headOf T s) t g (some e3) fs }),
+      rw (u .under-new2 .ensures .1),
+    )
+
+pub dup-spec : {M : Type 1} → statement M
+dup-spec =
+    tie.close
+    (tie.spec
+    held-requires
+    same-length
+    returns
+    next-vacant-requires
+    same-length-2
+    returns-2
+    head-link-requires
+    under-new-requires
+    same-length-3
+    returns-3
+    next-free-piece-requires
+    same-length-4
+    returns-4
+    sub-under-new
+    clone-rest-requires
+    add-under-new
+    under-new-requires-2
+    same-length-5
+    returns-5)

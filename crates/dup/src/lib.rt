@@ -1,0 +1,42 @@
+// dup: a second slip on a chain, over one new piece that shares the rest.
+use kinds::Outcome;
+use kinds::PieceNumber;
+use kinds::Refusal;
+use kinds::SlipNumber;
+use tables::Shape;
+ghost use mathlib.Core.Path.{_≡_};
+ghost use mathlib.Core.List.{List, []};
+ghost use Prim.Native.Nat.{ℕ};
+ghost use Rattle.kinds.specs.SlipState.{stateOf};
+ghost use Rattle.kinds.specs.Outcome.{numberOf};
+ghost use Rattle.rules.specs.Tables.{slip};
+ghost use Rattle.rules.specs.Bytes.{decode};
+ghost use Rattle.rules.specs.Rule.{noView};
+ghost use Rattle.rules.specs.Step.{Dup, perform};
+ghost use Rattle.chain.specs.Opened.{Opened};
+ghost use Rattle.answer.specs.Result.{lent, resultOf, Leaves};
+
+// Gives a new slip the chain of slip `s`; an empty chain needs no piece: a handle duplicated.
+pub fn dup(pool: &mut [u8], shape: Shape, s: SlipNumber) -> Outcome
+    requires { ⌜ Opened (now pool) shape ⌝ }
+    ensures { λ r. ⌜ ((st : List ℕ) → resultOf r (now (pool .exit)) st [] noView ≡ perform (Dup (s .0)) (lent (now (pool .entry)) st)) ⌝ }
+    ensures { λ r. ⌜ Leaves r (stateOf (slip (decode (now (pool .exit))) (numberOf r))) ⌝ }
+{
+    if !chain::held(pool, shape, s) {
+        return Outcome::Refused(Refusal::Slip);
+    }
+    let t = chain::next_vacant(pool, shape, 0);
+    if t == shape.slips {
+        return Outcome::Refused(Refusal::Slips);
+    }
+    let head = chain::head_link(pool, shape, s);
+    if head == 0 {
+        return answer::under_new(pool, shape, SlipNumber(t), 0);
+    }
+    let f = chain::next_free_piece(pool, shape, 0);
+    if f == shape.pieces {
+        return Outcome::Refused(Refusal::Pieces);
+    }
+    build::clone_rest(pool, shape, PieceNumber(head - 1), 0, PieceNumber(f));
+    answer::under_new(pool, shape, SlipNumber(t), f + 1)
+}

@@ -1,0 +1,39 @@
+-- What free answers and leaves: the rule's result. Assumes nothing.
+use mathlib.Core.Path.{_≡_, refl, sym, _∙_}
+use mathlib.Core.List.{List, []}
+use Prim.Native.Nat.{ℕ}
+use native.Mathlib.Omega.{arith}
+use Rattle.kinds.specs.declared.SlipState.{SlipState}
+use Rattle.kinds.specs.declared.Refusal.the-variants.{Slip}
+use Rattle.kinds.specs.declared.Outcome.{Outcome}
+use Rattle.kinds.specs.declared.Outcome.the-variants.{Done, Refused}
+use Rattle.rules.specs.Basics.{Is}
+use Rattle.rules.specs.Tables.{vacant}
+use Rattle.rules.specs.Bytes.{decode}
+use Rattle.rules.specs.Rule.{_⇐_, unnamed, want, noView}
+use Rattle.rules.specs.Free.{freeAfter}
+use Rattle.rules.specs.Step.{Free, rule, stateIn, perform}
+use Rattle.rules.proofs.Bytes.{AllBytes}
+use Rattle.rules.proofs.Codes.{first-yes, first-no, first-none}
+use Rattle.rules.proofs.Release.{turned-storage}
+use Rattle.tables.specs.declared.Shape.{Shape}
+use Rattle.tables.specs.Shape.{Holds}
+use Rattle.release.specs.Release.{turnedTo}
+use Rattle.release.proofs.Laws.{turned-tables}
+use Rattle.answer.specs.Result.{lent, resultOf}
+use Rattle.answer.proofs.Perform.{perform-first, perform-none, changed}
+
+module _ (p st : List ℕ) (s : ℕ) where
+  -- a slip past the last, or vacant
+  pub free-slip : Is (unnamed (decode p) s) → resultOf (Refused Slip) p st [] noView ≡ perform (Free s) (lent p st)
+  unfolding rule
+  free-slip u = perform-first (Free s) (lent p st) Slip (first-yes (Slip ⇐ unnamed (decode p) s) [] u)
+
+  -- the slip is turned to vacant
+  pub free-done : {o : Outcome} {x : SlipState} {q : List ℕ} {h : Shape} → (Is (unnamed (decode p) s) → ⊥) → o ≡ Done (record { state = x; number = 0 }) → AllBytes q
+      → Holds q h (turnedTo (decode p) s vacant) → resultOf o q st [] noView ≡ perform (Free s) (lent p st)
+  unfolding rule
+  free-done u a b is =
+      let S = stateIn (lent p st) in
+      changed _ (want 0 0 0) 0 (freeAfter s S) a refl b (record { shaped = is .shaped; is = is .is ∙ sym (turned-tables S s vacant) }) (sym (turned-storage S s vacant))
+      ∙ perform-none (Free s) (lent p st) refl (first-no (Slip ⇐ unnamed (decode p) s) [] u ∙ first-none)

@@ -1,0 +1,2 @@
+-- The laws of free.
+pub mod Laws

@@ -1,0 +1,28 @@
+// free: a slip gives up its chain, and what no other slip or piece holds is freed.
+use kinds::Outcome;
+use kinds::Refusal;
+use kinds::SlipNumber;
+use tables::Shape;
+ghost use mathlib.Core.Path.{_≡_};
+ghost use mathlib.Core.List.{List, []};
+ghost use Prim.Native.Nat.{ℕ};
+ghost use Rattle.kinds.specs.SlipState.{stateOf};
+ghost use Rattle.rules.specs.Tables.{slip};
+ghost use Rattle.rules.specs.Bytes.{decode};
+ghost use Rattle.rules.specs.Rule.{noView};
+ghost use Rattle.rules.specs.Step.{Free, perform};
+ghost use Rattle.chain.specs.Opened.{Opened};
+ghost use Rattle.answer.specs.Result.{lent, resultOf, Leaves};
+
+// Releases the chain of slip `s`, which is then vacant: bf_afree of a handle's chain.
+pub fn free(pool: &mut [u8], shape: Shape, s: SlipNumber) -> Outcome
+    requires { ⌜ Opened (now pool) shape ⌝ }
+    ensures { λ r. ⌜ ((st : List ℕ) → resultOf r (now (pool .exit)) st [] noView ≡ perform (Free (s .0)) (lent (now (pool .entry)) st)) ⌝ }
+    ensures { λ r. ⌜ Leaves r (stateOf (slip (decode (now (pool .exit))) (s .0))) ⌝ }
+{
+    if !chain::held(pool, shape, s) {
+        return Outcome::Refused(Refusal::Slip);
+    }
+    release::turn(pool, shape, s, 0);
+    answer::done(pool, shape, s, 0)
+}

@@ -1,0 +1,3 @@
+-- The laws of keep.
+pub mod Stays
+pub mod Laws

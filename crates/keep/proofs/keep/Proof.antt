@@ -1,0 +1,333 @@
+-- `keep::keep` meets its contract. Assumes nothing.
+use mathlib.Core.Path.{_≡_, sym, ap, subst, _∙_}
+use Prim.Native.Nat.{ℕ, _-_, _≤_, _<_}
+use native.Mathlib.Omega.{arith}
+use lib.ListN.{length}
+use lib.Dec.{ltb, ltb→lt}
+use borrow.Author.Needs.{needs}
+use borrow.Author.Tests.{not-true, not-false, leb-true, leb-false}
+use Rattle.rules.specs.Basics.{Is}
+use Rattle.rules.specs.Tables.{Tables, slipTotal}
+use Rattle.rules.specs.Bytes.{decode}
+use Rattle.rules.specs.Chain.{lengthOf}
+use Rattle.rules.specs.Sound.{linkOk}
+use Rattle.rules.specs.Room.{freePieces}
+use Rattle.rules.specs.Keep.{keptNotOwn}
+use Rattle.rules.specs.Rule.{unnamed}
+use Rattle.rules.proofs.Logic.{not-less}
+use Rattle.tables.proofs.Laws.{whole, total-slips}
+use Rattle.chain.specs.Own.{ownPart}
+use Rattle.chain.proofs.Spots.{past-range, at-end, before-end}
+use Rattle.answer.proofs.Perform.{is-unnamed, is-named, named-below}
+use Rattle.keep.proofs.Laws.{Seen, last-below, next-ok, no-others, last-long, short-hangable, short-after, others-count, others-cut, next-long, new-small, new-hangable, new-after, keep-slip, keep-range, keep-whole, keep-pieces, keep-done}
+use Rattle.keep.proofs.keep.Statement.{statement}
+use Rattle.keep.proofs.keep.Tie as tie
+
+held-requires : tie.Need-held-requires
+held-requires c κs = search needs
+
+same-length : tie.Need-same-length
+same-length c = search needs
+
+returns : tie.Need-returns
+returns c =
+    let z = c .before .before .before .before in
+    let p = z .args .pool .now in
+    let s = z .args .s .0 in
+    (λ st. keep-slip p st s (z .args .n) (is-unnamed (decode p) s (c .before .held .ensures) (not-true _ (c .if1 .taken))), tt)
+
+-- where the call started, and the tables there
+abbrev start : tie.Else1 → tie.Start
+start e = e .before .before .before .before
+
+abbrev tables : tie.Else1 → Tables
+tables e = decode (start e .args .pool .now)
+
+-- the slip is named
+named-here : (e : tie.Else1) → Is (unnamed (tables e) (start e .args .s .0)) → ⊥
+named-here e = is-named (tables e) (start e .args .s .0) (e .before .held .ensures) (not-false _ (e .if1 .left))
+
+below : (e : tie.Else1) → start e .args .s .0 < start e .args .shape .slips
+below e = named-below (start e .pre .shaped) (start e .args .s .0) (named-here e)
+
+head-link-requires : tie.Need-head-link-requires
+head-link-requires c κs = let e = c .before in (start e .pre .shaped, below e)
+
+-- the link to the head is good
+module _ (c : tie.After-head-link) where
+  abbrev entered : tie.Else1
+  entered = c .before .before
+
+  inside : start entered .args .s .0 < slipTotal (tables entered)
+  inside = omega (arith, below entered, total-slips (whole (start entered .pre .shaped)))
+
+  head-good : Is (linkOk (tables entered) (c .head-link .result))
+  head-good = subst (λ (x : ℕ). Is (linkOk (tables entered) x)) (sym (c .head-link .ensures)) (start entered .pre .sound .slips-ok (start entered .args .s .0) inside)
+
+find-requires : tie.Need-find-requires
+find-requires c κs = let l = c .before in (start (entered l) .pre, head-good l)
+
+past-end-requires : tie.Need-past-end-requires
+past-end-requires c κs = search needs
+
+same-length-2 : tie.Need-same-length-2
+same-length-2 c = search needs
+
+-- where the n bytes end, and what that tells of the chain's length
+module _ (c : tie.After-past-end) where
+  abbrev spot : tie.After-find
+  spot = c .before
+
+  abbrev links : tie.After-head-link
+  links = spot .before .before
+
+  abbrev from : tie.Else1
+  from = entered links
+
+  short : c .past-end .result ≡ ltb (lengthOf (tables from) (start from .args .s .0)) (start from .args .n)
+  short =
+      c .past-end .ensures
+      ∙ past-range (tables from) (start from .args .s .0) (start from .args .n) (links .head-link .ensures) (spot .find .ensures) (start from .pre .sound) (inside links)
+
+returns-2 : tie.Need-returns-2
+returns-2 c =
+    let y = c .before in
+    let e = from y in
+    let z = start e in
+    (λ st. keep-range (z .args .pool .now) st (z .args .s .0) (z .args .n) (named-here e) (ltb→lt _ _ (subst Is (sym (c .if2 .taken) ∙ short y) tt)), tt)
+
+-- the chain has the bytes
+has : (c : tie.Else2) → let e = from (c .before) in start e .args .n ≤ lengthOf (tables e) (start e .args .s .0)
+has c = not-less _ _ (λ t. subst Is (sym (short (c .before)) ∙ c .if2 .left) t)
+
+done-requires : tie.Need-done-requires
+done-requires c κs = let e = from (c .before .before .before .before) in (start e .pre .shaped, below e)
+
+same-length-3 : tie.Need-same-length-3
+same-length-3 c = search needs
+
+returns-3 : tie.Need-returns-3
+returns-3 c =
+    let t = c .before .before in
+    let e2 = t .before .before in
+    let y = e2 .before in
+    let e = from y in
+    let z = start e in
+    let k = e .before .before .before in
+    let same = at-end (tables e) (z .args .s .0) (z .args .n) (links y .head-link .ensures) (spot y .find .ensures) (z .pre .sound) (inside (links y)) (t .if3 .taken)
+    (λ q. subst Is (sym (y .past-end .ensures) ∙ e2 .if2 .left) q) in (
+      λ st. keep-whole (z .args .pool .now) st (z .args .s .0) (z .args .n) (named-here e) (has e2) same (c .done .ensures) (λ i. omega (arith, k .slice-known .given i)) (whole (z .pre .shaped)),
+      rw (c .done .ensures),
+    )
+
+-- a part of the chain stays
+module _ (c : tie.Else3) where
+  abbrev ranged : tie.Else2
+  ranged = c .before .before
+
+  abbrev at : tie.Else1
+  at = from (ranged .before)
+
+  part-only : start at .args .n ≡ lengthOf (tables at) (start at .args .s .0) → ⊥
+  part-only e =
+      let y = ranged .before in
+      let z = start at in
+      omega (arith, e, before-end (tables at) (z .args .s .0) (z .args .n) (links y .head-link .ensures) (spot y .find .ensures) (z .pre .sound) (inside (links y)) (c .if3 .left))
+
+own-part-requires : tie.Need-own-part-requires
+own-part-requires c κs = let e = c .before in (start (at e) .pre, head-good (links (ranged e .before)))
+
+-- what the code knows then
+module _ (c : tie.After-own-part) where
+  abbrev here : tie.Else3
+  here = c .before .before
+
+  seen : let z = start (at here) in Seen (z .args .pool .now) (z .args .shape) (z .args .s .0) (z .args .n) (c .own-part .result)
+  seen =
+      let z = start (at here) in
+      record {
+        opened = z .pre;
+        below = omega (arith, below (at here), total-slips (whole (z .pre .shaped)));
+        part = has (ranged here);
+        run = c .own-part .ensures ∙ ap (λ (l : ℕ). ownPart (tables (at here)) l (z .args .n)) (links (ranged here .before) .head-link .ensures);
+      }
+
+shorten-requires : tie.Need-shorten-requires
+shorten-requires c κs =
+    let t = c .before .before in
+    let w = seen (t .before .before) in
+    (w .opened .shaped, last-below w, last-long w (t .if4 .taken))
+
+hang-requires : tie.Need-hang-requires
+hang-requires c κs =
+    let d = c .before .before .before in
+    let t = d .before .before .before in
+    let f = t .before .before in
+    let w = seen f in
+    (d .shorten .ensures .shaped, below (at (here f)), last-below w, omega arith, short-hangable w (t .if4 .taken) (d .shorten .ensures))
+
+done-requires-2 : tie.Need-done-requires-2
+done-requires-2 c κs =
+    let g = c .before .before .before in
+    let t = g .before .before .before .before .before .before .before in
+    (g .hang .ensures .shaped, below (at (here (t .before .before))))
+
+same-length-4 : tie.Need-same-length-4
+same-length-4 c = search needs
+
+returns-4 : tie.Need-returns-4
+returns-4 c =
+    let b = c .before .before in
+    let g = b .before .before in
+    let d = g .before .before .before .before in
+    let t = d .before .before .before in
+    let f = t .before .before in
+    let w = seen f in
+    let e = at (here f) in
+    let z = start e in
+    let all = t .if4 .taken in (
+      λ st. keep-done (z .args .pool .now) st (z .args .s .0) (z .args .n) (named-here e) (has (ranged (here f))) (part-only (here f)) (omega (arith, ap length (no-others w all))) (c .done2 .ensures)
+          (λ i. omega (arith, b .slice-known3 .given i)) (short-after w all st (d .shorten .ensures) (g .hang .ensures)),
+      rw (c .done2 .ensures),
+    )
+
+-- some that stay are not own
+module _ (c : tie.Else4) where
+  abbrev passed : tie.After-own-part
+  passed = c .before .before
+
+  fewer : passed .own-part .result .bytes < start (at (here passed)) .args .n
+  fewer = omega (arith, c .if4 .left)
+
+sub-left : tie.Need-sub-left
+sub-left c = search needs
+
+cast-part-of : tie.Need-cast-part-of
+cast-part-of c = search needs
+
+part-of-requires : tie.Need-part-of-requires
+part-of-requires c κs = let w = seen (passed (c .before .before)) in (w .opened, next-ok w)
+
+cast-lowest-piece : tie.Need-cast-lowest-piece
+cast-lowest-piece c = search needs
+
+lowest-piece-requires : tie.Need-lowest-piece-requires
+lowest-piece-requires c κs = start (at (here (passed (c .before .before .before .before)))) .pre .shaped
+
+cast-has-pieces : tie.Need-cast-has-pieces
+cast-has-pieces c = search needs
+
+has-pieces-requires : tie.Need-has-pieces-requires
+has-pieces-requires c κs = let q = c .before in (start (at (here (passed (q .before .before .before .before .before)))) .pre .shaped, q .lowest-piece .ensures)
+
+same-length-5 : tie.Need-same-length-5
+same-length-5 c = search needs
+
+-- how many they are
+module _ (c : tie.After-part-of) where
+  abbrev other : tie.Else4
+  other = c .before .before .before
+
+  count : let z = start (at (here (passed other))) in length (keptNotOwn (decode (z .args .pool .now)) (z .args .s .0) (z .args .n)) ≡ c .part-of .result .pieces
+  count = sym (others-count (seen (passed other)) (c .part-of .ensures))
+
+returns-5 : tie.Need-returns-5
+returns-5 c =
+    let q = c .before in
+    let g = q .before .before .before .before in
+    let f = passed (other g) in
+    let e = at (here f) in
+    let z = start e in
+    let few = leb-false (g .part-of .result .pieces) (length (freePieces (tables e))) (sym (q .has-pieces .ensures) ∙ not-true _ (c .if5 .taken)) in
+    (λ st. keep-pieces (z .args .pool .now) st (z .args .s .0) (z .args .n) (named-here e) (has (ranged (here f))) (part-only (here f)) (omega (arith, few, count g)), tt)
+
+-- there is room for them
+module _ (c : tie.Else5) where
+  abbrev counted : tie.After-part-of
+  counted = c .before .before .before .before .before
+
+  room : counted .part-of .result .pieces ≤ length (freePieces (tables (at (here (passed (other counted))))))
+  room = leb-true (counted .part-of .result .pieces) (length (freePieces (tables (at (here (passed (other counted))))))) (sym (c .before .has-pieces .ensures) ∙ not-false _ (c .if5 .left))
+
+copy-pieces-requires : tie.Need-copy-pieces-requires
+copy-pieces-requires c κs =
+    let g = counted (c .before) in
+    let w = seen (passed (other g)) in
+    ((w .opened, next-ok w), ((others-cut w (g .part-of .ensures), room (c .before)), (next-long w, c .before .before .before .before .lowest-piece .ensures)))
+
+hang-requires-2 : tie.Need-hang-requires-2
+hang-requires-2 c κs =
+    let d = c .before .before .before in
+    let e5 = d .before .before in
+    let e4 = other (counted e5) in
+    let f = passed e4 in
+    let w = seen f in
+    let k = d .copy-pieces .ensures in (
+      k .0 .shaped,
+      below (at (here f)),
+      last-below w,
+      new-small w (k .0) (k .1),
+      new-hangable w (k .0) (k .1),
+    )
+
+done-requires-3 : tie.Need-done-requires-3
+done-requires-3 c κs =
+    let g = c .before .before .before in
+    let e5 = g .before .before .before .before .before .before in
+    (g .hang2 .ensures .shaped, below (at (here (passed (other (counted e5))))))
+
+same-length-6 : tie.Need-same-length-6
+same-length-6 c = search needs
+
+returns-6 : tie.Need-returns-6
+returns-6 c =
+    let b = c .before .before in
+    let g = b .before .before in
+    let d = g .before .before .before .before in
+    let e5 = d .before .before in
+    let e4 = other (counted e5) in
+    let f = passed e4 in
+    let w = seen f in
+    let e = at (here f) in
+    let z = start e in
+    let k = d .copy-pieces .ensures in (
+      λ st. keep-done (z .args .pool .now) st (z .args .s .0) (z .args .n) (named-here e) (has (ranged (here f))) (part-only (here f)) (omega (arith, count (counted e5), room e5)) (c .done3 .ensures)
+          (λ i. omega (arith, b .slice-known5 .given i)) (new-after w (k .0) (k .1) (fewer e4) st (g .hang2 .ensures)),
+      rw (c .done3 .ensures),
+    )
+
+pub keep-spec : {M : Type 1} → statement M
+keep-spec =
+    tie.close
+    (tie.spec
+    held-requires
+    same-length
+    returns
+    head-link-requires
+    find-requires
+    past-end-requires
+    same-length-2
+    returns-2
+    done-requires
+    same-length-3
+    returns-3
+    own-part-requires
+    shorten-requires
+    hang-requires
+    done-requires-2
+    same-length-4
+    returns-4
+    sub-left
+    cast-part-of
+    part-of-requires
+    cast-lowest-piece
+    lowest-piece-requires
+    cast-has-pieces
+    has-pieces-requires
+    same-length-5
+    returns-5
+    copy-pieces-requires
+    hang-requires-2
+    done-requires-3
+    same-length-6
+    returns-6)

@@ -1,0 +1,2 @@
+-- What the contracts of keep cite.
+pub mod Shorten

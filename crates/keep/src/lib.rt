@@ -1,0 +1,66 @@
+// keep: the first bytes of a chain stay.
+use kinds::Outcome;
+use kinds::PieceNumber;
+use kinds::Refusal;
+use kinds::SlipNumber;
+use tables::Shape;
+ghost use mathlib.Core.Path.{_≡_};
+ghost use mathlib.Core.List.{List, []};
+ghost use Prim.Native.Nat.{ℕ, _-_, _≤_};
+ghost use Rattle.kinds.specs.SlipState.{stateOf};
+ghost use Rattle.rules.specs.Tables.{slip, piece};
+ghost use Rattle.rules.specs.Bytes.{decode};
+ghost use Rattle.rules.specs.Rule.{noView};
+ghost use Rattle.rules.specs.Step.{Keep, perform};
+ghost use Rattle.tables.specs.Shape.{Shaped, Holds};
+ghost use Rattle.chain.specs.Opened.{Opened};
+ghost use Rattle.answer.specs.Result.{lent, resultOf, Leaves};
+ghost use Rattle.keep.specs.Shorten.{shortenedBy};
+
+// The piece that `last` leads to loses its last `over` bytes, and nothing changes where `last` is 0: a data window shortened in place.
+fn shorten(pool: &mut [u8], shape: Shape, last: u16, over: u32)
+    requires { ⌜ Shaped (now pool) shape × (last ≤ shape .pieces) × ((last ≡ 0 → ⊥) → over ≤ piece (decode (now pool)) (last - 1) .len) ⌝ }
+    ensures { λ _. ⌜ Holds (now (pool .exit)) shape (shortenedBy (decode (now (pool .entry))) last over) ⌝ }
+{
+    if last == 0 {
+        return;
+    }
+    let d = PieceNumber(last - 1);
+    let offset = tables::piece_offset(pool, shape, d);
+    let length = tables::piece_length(pool, shape, d);
+    tables::set_piece_place(pool, shape, d, offset, length - over as u16);
+}
+
+// Keeps the first `n` bytes of the chain of slip `s`, in its own pieces and in new ones for those that others hold: a chain trimmed at its end.
+pub fn keep(pool: &mut [u8], shape: Shape, s: SlipNumber, n: u32) -> Outcome
+    requires { ⌜ Opened (now pool) shape ⌝ }
+    ensures { λ r. ⌜ ((st : List ℕ) → resultOf r (now (pool .exit)) st [] noView ≡ perform (Keep (s .0) n) (lent (now (pool .entry)) st)) ⌝ }
+    ensures { λ r. ⌜ Leaves r (stateOf (slip (decode (now (pool .exit))) (s .0))) ⌝ }
+{
+    if !chain::held(pool, shape, s) {
+        return Outcome::Refused(Refusal::Slip);
+    }
+    let head = chain::head_link(pool, shape, s);
+    let end = chain::find(pool, shape, head, n);
+    if chain::past_end(end) {
+        return Outcome::Refused(Refusal::Range);
+    }
+    if end.link == 0 {
+        return answer::done(pool, shape, s, 0);
+    }
+    let own = chain::own_part(pool, shape, head, n);
+    if n <= own.bytes {
+        shorten(pool, shape, own.last, own.bytes - n);
+        release::hang(pool, shape, s, own.last, 0);
+        return answer::done(pool, shape, s, 0);
+    }
+    let left = n - own.bytes;
+    let others = chain::part_of(pool, shape, own.next, left as u64).pieces;
+    let lowest = chain::lowest_piece(pool, shape, others as usize);
+    if !chain::has_pieces(pool, shape, lowest, others as usize) {
+        return Outcome::Refused(Refusal::Pieces);
+    }
+    let first = build::copy_pieces(pool, shape, own.next, 0, left, others, lowest, 0);
+    release::hang(pool, shape, s, own.last, first);
+    answer::done(pool, shape, s, 0)
+}

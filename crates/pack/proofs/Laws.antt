@@ -1,0 +1,195 @@
+-- What pack answers and leaves: the rule's result. Assumes nothing.
+use mathlib.Core.Path.{_≡_, refl, sym, ap, subst, _∙_}
+use mathlib.Core.Bool.{false, not}
+use mathlib.Core.List.{List, []}
+use Prim.Native.Nat.{ℕ, zero, suc, pred, _+_, _-_, _≤_, _<_}
+use native.Mathlib.Omega.{arith}
+use lib.ListN.{length, take}
+use lib.Dec.{eqb, leb}
+use borrow.Author.Tests.{eq-eqb, ne-eqb, le-leb, lt-leb}
+use Rattle.kinds.specs.Limits.{mostPieces}
+use Rattle.kinds.specs.declared.SlipState.{SlipState}
+use Rattle.kinds.specs.declared.Refusal.the-variants.{Slip, Pieces, Buffers}
+use Rattle.kinds.specs.declared.Outcome.{Outcome}
+use Rattle.kinds.specs.declared.Outcome.the-variants.{Done, Refused}
+use Rattle.rules.specs.Basics.{Is}
+use Rattle.rules.specs.Layout.{storageLength}
+use Rattle.rules.specs.Tables.{Tables, piece, headOf, holding, pieceTotal, bufferTotal}
+use Rattle.rules.specs.Bytes.{decode}
+use Rattle.rules.specs.Chain.{State, Stretch, walk, chain, lengthOf, contents, reads}
+use Rattle.rules.specs.Sound.{linkOk, SoundTables}
+use Rattle.rules.specs.Room.{freePieces, freeBuffers, newBuffers}
+use Rattle.rules.specs.Build.{built, builtLink, plain, underOld, buffersFor, laid, stored}
+use Rattle.rules.specs.Rule.{_⇐_, firstCode, unnamed, Wants, want, noView}
+use Rattle.rules.specs.Pack.{packAfter, packWants}
+use Rattle.rules.specs.Step.{Pack, rule, stateIn, perform}
+use Rattle.rules.proofs.Logic.{if-T, if-F}
+use Rattle.rules.proofs.Audit.{tables-now}
+use Rattle.rules.proofs.Bytes.{AllBytes}
+use Rattle.rules.proofs.Build.{plan-built, plain-planned}
+use Rattle.rules.proofs.Codes.{first-yes, first-no, first-none}
+use Rattle.rules.proofs.Contents.{Fit}
+use Rattle.rules.proofs.Put.{new-good}
+use Rattle.rules.proofs.Room.{free-pieces}
+use Rattle.rules.proofs.Sizes.{old-storage}
+use Rattle.tables.specs.declared.Shape.{Shape}
+use Rattle.tables.specs.Shape.{Holds}
+use Rattle.tables.proofs.Laws.{whole, total-pieces, total-buffers}
+use Rattle.chain.specs.Opened.{Opened}
+use Rattle.chain.specs.Length.{stretchesFrom}
+use Rattle.chain.proofs.Links.{walk-none, walk-on, walk-less, link-leads}
+use Rattle.release.specs.Release.{Releasable, turnedTo}
+use Rattle.release.proofs.Laws.{turned-tables}
+use Rattle.transfer.proofs.Afresh.{bytes-all}
+use Rattle.answer.specs.Result.{lent, resultOf}
+use Rattle.answer.proofs.New.{new-link}
+use Rattle.answer.proofs.Perform.{perform-first, perform-none, perform-pieces, perform-buffers, perform-all, changed}
+
+-- ---- whether a chain has more than one piece
+
+-- a chain without pieces has not
+pub scattered-none : (T : Tables) (n : ℕ) → n ≡ 0 → false ≡ not (leb (length (walk (pieceTotal T) T n)) 1)
+scattered-none T n z =
+    let e : length (walk (pieceTotal T) T n) ≡ 0 = ap (λ (m : ℕ). length (walk (pieceTotal T) T m)) z ∙ ap length (walk-none (pieceTotal T) T) in
+    sym (ap not (le-leb (length (walk (pieceTotal T) T n)) 1 (omega (arith, e))))
+
+-- a chain with a piece has where that piece leads on
+pub scattered-on : (T : Tables) (n m : ℕ) → SoundTables T → Is (linkOk T n) → (n ≡ 0 → ⊥) → m ≡ piece T (n - 1) .next → not (eqb m 0) ≡ not (leb (length (walk (pieceTotal T) T n)) 1)
+scattered-on T n zero S t i e =
+    let l = ap length (walk-on T n S t i) in
+    let r = ap (λ (x : ℕ). length (walk (pieceTotal T) T x)) (sym e) ∙ ap length (walk-none (pieceTotal T) T) in
+    ap not (eq-eqb 0 0 refl) ∙ sym (ap not (le-leb (length (walk (pieceTotal T) T n)) 1 (omega (arith, l, r))))
+scattered-on T n (suc d) S t i e =
+    let l = ap length (walk-on T n S t i) in
+    let r = walk-less T (piece T (n - 1) .next) S (link-leads T n S t i .onward) (λ z. omega (arith, e, z)) in
+    ap not (ne-eqb (suc d) 0 (λ z. omega arith)) ∙ sym (ap not (lt-leb (length (walk (pieceTotal T) T n)) 1 (omega (arith, l, r))))
+
+-- ---- the new pieces and their bytes
+
+-- the pieces that pack makes of the chain of slip s
+abbrev pub packed : Tables → ℕ → List Stretch
+packed T s = laid (newBuffers T (buffersFor (lengthOf T s))) (lengthOf T s)
+
+-- what the code finds before it acts: the chain's length, and how many buffers it needs
+pub record Found (p : List ℕ) (h : Shape) (s n count : ℕ) : Type 0 where
+  pub opened : Opened p h
+  pub bytes : n ≡ lengthOf (decode p) s
+  pub buffers : count ≡ buffersFor n
+
+module _ {p : List ℕ} {h : Shape} {s n count : ℕ} (w : Found p h s n count) where
+  abbrev T : Tables
+  T = decode p
+
+  -- the pieces laid are these
+  is-packed : laid (newBuffers T count) n ≡ packed T s
+  is-packed = ap (λ (k : ℕ). laid (newBuffers T k) n) (w .buffers) ∙ ap (λ (m : ℕ). laid (newBuffers T (buffersFor m)) m) (w .bytes)
+
+  -- all bytes of the chain go to the new buffers
+  pub new-bytes : (st : List ℕ) {head : ℕ} {after : List ℕ} → length st ≡ storageLength (h .buffers) → Is (linkOk T head) → head ≡ headOf T s
+      → after ≡ stored st (newBuffers T (buffersFor n)) (take n (contents st (stretchesFrom T head)))
+      → after ≡ stored st (newBuffers T (buffersFor (lengthOf T s))) (reads (record { tables = T; storage = st }) s)
+  new-bytes st f t e is =
+      let fit : Fit (bufferTotal T) st = f ∙ ap storageLength (sym (total-buffers (whole (w .opened .shaped)))) in
+      let ok = subst (λ (x : ℕ). Is (linkOk T x)) e t in
+      is ∙ (λ i. stored st (newBuffers T (buffersFor (w .bytes i))) (take (w .bytes i) (contents st (stretchesFrom T (e i)))))
+      ∙ ap (stored st (newBuffers T (buffersFor (lengthOf T s)))) (bytes-all T st (headOf T s) (w .opened .sound) fit ok)
+
+  module _ {q : List ℕ} {first : ℕ} (was : Holds q h (built T (freePieces T) (laid (newBuffers T count) n) 0)) (link : first ≡ builtLink (freePieces T) (laid (newBuffers T count) n) 0) where
+    -- so are the tables with them, and the link to the first
+    is-built : decode q ≡ built T (freePieces T) (packed T s) 0
+    is-built = was .is ∙ ap (λ (xs : List Stretch). built T (freePieces T) xs 0) is-packed
+
+    is-link : first ≡ builtLink (freePieces T) (packed T s) 0
+    is-link = link ∙ ap (λ (xs : List Stretch). builtLink (freePieces T) xs 0) is-packed
+
+    -- the link to the first leads to one of the pool's pieces, or nowhere
+    pub new-small : first ≤ mostPieces
+    new-small = omega (arith, new-link T (packed T s) 0 is-link (omega arith), total-pieces (whole (w .opened .shaped)), w .opened .few-pieces)
+
+    -- no slip or piece holds it yet
+    pub new-held : Releasable (decode q) (pred (first + 1))
+    new-held =
+        let e : pred (first + 1) ≡ builtLink (freePieces T) (packed T s) 0 = omega (arith, is-link) in
+        let it = plan-built (plain T (packed T s)) (freePieces T) (plain-planned T (packed T s) (new-good T (lengthOf T s)) (tables-now T (w .opened .sound))) (free-pieces T) in
+        rw (is-built, e) (record { others = []; sound = it })
+
+    -- once the slip holds it, the tables are the rule's
+    pub new-after : (st : List ℕ) {r : List ℕ} → Holds r h (turnedTo (decode q) s (first + 1)) → Holds r h (underOld (record { tables = T; storage = st }) (plain T (packed T s)) (freePieces T) s .tables)
+    unfolding underOld
+    new-after st is =
+        let X : State = record { tables = built T (freePieces T) (packed T s) 0; storage = st } in
+        let e : first + 1 ≡ holding (builtLink (freePieces T) (packed T s) 0) = omega (arith, is-link) in
+        record { shaped = is .shaped; is = is .is ∙ (λ i. turnedTo (is-built i) s (e i)) ∙ sym (turned-tables X s (holding (builtLink (freePieces T) (packed T s) 0))) }
+
+-- ---- the answers
+
+module _ (p st : List ℕ) (s : ℕ) where
+  -- a slip past the last, or vacant
+  pub pack-slip : Is (unnamed (decode p) s) → resultOf (Refused Slip) p st [] noView ≡ perform (Pack s) (lent p st)
+  unfolding rule
+  pack-slip u = perform-first (Pack s) (lent p st) Slip (first-yes (Slip ⇐ unnamed (decode p) s) [] u)
+
+  module _ (u : Is (unnamed (decode p) s) → ⊥) where
+    -- no refusal is judged before room
+    early : firstCode (rule (Pack s) (stateIn (lent p st)) .judged) ≡ 0
+    unfolding rule
+    early = first-no (Slip ⇐ unnamed (decode p) s) [] u ∙ first-none
+
+    -- a chain of at most one piece stays
+    pub pack-whole : {o : Outcome} {x : SlipState} {h : Shape} → length (chain (decode p) s) ≤ 1 → o ≡ Done (record { state = x; number = 0 }) → AllBytes p → Holds p h (decode p)
+        → resultOf o p st [] noView ≡ perform (Pack s) (lent p st)
+    unfolding rule packAfter packWants
+    pack-whole few a b is =
+        let S = stateIn (lent p st) in
+        let yes = subst Is (sym (le-leb (length (chain (decode p) s)) 1 few)) tt in
+        let same : S ≡ packAfter s S = sym (if-T _ S _ yes) in
+        changed _ (packWants (decode p) s) 0 (packAfter s S) a refl b
+        (record { shaped = is .shaped; is = is .is ∙ ap (λ (X : State). X .tables) same }) (ap (λ (X : State). X .storage) same)
+        ∙ perform-none (Pack s) (lent p st) (if-T _ _ _ yes) early
+
+    module _ (many : 1 < length (chain (decode p) s)) where
+      -- the pieces and the buffers that are wanted
+      abbrev k : ℕ
+      k = buffersFor (lengthOf (decode p) s)
+
+      not-whole : Is (leb (length (chain (decode p) s)) 1) → ⊥
+      not-whole t = subst Is (lt-leb (length (chain (decode p) s)) 1 many) t
+
+      wants-fresh : packWants (decode p) s ≡ want 0 k k
+      unfolding packWants
+      wants-fresh = if-F _ _ _ not-whole
+
+      wants-slips : packWants (decode p) s .slips ≡ 0
+      wants-slips = ap (λ (w : Wants). w .slips) wants-fresh
+
+      wants-pieces : packWants (decode p) s .pieces ≡ k
+      wants-pieces = ap (λ (w : Wants). w .pieces) wants-fresh
+
+      wants-buffers : packWants (decode p) s .buffers ≡ k
+      wants-buffers = ap (λ (w : Wants). w .buffers) wants-fresh
+
+      -- too few free pieces
+      pub pack-pieces : length (freePieces (decode p)) < k → resultOf (Refused Pieces) p st [] noView ≡ perform (Pack s) (lent p st)
+      unfolding rule
+      pack-pieces l = perform-pieces (Pack s) (lent p st) early (omega (arith, wants-slips)) (omega (arith, wants-pieces))
+
+      module _ (enough : k ≤ length (freePieces (decode p))) where
+        -- too few free buffers
+        pub pack-buffers : length (freeBuffers (decode p)) < k → resultOf (Refused Buffers) p st [] noView ≡ perform (Pack s) (lent p st)
+        unfolding rule
+        pack-buffers l = perform-buffers (Pack s) (lent p st) early (omega (arith, wants-slips)) (omega (arith, wants-pieces)) (omega (arith, wants-buffers))
+
+        -- the new pieces under the same slip, and the bytes in the new buffers
+        pub pack-done : {o : Outcome} {x : SlipState} {q after : List ℕ} {h : Shape} → k ≤ length (freeBuffers (decode p)) → o ≡ Done (record { state = x; number = 0 }) → AllBytes q
+            → Holds q h (underOld (record { tables = decode p; storage = after }) (plain (decode p) (packed (decode p) s)) (freePieces (decode p)) s .tables)
+            → after ≡ stored st (newBuffers (decode p) k) (reads (stateIn (lent p st)) s) → resultOf o q after [] noView ≡ perform (Pack s) (lent p st)
+        unfolding rule packAfter
+        pack-done {after = after} most a b is f =
+            let T = decode p in
+            let S = stateIn (lent p st) in
+            let X : List ℕ → State = λ z. underOld (record { tables = T; storage = z }) (plain T (packed T s)) (freePieces T) s in
+            let same : X after ≡ packAfter s S = ap X f ∙ sym (if-F _ S _ not-whole) in
+            changed _ (packWants T s) 0 (packAfter s S) a refl b
+            (record { shaped = is .shaped; is = is .is ∙ ap (λ (Y : State). Y .tables) same })
+            (sym (old-storage _ (plain T (packed T s)) (freePieces T) s) ∙ ap (λ (Y : State). Y .storage) same)
+            ∙ perform-all (Pack s) (lent p st) early (omega (arith, wants-slips)) (omega (arith, wants-pieces)) (omega (arith, wants-buffers))

@@ -1,0 +1,304 @@
+-- `pack::pack` meets its contract. Assumes nothing.
+use mathlib.Core.Path.{_≡_, sym, ap, subst, _∙_}
+use Prim.Native.Nat.{ℕ, _≤_, _<_}
+use native.Mathlib.Omega.{arith}
+use lib.ListN.{length}
+use borrow.Author.Needs.{needs}
+use borrow.Author.Tests.{not-true, not-false, leb-true, leb-false}
+use Rattle.rules.specs.Basics.{Is}
+use Rattle.rules.specs.Tables.{Tables, pieceTotal, bufferTotal}
+use Rattle.rules.specs.Bytes.{decode}
+use Rattle.rules.specs.Chain.{walk, chain, lengthOf, total}
+use Rattle.rules.specs.Sound.{linkOk}
+use Rattle.rules.specs.Room.{isUnheld, freePieces, freeBuffers}
+use Rattle.rules.specs.Build.{buffersFor}
+use Rattle.rules.specs.Rule.{unnamed}
+use Rattle.tables.proofs.Laws.{whole, total-slips, total-buffers}
+use Rattle.chain.specs.Length.{stretchesFrom}
+use Rattle.chain.specs.Free.{lowestFor}
+use Rattle.chain.proofs.Free.{count-most}
+use Rattle.answer.proofs.Perform.{is-unnamed, is-named, named-below}
+use Rattle.pack.proofs.Laws.{Found, new-small, new-held, new-after, new-bytes, pack-slip, pack-whole, pack-pieces, pack-buffers, pack-done}
+use Rattle.pack.proofs.pack.Statement.{statement}
+use Rattle.pack.proofs.pack.Tie as tie
+
+held-requires : tie.Need-held-requires
+held-requires c κs = search needs
+
+same-length : tie.Need-same-length
+same-length c = search needs
+
+returns : tie.Need-returns
+returns c =
+    let z = c .before .before .before .before .before in
+    let p = z .args .pool .now in
+    let s = z .args .s .0 in
+    (pack-slip p (z .args .storage .now) s (is-unnamed (decode p) s (c .before .held .ensures) (not-true _ (c .if1 .taken))), tt)
+
+-- where the call started, and the tables there
+abbrev start : tie.Else1 → tie.Start
+start e = e .before .before .before .before .before
+
+abbrev tables : tie.Else1 → Tables
+tables e = decode (start e .args .pool .now)
+
+-- the slip is named
+named-here : (e : tie.Else1) → Is (unnamed (tables e) (start e .args .s .0)) → ⊥
+named-here e = is-named (tables e) (start e .args .s .0) (e .before .held .ensures) (not-false _ (e .if1 .left))
+
+below : (e : tie.Else1) → start e .args .s .0 < start e .args .shape .slips
+below e = named-below (start e .pre .0 .shaped) (start e .args .s .0) (named-here e)
+
+head-link-requires : tie.Need-head-link-requires
+head-link-requires c κs = let e = c .before in (start e .pre .0 .shaped, below e)
+
+-- the link to the head is good
+head-good : (c : tie.After-head-link) → Is (linkOk (tables (c .before .before)) (c .head-link .result))
+head-good c =
+    let e = c .before .before in
+    let z = start e in
+    subst (λ (x : ℕ). Is (linkOk (tables e) x)) (sym (c .head-link .ensures)) (z .pre .0 .sound .slips-ok (z .args .s .0) (omega (arith, below e, total-slips (whole (z .pre .0 .shaped)))))
+
+scattered-requires : tie.Need-scattered-requires
+scattered-requires c κs =
+    let l = c .before in
+    let good = head-good l in
+    (start (l .before .before) .pre .0, search needs)
+
+-- the head's link, where the chain was tested, and the slip
+abbrev links : tie.After-scattered → tie.After-head-link
+links a = a .before .before
+
+abbrev from : tie.After-scattered → tie.Else1
+from a = links a .before .before
+
+-- the chain from the head is the slip's
+same-chain : (a : tie.After-scattered) → length (walk (pieceTotal (tables (from a))) (tables (from a)) (links a .head-link .result)) ≡ length (chain (tables (from a)) (start (from a) .args .s .0))
+same-chain a = ap (λ (x : ℕ). length (walk (pieceTotal (tables (from a))) (tables (from a)) x)) (links a .head-link .ensures)
+
+done-requires : tie.Need-done-requires
+done-requires c κs = let e = from (c .before .before) in (start e .pre .0 .shaped, below e)
+
+same-length-2 : tie.Need-same-length-2
+same-length-2 c = search needs
+
+returns-2 : tie.Need-returns-2
+returns-2 c =
+    let t = c .before .before in
+    let a = t .before in
+    let e = from a in
+    let z = start e in
+    let k = e .before .before .before .before in
+    let T = tables e in
+    let few = leb-true (length (walk (pieceTotal T) T (links a .head-link .result))) 1 (not-false _ (sym (a .scattered .ensures) ∙ not-true _ (t .if2 .taken))) in (
+      pack-whole (z .args .pool .now) (z .args .storage .now) (z .args .s .0) (named-here e) (omega (arith, few, same-chain a)) (c .done .ensures) (λ i. omega (arith, k .slice-known .given i)) (whole (z .pre .0 .shaped)),
+      rw (c .done .ensures),
+    )
+
+-- the chain has more than one piece
+many : (c : tie.Else2) → let e = from (c .before) in 1 < length (chain (tables e) (start e .args .s .0))
+many c =
+    let a = c .before in
+    let T = tables (from a) in
+    omega (arith, leb-false (length (walk (pieceTotal T) T (links a .head-link .result))) 1 (not-true _ (sym (a .scattered .ensures) ∙ not-false _ (c .if2 .left))), same-chain a)
+
+chain-length-requires : tie.Need-chain-length-requires
+chain-length-requires c κs = let e = from (c .before .before) in (start e .pre .0, below e)
+
+cast-buffers-for : tie.Need-cast-buffers-for
+cast-buffers-for c = search needs
+
+buffers-for-requires : tie.Need-buffers-for-requires
+buffers-for-requires c κs = search needs
+
+-- the chain's length, and how many buffers it needs
+module _ (b : tie.After-buffers-for) where
+  abbrev lengths : tie.After-chain-length
+  lengths = b .before
+
+  abbrev more : tie.Else2
+  more = lengths .before .before
+
+  abbrev here : tie.Else1
+  here = from (more .before)
+
+  counted : b .buffers-for .result ≡ buffersFor (lengthOf (tables here) (start here .args .s .0))
+  counted = b .buffers-for .ensures ∙ ap buffersFor (lengths .chain-length .ensures)
+
+lowest-piece-requires : tie.Need-lowest-piece-requires
+lowest-piece-requires c κs = search needs
+
+-- where the lowest free piece was looked up, how many are wanted
+abbrev wanted : tie.After-lowest-piece → tie.After-buffers-for
+wanted p = p .before .before
+
+has-pieces-requires : tie.Need-has-pieces-requires
+has-pieces-requires c κs = (start (here (wanted (c .before))) .pre .0 .shaped, c .before .lowest-piece .ensures)
+
+same-length-3 : tie.Need-same-length-3
+same-length-3 c = search needs
+
+returns-3 : tie.Need-returns-3
+returns-3 c =
+    let b = wanted (c .before .before .before) in
+    let e = here b in
+    let a = start e .args in
+    let few = leb-false (b .buffers-for .result) (length (freePieces (tables e))) (sym (c .before .has-pieces .ensures) ∙ not-true _ (c .if3 .taken)) in
+    (pack-pieces (a .pool .now) (a .storage .now) (a .s .0) (named-here e) (many (more b)) (omega (arith, few, counted b)), tt)
+
+-- the same where they were found
+abbrev pieced : tie.Else3 → tie.After-buffers-for
+pieced c = wanted (c .before .before .before)
+
+-- there are as many free pieces
+pieces-room : (c : tie.Else3) → let b = pieced c in b .buffers-for .result ≤ length (freePieces (tables (here b)))
+pieces-room c =
+    let b = pieced c in
+    leb-true (b .buffers-for .result) (length (freePieces (tables (here b)))) (sym (c .before .has-pieces .ensures) ∙ not-false _ (c .if3 .left))
+
+lowest-buffer-requires : tie.Need-lowest-buffer-requires
+lowest-buffer-requires c κs = search needs
+
+has-buffers-requires : tie.Need-has-buffers-requires
+has-buffers-requires c κs = (start (here (pieced (c .before .before .before))) .pre .0 .shaped, c .before .lowest-buffer .ensures)
+
+same-length-4 : tie.Need-same-length-4
+same-length-4 c = search needs
+
+returns-4 : tie.Need-returns-4
+returns-4 c =
+    let e3 = c .before .before .before .before .before in
+    let b = pieced e3 in
+    let e = here b in
+    let a = start e .args in
+    let few = leb-false (b .buffers-for .result) (length (freeBuffers (tables e))) (sym (c .before .has-buffers .ensures) ∙ not-true _ (c .if4 .taken)) in
+    (pack-buffers (a .pool .now) (a .storage .now) (a .s .0) (named-here e) (many (more b)) (omega (arith, pieces-room e3, counted b)) (omega (arith, few, counted b)), tt)
+
+-- and as many free buffers
+module _ (c : tie.Else4) where
+  abbrev lowest : tie.After-lowest-buffer
+  lowest = c .before .before .before
+
+  abbrev enough : tie.Else3
+  enough = lowest .before .before
+
+  abbrev sized : tie.After-buffers-for
+  sized = pieced enough
+
+  abbrev at : tie.Else1
+  at = here sized
+
+  buffers-room : sized .buffers-for .result ≤ length (freeBuffers (tables at))
+  buffers-room =
+      leb-true (sized .buffers-for .result) (length (freeBuffers (tables at))) (sym (c .before .has-buffers .ensures) ∙ not-false _ (c .if4 .left))
+
+  -- so there are few
+  small : sized .buffers-for .result ≤ 128
+  small =
+      let z = start at in
+      let T = tables at in
+      omega (arith, buffers-room, count-most (isUnheld T) (bufferTotal T), total-buffers (whole (z .pre .0 .shaped)), z .pre .0 .few-buffers)
+
+  -- what the code knows then
+  found : let a = start at .args in Found (a .pool .now) (a .shape) (a .s .0) (lengths sized .chain-length .result) (sized .buffers-for .result)
+  found = record { opened = start at .pre .0; bytes = lengths sized .chain-length .ensures; buffers = sized .buffers-for .ensures }
+
+refill-requires : tie.Need-refill-requires
+refill-requires c κs =
+    let e4 = c .before .before in
+    let b = sized e4 in
+    let l = links (more b .before) in
+    let z = start (at e4) in
+    let T = tables (at e4) in
+    let n : lengths b .chain-length .result ≡ total (stretchesFrom T (l .head-link .result)) = lengths b .chain-length .ensures ∙ ap (λ (x : ℕ). total (stretchesFrom T x)) (sym (l .head-link .ensures)) in
+    let i = lowest e4 .lowest-buffer .ensures ∙ ap (λ (k : ℕ). lowestFor (isUnheld T) k (bufferTotal T)) (b .buffers-for .ensures) in
+    ((z .pre .0, head-good l), ((z .pre .1, omega (arith, n)), (omega (arith, buffers-room e4, b .buffers-for .ensures), i)))
+
+-- where the pieces were laid
+abbrev room : tie.After-lay → tie.Else4
+room y = y .before .before .before .before .before .before .before
+
+cast-lay : tie.Need-cast-lay
+cast-lay c = let e4 = c .before .before .before .before .before .before in omega (arith, small e4)
+
+lay-requires : tie.Need-lay-requires
+lay-requires c κs =
+    let e4 = c .before .before .before .before .before .before in
+    let e3 = enough e4 in
+    let p = e3 .before .before .before in
+    (start (at e4) .pre .0, ((pieces-room e3, buffers-room e4), (p .lowest-piece .ensures, lowest e4 .lowest-buffer .ensures)))
+
+add-turn : tie.Need-add-turn
+add-turn c =
+    let y = c .before .before .before in
+    omega (arith, new-small (found (room y)) (y .lay .ensures .0) (y .lay .ensures .1))
+
+turn-requires : tie.Need-turn-requires
+turn-requires c κs =
+    let y = c .before .before .before in
+    let e4 = room y in
+    (y .lay .ensures .0 .shaped, below (at e4), new-held (found e4) (y .lay .ensures .0) (y .lay .ensures .1))
+
+done-requires-2 : tie.Need-done-requires-2
+done-requires-2 c κs =
+    let t = c .before .before .before in
+    (t .turn .ensures .shaped, below (at (room (t .before .before .before .before))))
+
+same-length-5 : tie.Need-same-length-5
+same-length-5 c = search needs
+
+same-length-6 : tie.Need-same-length-6
+same-length-6 c = search needs
+
+returns-5 : tie.Need-returns-5
+returns-5 c =
+    let k = c .before .before in
+    let t = k .before .before in
+    let y = t .before .before .before .before in
+    let w = y .before .before .before .before in
+    let e4 = room y in
+    let e3 = enough e4 in
+    let b = sized e4 in
+    let l = links (more b .before) in
+    let e = at e4 in
+    let z = start e in
+    let a = z .args in
+    let f = found e4 in (
+      pack-done (a .pool .now) (a .storage .now) (a .s .0) (named-here e) (many (more b)) (omega (arith, pieces-room e3, counted b)) (omega (arith, buffers-room e4, counted b)) (c .done2 .ensures)
+          (λ i. omega (arith, k .slice-known5 .given i)) (new-after f (y .lay .ensures .0) (y .lay .ensures .1) _ (t .turn .ensures))
+          (new-bytes f (a .storage .now) (z .pre .1) (head-good l) (l .head-link .ensures) (w .refill .ensures)),
+      rw (c .done2 .ensures),
+    )
+
+pub pack-spec : {M : Type 1} → statement M
+pack-spec =
+    tie.close
+    (tie.spec
+    held-requires
+    same-length
+    returns
+    head-link-requires
+    scattered-requires
+    done-requires
+    same-length-2
+    returns-2
+    chain-length-requires
+    cast-buffers-for
+    buffers-for-requires
+    lowest-piece-requires
+    has-pieces-requires
+    same-length-3
+    returns-3
+    lowest-buffer-requires
+    has-buffers-requires
+    same-length-4
+    returns-4
+    refill-requires
+    cast-lay
+    lay-requires
+    add-turn
+    turn-requires
+    done-requires-2
+    same-length-5
+    same-length-6
+    returns-5)

@@ -1,0 +1,62 @@
+// pack: the bytes of a chain put afresh under the same slip.
+use kinds::Outcome;
+use kinds::PieceNumber;
+use kinds::Refusal;
+use kinds::SlipNumber;
+use tables::Shape;
+ghost use mathlib.Core.Path.{_≡_};
+ghost use mathlib.Core.Bool.{not};
+ghost use mathlib.Core.List.{[]};
+ghost use lib.ListN.{length};
+ghost use lib.Dec.{leb};
+ghost use Rattle.kinds.specs.SlipState.{stateOf};
+ghost use Rattle.rules.specs.Basics.{Is};
+ghost use Rattle.rules.specs.Layout.{storageLength};
+ghost use Rattle.rules.specs.Tables.{slip, pieceTotal};
+ghost use Rattle.rules.specs.Bytes.{decode};
+ghost use Rattle.rules.specs.Chain.{walk};
+ghost use Rattle.rules.specs.Sound.{linkOk};
+ghost use Rattle.rules.specs.Rule.{noView};
+ghost use Rattle.rules.specs.Step.{Pack, perform};
+ghost use Rattle.chain.specs.Opened.{Opened};
+ghost use Rattle.answer.specs.Result.{lent, resultOf, Leaves};
+
+// Whether the chain that starts at `link` has more than one piece: a fragmented chain.
+fn scattered(pool: &[u8], shape: Shape, link: u16) -> bool
+    requires { ⌜ Opened (now pool) shape × Is (linkOk (decode (now pool)) link) ⌝ }
+    ensures { λ r. ⌜ r ≡ not (leb (length (walk (pieceTotal (decode (now (pool .entry)))) (decode (now (pool .entry))) link)) 1) ⌝ }
+{
+    if link == 0 {
+        return false;
+    }
+    tables::piece_next(pool, shape, PieceNumber(link - 1)) != 0
+}
+
+// Puts the bytes of the chain of slip `s` into fresh pieces on fresh buffers, each full but the last, under the same slip; a chain of at most one piece stays: a chain compacted.
+pub fn pack(pool: &mut [u8], shape: Shape, storage: &mut [u8], s: SlipNumber) -> Outcome
+    requires { ⌜ Opened (now pool) shape × (length (now storage) ≡ storageLength (shape .buffers)) ⌝ }
+    ensures { λ r. ⌜ resultOf r (now (pool .exit)) (now (storage .exit)) [] noView ≡ perform (Pack (s .0)) (lent (now (pool .entry)) (now (storage .entry))) ⌝ }
+    ensures { λ r. ⌜ Leaves r (stateOf (slip (decode (now (pool .exit))) (s .0))) ⌝ }
+{
+    if !chain::held(pool, shape, s) {
+        return Outcome::Refused(Refusal::Slip);
+    }
+    let head = chain::head_link(pool, shape, s);
+    if !scattered(pool, shape, head) {
+        return answer::done(pool, shape, s, 0);
+    }
+    let n = chain::chain_length(pool, shape, s);
+    let count = transfer::buffers_for(n as usize);
+    let piece = chain::lowest_piece(pool, shape, count);
+    if !chain::has_pieces(pool, shape, piece, count) {
+        return Outcome::Refused(Refusal::Pieces);
+    }
+    let buffer = chain::lowest_buffer(pool, shape, count);
+    if !chain::has_buffers(pool, shape, buffer, count) {
+        return Outcome::Refused(Refusal::Buffers);
+    }
+    transfer::refill(pool, shape, storage, head, n, buffer);
+    let first = build::lay(pool, shape, n, count as u16, piece, buffer);
+    release::turn(pool, shape, s, first + 1);
+    answer::done(pool, shape, s, 0)
+}

@@ -1,0 +1,3 @@
+-- The laws of pullup.
+pub mod Plan
+pub mod Laws

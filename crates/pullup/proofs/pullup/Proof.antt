@@ -1,0 +1,352 @@
+-- `pullup::pullup` meets its contract. Assumes nothing.
+use mathlib.Core.Path.{_≡_, sym, ap, subst, _∙_}
+use Prim.Native.Nat.{ℕ, _+_, _≤_, _<_}
+use native.Mathlib.Omega.{arith}
+use lib.ListN.{length}
+use lib.Dec.{ltb, leb}
+use borrow.Author.Needs.{needs}
+use borrow.Author.Tests.{not-true, not-false, leb-true, leb-false}
+use Rattle.kinds.specs.Limits.{bufferSize}
+use Rattle.rules.specs.Basics.{Is}
+use Rattle.rules.specs.Tables.{Tables, headOf, slipTotal, pieceTotal, bufferTotal}
+use Rattle.rules.specs.Bytes.{decode}
+use Rattle.rules.specs.Chain.{spans, firstLength, lengthOf}
+use Rattle.rules.specs.Sound.{linkOk}
+use Rattle.rules.specs.Room.{isFree, isUnheld, freePieces, freeBuffers}
+use Rattle.rules.specs.Build.{Plan}
+use Rattle.rules.specs.Rule.{unnamed}
+use Rattle.rules.specs.Drop.{dropped}
+use Rattle.rules.proofs.Logic.{not-less}
+use Rattle.tables.proofs.Laws.{whole, total-slips, total-buffers}
+use Rattle.chain.specs.Length.{stretchesFrom}
+use Rattle.chain.specs.Find.{pastEnd}
+use Rattle.chain.proofs.Free.{first-lies, no-buffer, buffer-first, lowest-some}
+use Rattle.chain.proofs.Spots.{dropped-at, past-range}
+use Rattle.answer.proofs.Perform.{is-unnamed, is-named, named-below}
+use Rattle.pullup.specs.Pull.{Pullable}
+use Rattle.pullup.proofs.Laws.{pullup-slip, pullup-long, pullup-range, pullup-nothing, pullup-pieces, pullup-buffers, pullup-done}
+use Rattle.pullup.proofs.pullup.Statement.{statement}
+use Rattle.pullup.proofs.pullup.Tie as tie
+
+held-requires : tie.Need-held-requires
+held-requires c κs = search needs
+
+same-length : tie.Need-same-length
+same-length c = search needs
+
+returns : tie.Need-returns
+returns c =
+    let a = c .before .before .before .before .before .args in
+    let p = a .pool .now in
+    (pullup-slip p (a .storage .now) (a .s .0) (a .n) (is-unnamed (decode p) (a .s .0) (c .before .held .ensures) (not-true _ (c .if1 .taken))), tt)
+
+-- ---- the slip is named
+
+module _ (e : tie.Else1) where
+  -- where the call started, the tables there, and the slip
+  abbrev start : tie.Start
+  start = e .before .before .before .before .before
+
+  abbrev tables : Tables
+  tables = decode (start .args .pool .now)
+
+  abbrev slip : ℕ
+  slip = start .args .s .0
+
+  -- it is not vacant, and one of the pool's
+  named-here : Is (unnamed tables slip) → ⊥
+  named-here = is-named tables slip (e .before .held .ensures) (not-false _ (e .if1 .left))
+
+  below : slip < start .args .shape .slips
+  below = named-below (start .pre .0 .shaped) slip named-here
+
+  inside : slip < slipTotal tables
+  inside = omega (arith, below, total-slips (whole (start .pre .0 .shaped)))
+
+  -- the head is a good link
+  good-link : {l : ℕ} → l ≡ headOf tables slip → Is (linkOk tables l)
+  good-link q = subst (λ (n : ℕ). Is (linkOk tables n)) (sym q) (start .pre .0 .sound .slips-ok slip inside)
+
+fits-requires : tie.Need-fits-requires
+fits-requires c κs = search needs
+
+same-length-2 : tie.Need-same-length-2
+same-length-2 c = search needs
+
+returns-2 : tie.Need-returns-2
+returns-2 c =
+    let y = c .before in
+    let e = y .before in
+    let a = start e .args in
+    let long = leb-false (a .n) bufferSize (sym (y .fits2 .ensures) ∙ not-true _ (c .if2 .taken)) in
+    (pullup-long (a .pool .now) (a .storage .now) (slip e) (a .n) (named-here e) (omega (arith, long)), tt)
+
+-- ---- the bytes fit a buffer
+
+fits-here : (c : tie.Else2) → start (c .before .before) .args .n ≤ bufferSize
+fits-here c = leb-true (start (c .before .before) .args .n) bufferSize (sym (c .before .fits2 .ensures) ∙ not-false _ (c .if2 .left))
+
+head-link-requires : tie.Need-head-link-requires
+head-link-requires c κs = let e = c .before .before .before in (start e .pre .0 .shaped, below e)
+
+find-requires : tie.Need-find-requires
+find-requires c κs =
+    let l = c .before in
+    let e = l .before .before .before .before in
+    (start e .pre .0, good-link e (l .head-link .ensures))
+
+past-end-requires : tie.Need-past-end-requires
+past-end-requires c κs = search needs
+
+-- ---- the place behind the bytes
+
+module _ (f : tie.After-find) where
+  abbrev fitting : tie.Else2
+  fitting = f .before .before .before .before
+
+  abbrev from : tie.Else1
+  from = fitting .before .before
+
+  -- the chain starts at the link read
+  head-is : f .before .before .head-link .result ≡ headOf (tables from) (slip from)
+  head-is = f .before .before .head-link .ensures
+
+  -- it lies past the end where the chain is shorter
+  past : pastEnd (f .find .result) ≡ ltb (lengthOf (tables from) (slip from)) (start from .args .n)
+  past = past-range (tables from) (slip from) (start from .args .n) head-is (f .find .ensures) (start from .pre .0 .sound) (inside from)
+
+same-length-3 : tie.Need-same-length-3
+same-length-3 c = search needs
+
+returns-3 : tie.Need-returns-3
+returns-3 c =
+    let y = c .before in
+    let f = y .before in
+    let e = from f in
+    let a = start e .args in
+    (pullup-range (a .pool .now) (a .storage .now) (slip e) (a .n) (named-here e) (fits-here (fitting f)) (subst Is (sym (c .if3 .taken) ∙ y .past-end .ensures ∙ past f) tt), tt)
+
+-- the chain has the bytes
+in-range : (c : tie.Else3) → let e = from (c .before .before) in Is (ltb (lengthOf (tables e) (slip e)) (start e .args .n)) → ⊥
+in-range c t = subst Is (sym (past (c .before .before)) ∙ sym (c .before .past-end .ensures) ∙ c .if3 .left) t
+
+in-first-requires : tie.Need-in-first-requires
+in-first-requires c κs = let f = c .before .before .before in (start (from f) .pre .0, good-link (from f) (head-is f))
+
+-- ---- whether the first piece has them
+
+module _ (k : tie.After-in-first) where
+  abbrev ranged : tie.Else3
+  ranged = k .before .before
+
+  abbrev there : tie.After-find
+  there = ranged .before .before
+
+  abbrev origin : tie.Else1
+  origin = from there
+
+  -- the test of the code is that of the rule
+  first-has : k .in-first .result ≡ leb (start origin .args .n) (firstLength (spans (tables origin) (slip origin)))
+  first-has = k .in-first .ensures ∙ ap (λ (l : ℕ). leb (start origin .args .n) (firstLength (stretchesFrom (tables origin) l))) (head-is there)
+
+done-requires : tie.Need-done-requires
+done-requires c κs = let e = origin (c .before .before) in (start e .pre .0 .shaped, below e)
+
+same-length-4 : tie.Need-same-length-4
+same-length-4 c = search needs
+
+returns-4 : tie.Need-returns-4
+returns-4 c =
+    let t = c .before .before in
+    let k = t .before in
+    let e = origin k in
+    let z = start e in
+    let a = z .args in (
+      pullup-nothing (a .pool .now) (a .storage .now) (slip e) (a .n) (named-here e) (fits-here (fitting (there k))) (in-range (ranged k)) (subst Is (sym (t .if4 .taken) ∙ first-has k) tt)
+          (c .done .ensures) (λ i. omega (arith, e .before .before .before .before .slice-known .given i)) (z .pre .0 .shaped),
+      rw (c .done .ensures),
+    )
+
+-- it has fewer
+scattered : (c : tie.Else4) → let e = origin (c .before) in firstLength (spans (tables e) (slip e)) < start e .args .n
+scattered c =
+    let e = origin (c .before) in
+    let few = leb-false (start e .args .n) (firstLength (spans (tables e) (slip e))) (sym (first-has (c .before)) ∙ c .if4 .left) in
+    omega (arith, few)
+
+-- ---- room
+
+wanted-requires : tie.Need-wanted-requires
+wanted-requires c κs = search needs
+
+cast-wanted : tie.Need-cast-wanted
+cast-wanted c = search needs
+
+add-wanted : tie.Need-add-wanted
+add-wanted c = search needs
+
+lowest-piece-requires : tie.Need-lowest-piece-requires
+lowest-piece-requires c κs = search needs
+
+has-pieces-requires : tie.Need-has-pieces-requires
+has-pieces-requires c κs = search needs
+
+module _ (w : tie.After-wanted) where
+  abbrev looked : tie.After-in-first
+  looked = w .before .before
+
+  abbrev first : tie.Else1
+  first = origin looked
+
+  -- the new pieces that drop takes
+  wants : w .wanted .result ≡ length (dropped (tables first) (slip first) (start first .args .n) .more)
+  wants =
+      let f = there looked in
+      w .wanted .ensures (tables first) ∙ ap (λ (p : Plan). length (p .more)) (sym (dropped-at (tables first) (slip first) (start first .args .n) (head-is f) (f .find .ensures)))
+
+same-length-5 : tie.Need-same-length-5
+same-length-5 c = search needs
+
+returns-5 : tie.Need-returns-5
+returns-5 c =
+    let h = c .before in
+    let w = h .before .before .before .before in
+    let k = looked w in
+    let e = first w in
+    let a = start e .args in
+    let few = leb-false _ (length (freePieces (tables e))) (sym (h .has-pieces .ensures) ∙ not-true _ (c .if5 .taken)) in
+    (pullup-pieces (a .pool .now) (a .storage .now) (slip e) (a .n) (named-here e) (fits-here (fitting (there k))) (in-range (ranged k)) (scattered (w .before)) (omega (arith, few, wants w)), tt)
+
+module _ (c : tie.Else5) where
+  abbrev asked : tie.After-wanted
+  asked = c .before .before .before .before .before
+
+  abbrev source : tie.Else1
+  source = first asked
+
+  -- there is a piece more than drop takes
+  enough : length (dropped (tables source) (slip source) (start source .args .n) .more) < length (freePieces (tables source))
+  enough =
+      let most = leb-true _ (length (freePieces (tables source))) (sym (c .before .has-pieces .ensures) ∙ not-false _ (c .if5 .left)) in
+      omega (arith, most, wants asked)
+
+next-free-buffer-requires : tie.Need-next-free-buffer-requires
+next-free-buffer-requires c κs = start (source (c .before)) .pre .0 .shaped
+
+same-length-6 : tie.Need-same-length-6
+same-length-6 c = search needs
+
+returns-6 : tie.Need-returns-6
+returns-6 c =
+    let u = c .before .before in
+    let r = u .before .before in
+    let w = asked r in
+    let k = looked w in
+    let e = source r in
+    let a = start e .args in
+    let all : u .next-free-buffer .result ≡ bufferTotal (tables e) = omega (arith, c .if6 .taken, total-buffers (whole (start e .pre .0 .shaped))) in
+    let none = ap length (no-buffer (tables e) (u .next-free-buffer .ensures) all) in
+    (pullup-buffers (a .pool .now) (a .storage .now) (slip e) (a .n) (named-here e) (fits-here (fitting (there k))) (in-range (ranged k)) (scattered (w .before)) (enough r) none, tt)
+
+-- ---- there is room
+
+module _ (c : tie.Else6) where
+  abbrev lowest : tie.After-next-free-buffer
+  lowest = c .before .before
+
+  abbrev roomy : tie.Else5
+  roomy = lowest .before .before
+
+  abbrev base : tie.Else1
+  base = source roomy
+
+  -- the lowest free buffer is one of the pool's
+  buffer-below : lowest .next-free-buffer .result < bufferTotal (tables base)
+  buffer-below =
+      let T = tables base in
+      omega (arith, c .if6 .left, total-buffers (whole (start base .pre .0 .shaped)), lowest .next-free-buffer .ensures, first-lies (isUnheld T) 0 (bufferTotal T) .0)
+
+  buffer-there : 1 ≤ length (freeBuffers (tables base))
+  buffer-there = omega (arith, ap length (buffer-first (tables base) (lowest .next-free-buffer .ensures) buffer-below))
+
+  -- so the bytes can go there
+  pullable : let f = there (looked (asked roomy)) in
+      Pullable (tables base) (slip base) (start base .args .n) (f .before .before .head-link .result) (f .find .result) (roomy .before .before .before .lowest-piece .result) (lowest .next-free-buffer .result)
+  pullable =
+      let w = asked roomy in
+      let f = there (looked w) in
+      record {
+        named = inside base;
+        starts = head-is f;
+        place = f .find .ensures;
+        fits = fits-here (fitting f);
+        enough = not-less _ _ (in-range (ranged (looked w)));
+        scattered = scattered (w .before);
+        lowest-piece = roomy .before .before .before .lowest-piece .ensures ∙ lowest-some (isFree (tables base)) (w .wanted .result + 1) (pieceTotal (tables base)) (λ z. omega arith);
+        lowest = lowest .next-free-buffer .ensures;
+        inside = buffer-below;
+        room = enough roomy;
+      }
+
+pull-requires : tie.Need-pull-requires
+pull-requires c κs = let r = c .before .before in (start (base r) .pre, pullable r)
+
+done-requires-2 : tie.Need-done-requires-2
+done-requires-2 c κs =
+    let m = c .before .before .before .before .before in
+    (m .pull .ensures .tables-are .shaped, below (base (m .before .before .before)))
+
+same-length-7 : tie.Need-same-length-7
+same-length-7 c = search needs
+
+same-length-8 : tie.Need-same-length-8
+same-length-8 c = search needs
+
+returns-7 : tie.Need-returns-7
+returns-7 c =
+    let o = c .before .before .before .before in
+    let m = o .before .before in
+    let r = m .before .before .before in
+    let w = asked (roomy r) in
+    let k = looked w in
+    let e = base r in
+    let a = start e .args in (
+      pullup-done (a .pool .now) (a .storage .now) (slip e) (a .n) (named-here e) (fits-here (fitting (there k))) (in-range (ranged k)) (scattered (w .before)) (enough (roomy r)) (buffer-there r)
+          (c .done2 .ensures) (λ i. omega (arith, o .slice-known3 .given i)) (m .pull .ensures),
+      rw (c .done2 .ensures),
+    )
+
+pub pullup-spec : {M : Type 1} → statement M
+pullup-spec =
+    tie.close
+    (tie.spec
+    held-requires
+    same-length
+    returns
+    fits-requires
+    same-length-2
+    returns-2
+    head-link-requires
+    find-requires
+    past-end-requires
+    same-length-3
+    returns-3
+    in-first-requires
+    done-requires
+    same-length-4
+    returns-4
+    wanted-requires
+    cast-wanted
+    add-wanted
+    lowest-piece-requires
+    has-pieces-requires
+    same-length-5
+    returns-5
+    next-free-buffer-requires
+    same-length-6
+    returns-6
+    pull-requires
+    done-requires-2
+    same-length-7
+    same-length-8
+    returns-7)

@@ -1,0 +1,2 @@
+-- What the contracts of pullup cite.
+pub mod Pull

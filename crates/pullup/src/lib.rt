@@ -1,0 +1,108 @@
+// pullup: the first bytes of a chain in one piece.
+use chain::Spot;
+use kinds::BufferNumber;
+use kinds::Outcome;
+use kinds::PieceNumber;
+use kinds::Refusal;
+use kinds::SlipNumber;
+use tables::Shape;
+ghost use mathlib.Core.Path.{_≡_};
+ghost use mathlib.Core.List.{[]};
+ghost use Prim.Native.Nat.{_-_, _<_};
+ghost use lib.ListN.{length};
+ghost use lib.Dec.{leb};
+ghost use Rattle.kinds.specs.SlipState.{stateOf};
+ghost use Rattle.rules.specs.Basics.{Is};
+ghost use Rattle.rules.specs.Layout.{storageLength};
+ghost use Rattle.rules.specs.Tables.{slip, piece, pieceTotal};
+ghost use Rattle.rules.specs.Bytes.{decode};
+ghost use Rattle.rules.specs.Chain.{firstLength};
+ghost use Rattle.rules.specs.Sound.{linkOk};
+ghost use Rattle.rules.specs.Room.{isFree, freePieces};
+ghost use Rattle.rules.specs.Build.{made, madeLink};
+ghost use Rattle.rules.specs.Rule.{noView};
+ghost use Rattle.rules.specs.Step.{Pullup, perform};
+ghost use Rattle.tables.specs.Shape.{Holds};
+ghost use Rattle.chain.specs.Opened.{Opened};
+ghost use Rattle.chain.specs.Free.{firstFrom};
+ghost use Rattle.chain.specs.Length.{stretchesFrom};
+ghost use Rattle.chain.specs.Rest.{restFrom};
+ghost use Rattle.answer.specs.Result.{lent, resultOf, Leaves};
+ghost use Rattle.pullup.specs.Pull.{pulledFrom, Pullable, Pulled};
+
+// Whether the first piece of the chain from `link` has `n` bytes, as any chain has none: a contiguity test.
+fn in_first(pool: &[u8], shape: Shape, link: u16, n: u32) -> bool
+    requires { ⌜ Opened (now pool) shape × Is (linkOk (decode (now pool)) link) ⌝ }
+    ensures { λ r. ⌜ r ≡ leb n (firstLength (stretchesFrom (decode (now (pool .entry))) link)) ⌝ }
+{
+    if link == 0 {
+        return n == 0;
+    }
+    n <= tables::piece_length(pool, shape, PieceNumber(link - 1)) as u32
+}
+
+// Makes a first piece for the `n` bytes of buffer `b`, before what stays from the place `at`; answers the link to it: a new head descriptor.
+fn make_first(pool: &mut [u8], shape: Shape, at: Spot, f: u16, b: BufferNumber, n: u16) -> u16
+    requires { ⌜ Opened (now pool) shape × Is (linkOk (decode (now pool)) (at .link)) × (b .0 < shape .buffers) ⌝ }
+    requires { ⌜ ((at .link ≡ 0 → ⊥) → at .into < piece (decode (now pool)) (at .link - 1) .len) ⌝ }
+    requires { ⌜ (length (restFrom (decode (now pool)) (at .own) (at .link) (at .into) .more) < length (freePieces (decode (now pool)))) × (f ≡ firstFrom (isFree (decode (now pool))) 0 (pieceTotal (decode (now pool)))) ⌝ }
+    ensures { λ r. ⌜ Holds (now (pool .exit)) shape (made (pulledFrom (decode (now (pool .entry))) at (b .0) n) (freePieces (decode (now (pool .entry))))) × (r ≡ madeLink (pulledFrom (decode (now (pool .entry))) at (b .0) n) (freePieces (decode (now (pool .entry))))) ⌝ }
+{
+    let rest = build::settle(pool, shape, at.link, at.into, at.own, f + 1);
+    build::take_piece(pool, shape, PieceNumber(f), b, 0, n, rest);
+    f + 1
+}
+
+// Copies the first `n` bytes of the chain of slip `s`, which starts at `head`, to buffer `b`, and puts a piece for them in their place: a gather into a new head segment.
+fn pull(
+    pool: &mut [u8],
+    shape: Shape,
+    storage: &mut [u8],
+    s: SlipNumber,
+    n: u32,
+    head: u16,
+    at: Spot,
+    f: u16,
+    b: BufferNumber,
+)
+    requires { ⌜ Opened (now pool) shape × (length (now storage) ≡ storageLength (shape .buffers)) ⌝ }
+    requires { ⌜ Pullable (decode (now pool)) (s .0) n head at f (b .0) ⌝ }
+    ensures { λ _. ⌜ Pulled (now (pool .entry)) (now (storage .entry)) shape (s .0) n (now (pool .exit)) (now (storage .exit)) ⌝ }
+{
+    transfer::refill(pool, shape, storage, head, n, b.0);
+    let first = make_first(pool, shape, at, f, b, n as u16);
+    release::turn(pool, shape, s, first + 1);
+}
+
+// Brings the first `n` bytes of the chain of slip `s` into one piece; they are copied only where the first piece has fewer: m_pullup of a handle's chain.
+pub fn pullup(pool: &mut [u8], shape: Shape, storage: &mut [u8], s: SlipNumber, n: u32) -> Outcome
+    requires { ⌜ Opened (now pool) shape × (length (now storage) ≡ storageLength (shape .buffers)) ⌝ }
+    ensures { λ r. ⌜ resultOf r (now (pool .exit)) (now (storage .exit)) [] noView ≡ perform (Pullup (s .0) n) (lent (now (pool .entry)) (now (storage .entry))) ⌝ }
+    ensures { λ r. ⌜ Leaves r (stateOf (slip (decode (now (pool .exit))) (s .0))) ⌝ }
+{
+    if !chain::held(pool, shape, s) {
+        return Outcome::Refused(Refusal::Slip);
+    }
+    if !BufferNumber::fits(n) {
+        return Outcome::Refused(Refusal::Long);
+    }
+    let head = chain::head_link(pool, shape, s);
+    let at = chain::find(pool, shape, head, n);
+    if chain::past_end(at) {
+        return Outcome::Refused(Refusal::Range);
+    }
+    if in_first(pool, shape, head, n) {
+        return answer::done(pool, shape, s, 0);
+    }
+    let wanted = build::wanted(at.link, at.into, at.own) as usize + 1;
+    let f = chain::lowest_piece(pool, shape, wanted);
+    if !chain::has_pieces(pool, shape, f, wanted) {
+        return Outcome::Refused(Refusal::Pieces);
+    }
+    let b = chain::next_free_buffer(pool, shape, 0);
+    if b == shape.buffers {
+        return Outcome::Refused(Refusal::Buffers);
+    }
+    pull(pool, shape, storage, s, n, head, at, f, BufferNumber(b));
+    answer::done(pool, shape, s, 0)
+}

@@ -1,0 +1,2 @@
+-- The laws of put.
+pub mod Laws

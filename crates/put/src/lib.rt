@@ -1,0 +1,41 @@
+// put: bytes into fresh buffers, under a new slip.
+use kinds::Outcome;
+use kinds::Refusal;
+use kinds::SlipNumber;
+use tables::Shape;
+ghost use mathlib.Core.Path.{_≡_};
+ghost use mathlib.Core.List.{[]};
+ghost use lib.ListN.{length};
+ghost use Rattle.kinds.specs.SlipState.{stateOf};
+ghost use Rattle.kinds.specs.Outcome.{numberOf};
+ghost use Rattle.rules.specs.Layout.{storageLength};
+ghost use Rattle.rules.specs.Tables.{slip};
+ghost use Rattle.rules.specs.Bytes.{decode};
+ghost use Rattle.rules.specs.Rule.{noView};
+ghost use Rattle.rules.specs.Step.{Put, perform};
+ghost use Rattle.chain.specs.Opened.{Opened};
+ghost use Rattle.answer.specs.Result.{lent, resultOf, Leaves};
+
+// Puts `input` into fresh pieces on fresh buffers, each full but the last, under a new slip: a chain made from bytes.
+pub fn put(pool: &mut [u8], shape: Shape, storage: &mut [u8], input: &[u8]) -> Outcome
+    requires { ⌜ Opened (now pool) shape × (length (now storage) ≡ storageLength (shape .buffers)) ⌝ }
+    ensures { λ r. ⌜ resultOf r (now (pool .exit)) (now (storage .exit)) [] noView ≡ perform (Put (now (input .entry))) (lent (now (pool .entry)) (now (storage .entry))) ⌝ }
+    ensures { λ r. ⌜ Leaves r (stateOf (slip (decode (now (pool .exit))) (numberOf r))) ⌝ }
+{
+    let t = chain::next_vacant(pool, shape, 0);
+    if t == shape.slips {
+        return Outcome::Refused(Refusal::Slips);
+    }
+    let count = transfer::buffers_for(input.len());
+    let piece = chain::lowest_piece(pool, shape, count);
+    if !chain::has_pieces(pool, shape, piece, count) {
+        return Outcome::Refused(Refusal::Pieces);
+    }
+    let buffer = chain::lowest_buffer(pool, shape, count);
+    if !chain::has_buffers(pool, shape, buffer, count) {
+        return Outcome::Refused(Refusal::Buffers);
+    }
+    transfer::fill_free(pool, shape, storage, input, buffer);
+    let first = build::lay(pool, shape, input.len() as u32, count as u16, piece, buffer);
+    answer::under_new(pool, shape, SlipNumber(t), first)
+}
