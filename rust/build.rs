@@ -1,4 +1,4 @@
-//! Finds the archive `libslp.a` and links it; without it only the model's own tests are built.
+//! Finds the archive `libslp.a` and links it; without it only the model's own tests can be run.
 
 use std::env;
 use std::path::PathBuf;
@@ -30,6 +30,8 @@ fn main() {
     } else if named.is_some() {
         panic!("FULCRUMNEST_LIB: no archive at {}", archive.display());
     } else {
-        println!("cargo::warning=no libslp.a found: only the model is tested");
+        println!(
+            "cargo::warning=no libslp.a found: only --test model and --test mutants can be run"
+        );
     }
 }

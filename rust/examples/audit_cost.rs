@@ -31,7 +31,11 @@ fn full_pool(b: usize, p: usize, s: usize) -> (Vec<u8>, Vec<u8>) {
         put16(&mut pool, held, n + 1);
     }
     for slip in 0..s {
-        put16(&mut pool, 11 + 2 * slip, if slip < p { slip + 2 } else { 1 });
+        put16(
+            &mut pool,
+            11 + 2 * slip,
+            if slip < p { slip + 2 } else { 1 },
+        );
     }
     (pool, vec![0u8; 512 * b])
 }
@@ -39,7 +43,8 @@ fn full_pool(b: usize, p: usize, s: usize) -> (Vec<u8>, Vec<u8>) {
 /// The 16-bit number at byte `at`, which the caller keeps inside the pool.
 #[inline(always)]
 unsafe fn get16(pool: &[u8], at: usize) -> u16 {
-    unsafe { u16::from_le_bytes([*pool.get_unchecked(at), *pool.get_unchecked(at + 1)]) }
+    debug_assert!(at + 2 <= pool.len());
+    unsafe { u16::from_le_bytes(*pool.as_ptr().add(at).cast::<[u8; 2]>()) }
 }
 
 /// The audit by hand: header, slips, pieces, counts, then the walk with colours.

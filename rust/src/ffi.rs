@@ -1,10 +1,19 @@
 //! The C declarations of the archive `libslp.a`, name for name.
+//!
+//! # Safety
+//!
+//! Each function asks of its caller that every pointer, with the length behind it, is a live slice
+//! (an empty one may come with any pointer, also null), that no two of them overlap, and that
+//! nobody else writes them, or reads what the call may write, until it is back. Nothing is asked of
+//! the bytes.
 
 /// An answer: a code (0 is done) and one number (0 with any other code).
 #[repr(C)]
 #[derive(Clone, Copy, Debug, PartialEq, Eq)]
 pub struct Answer {
+    /// 0, or the code of a [`Refusal`](crate::Refusal).
     pub code: u16,
+    /// What the call answers: a slip, a byte count or 0.
     pub number: u32,
 }
 
@@ -12,10 +21,13 @@ pub struct Answer {
 #[repr(C)]
 #[derive(Clone, Copy, Debug, PartialEq, Eq)]
 pub struct Shown {
+    /// 0, or the code of a [`Refusal`](crate::Refusal).
     pub code: u16,
+    /// The view's byte count.
     pub number: u32,
     /// 1: a part of the scratch; 0: a part of storage.
     pub in_scratch: u16,
+    /// Where the view starts.
     pub start: u32,
 }
 
@@ -23,8 +35,8 @@ pub struct Shown {
 const _: () = assert!(core::mem::size_of::<Answer>() == 8);
 const _: () = assert!(core::mem::size_of::<Shown>() == 16);
 
-// The five calls that look (open writes the fresh pool, and nothing else but it).
 extern "C" {
+    /// [`calls::open`](crate::calls::open)
     pub fn slp_open(
         pool: *mut u8,
         pool_length: usize,
@@ -35,6 +47,7 @@ extern "C" {
         slips: u16,
     ) -> Answer;
 
+    /// [`calls::audit`](crate::calls::audit)
     pub fn slp_audit(
         pool: *const u8,
         pool_length: usize,
@@ -42,6 +55,95 @@ extern "C" {
         storage_length: usize,
     ) -> Answer;
 
+    /// [`calls::put`](crate::calls::put)
+    pub fn slp_put(
+        pool: *mut u8,
+        pool_length: usize,
+        storage: *mut u8,
+        storage_length: usize,
+        data: *const u8,
+        data_length: usize,
+    ) -> Answer;
+
+    /// [`calls::free`](crate::calls::free)
+    pub fn slp_free(
+        pool: *mut u8,
+        pool_length: usize,
+        storage: *mut u8,
+        storage_length: usize,
+        slip: u16,
+    ) -> Answer;
+
+    /// [`calls::dup`](crate::calls::dup)
+    pub fn slp_dup(
+        pool: *mut u8,
+        pool_length: usize,
+        storage: *const u8,
+        storage_length: usize,
+        slip: u16,
+    ) -> Answer;
+
+    /// [`calls::cut`](crate::calls::cut)
+    pub fn slp_cut(
+        pool: *mut u8,
+        pool_length: usize,
+        storage: *const u8,
+        storage_length: usize,
+        slip: u16,
+        offset: u32,
+        length: u32,
+    ) -> Answer;
+
+    /// [`calls::append`](crate::calls::append)
+    pub fn slp_append(
+        pool: *mut u8,
+        pool_length: usize,
+        storage: *mut u8,
+        storage_length: usize,
+        a: u16,
+        b: u16,
+    ) -> Answer;
+
+    /// [`calls::drop`](crate::calls::drop)
+    pub fn slp_drop(
+        pool: *mut u8,
+        pool_length: usize,
+        storage: *mut u8,
+        storage_length: usize,
+        slip: u16,
+        n: u32,
+    ) -> Answer;
+
+    /// [`calls::keep`](crate::calls::keep)
+    pub fn slp_keep(
+        pool: *mut u8,
+        pool_length: usize,
+        storage: *mut u8,
+        storage_length: usize,
+        slip: u16,
+        n: u32,
+    ) -> Answer;
+
+    /// [`calls::pullup`](crate::calls::pullup)
+    pub fn slp_pullup(
+        pool: *mut u8,
+        pool_length: usize,
+        storage: *mut u8,
+        storage_length: usize,
+        slip: u16,
+        n: u32,
+    ) -> Answer;
+
+    /// [`calls::pack`](crate::calls::pack)
+    pub fn slp_pack(
+        pool: *mut u8,
+        pool_length: usize,
+        storage: *mut u8,
+        storage_length: usize,
+        slip: u16,
+    ) -> Answer;
+
+    /// [`calls::length`](crate::calls::length)
     pub fn slp_length(
         pool: *const u8,
         pool_length: usize,
@@ -50,6 +152,7 @@ extern "C" {
         slip: u16,
     ) -> Answer;
 
+    /// [`calls::read`](crate::calls::read)
     pub fn slp_read(
         pool: *const u8,
         pool_length: usize,
@@ -62,6 +165,7 @@ extern "C" {
         output_length: usize,
     ) -> Answer;
 
+    /// [`calls::show`](crate::calls::show)
     pub fn slp_show(
         pool: *const u8,
         pool_length: usize,
@@ -72,87 +176,4 @@ extern "C" {
         scratch: *mut u8,
         scratch_length: usize,
     ) -> Shown;
-}
-
-// The nine calls that change the pool.
-#[cfg(feature = "whole")]
-extern "C" {
-    pub fn slp_put(
-        pool: *mut u8,
-        pool_length: usize,
-        storage: *mut u8,
-        storage_length: usize,
-        data: *const u8,
-        data_length: usize,
-    ) -> Answer;
-
-    pub fn slp_free(
-        pool: *mut u8,
-        pool_length: usize,
-        storage: *mut u8,
-        storage_length: usize,
-        slip: u16,
-    ) -> Answer;
-
-    pub fn slp_dup(
-        pool: *mut u8,
-        pool_length: usize,
-        storage: *const u8,
-        storage_length: usize,
-        slip: u16,
-    ) -> Answer;
-
-    pub fn slp_cut(
-        pool: *mut u8,
-        pool_length: usize,
-        storage: *const u8,
-        storage_length: usize,
-        slip: u16,
-        offset: u32,
-        length: u32,
-    ) -> Answer;
-
-    pub fn slp_append(
-        pool: *mut u8,
-        pool_length: usize,
-        storage: *mut u8,
-        storage_length: usize,
-        a: u16,
-        b: u16,
-    ) -> Answer;
-
-    pub fn slp_drop(
-        pool: *mut u8,
-        pool_length: usize,
-        storage: *mut u8,
-        storage_length: usize,
-        slip: u16,
-        n: u32,
-    ) -> Answer;
-
-    pub fn slp_keep(
-        pool: *mut u8,
-        pool_length: usize,
-        storage: *mut u8,
-        storage_length: usize,
-        slip: u16,
-        n: u32,
-    ) -> Answer;
-
-    pub fn slp_pullup(
-        pool: *mut u8,
-        pool_length: usize,
-        storage: *mut u8,
-        storage_length: usize,
-        slip: u16,
-        n: u32,
-    ) -> Answer;
-
-    pub fn slp_pack(
-        pool: *mut u8,
-        pool_length: usize,
-        storage: *mut u8,
-        storage_length: usize,
-        slip: u16,
-    ) -> Answer;
 }

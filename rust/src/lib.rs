@@ -1,233 +1,57 @@
-//! Safe calls on the proved library: each lends its slices and hands back the answer as it came.
+//! Chains of message bytes over shared buffers, on a library that is proved: no buffer is given out
+//! again while a message still lies in it.
 //!
-//! Any bytes may be lent, of any length: the library judges them itself. An empty slice goes over
-//! with a dangling pointer, which is never read.
+//! The caller lends two slices: a pool, which holds the tables, and storage, which holds the
+//! buffers. [`Pool`] makes the fourteen calls on them; a chain is known by its [`Slip`], and a call
+//! that can't be done says why ([`Refusal`]) and changes nothing. [`Picture`] draws what a pool
+//! holds.
 //!
-//! The tests take these variables: FULCRUMNEST_LIB (the archive or its directory, else
-//! ../target/staticlib), FULCRUMNEST_CALLS (random calls on library and model, else 1,000,000),
-//! FULCRUMNEST_MODEL_CALLS (on the model alone, else 300,000), FULCRUMNEST_TIMES (so many times the
-//! usual pools) and FULCRUMNEST_SEED (the first seed).
+//! ```
+//! use fulcrumnest::{pool_length, storage_length, Pool, Refusal, Shape};
+//!
+//! let shape = Shape { buffers: 4, pieces: 6, slips: 4 };
+//! let mut pool = vec![0; pool_length(shape)];
+//! let mut storage = vec![0; storage_length(shape.buffers)];
+//! let mut pool = Pool::open(&mut pool, &mut storage, shape)?;
+//!
+//! let message = pool.put(b"pay 00120 to account 7")?;
+//! let amount = pool.cut(message, 4, 5)?;
+//! pool.free(message)?;
+//!
+//! let mut scratch = [0; 512];
+//! assert_eq!(pool.show(amount, 5, &mut scratch)?, b"00120");
+//! assert_eq!(pool.length(message), Err(Refusal::Slip));
+//! println!("{}", pool.picture());
+//! # Ok::<(), Refusal>(())
+//! ```
+//!
+//! [`calls`] has the same calls one step lower, on any bytes and with codes and numbers; [`ffi`] is
+//! what C declares. The archive `libslp.a` is linked from `../target/staticlib`, or from where the
+//! variable FULCRUMNEST_LIB says at build time.
 
+#![deny(missing_docs)]
+#![deny(unsafe_code)]
+
+#[allow(unsafe_code)]
+pub mod calls;
+mod fault;
+#[allow(unsafe_code)]
 pub mod ffi;
+mod picture;
+mod pool;
+mod refusal;
+mod shape;
+mod svg;
+mod tables;
 
+#[doc(no_inline)]
+pub use calls::{
+    append, audit, cut, drop, dup, free, keep, length, open, pack, pullup, put, read, show,
+};
+pub use fault::Fault;
 pub use ffi::{Answer, Shown};
-
-impl Shown {
-    /// The view itself: a part of storage or a part of the scratch.
-    pub fn view<'a>(&self, storage: &'a [u8], scratch: &'a [u8]) -> &'a [u8] {
-        let lent = if self.in_scratch == 1 {
-            scratch
-        } else {
-            storage
-        };
-        &lent[self.start as usize..][..self.number as usize]
-    }
-}
-
-// In every call below the pointers and lengths are those of live slices that stand apart from each
-// other, because Rust lends no byte twice while one loan may write it; that is all the calls ask.
-
-/// Writes the fresh pool; storage is unchanged.
-pub fn open(pool: &mut [u8], storage: &mut [u8], buffers: u16, pieces: u16, slips: u16) -> Answer {
-    unsafe {
-        ffi::slp_open(
-            pool.as_mut_ptr(),
-            pool.len(),
-            storage.as_mut_ptr(),
-            storage.len(),
-            buffers,
-            pieces,
-            slips,
-        )
-    }
-}
-
-/// Code 0 if the pool is sound, else 2.
-pub fn audit(pool: &[u8], storage: &[u8]) -> Answer {
-    unsafe { ffi::slp_audit(pool.as_ptr(), pool.len(), storage.as_ptr(), storage.len()) }
-}
-
-/// Answers the chain's length.
-pub fn length(pool: &[u8], storage: &[u8], slip: u16) -> Answer {
-    unsafe {
-        ffi::slp_length(
-            pool.as_ptr(),
-            pool.len(),
-            storage.as_ptr(),
-            storage.len(),
-            slip,
-        )
-    }
-}
-
-/// Copies the asked bytes to the front of the output and answers how many they are.
-pub fn read(
-    pool: &[u8],
-    storage: &[u8],
-    slip: u16,
-    offset: u32,
-    length: u32,
-    output: &mut [u8],
-) -> Answer {
-    unsafe {
-        ffi::slp_read(
-            pool.as_ptr(),
-            pool.len(),
-            storage.as_ptr(),
-            storage.len(),
-            slip,
-            offset,
-            length,
-            output.as_mut_ptr(),
-            output.len(),
-        )
-    }
-}
-
-/// The first n bytes in one stretch, in storage where they lie so, else copied to the scratch.
-pub fn show(pool: &[u8], storage: &[u8], slip: u16, n: u32, scratch: &mut [u8]) -> Shown {
-    unsafe {
-        ffi::slp_show(
-            pool.as_ptr(),
-            pool.len(),
-            storage.as_ptr(),
-            storage.len(),
-            slip,
-            n,
-            scratch.as_mut_ptr(),
-            scratch.len(),
-        )
-    }
-}
-
-#[cfg(feature = "whole")]
-mod changing {
-    use super::ffi::{self, Answer};
-
-    /// Puts the data into fresh pieces and answers the new slip.
-    pub fn put(pool: &mut [u8], storage: &mut [u8], data: &[u8]) -> Answer {
-        unsafe {
-            ffi::slp_put(
-                pool.as_mut_ptr(),
-                pool.len(),
-                storage.as_mut_ptr(),
-                storage.len(),
-                data.as_ptr(),
-                data.len(),
-            )
-        }
-    }
-
-    /// Releases the head; the slip is vacant.
-    pub fn free(pool: &mut [u8], storage: &mut [u8], slip: u16) -> Answer {
-        unsafe {
-            ffi::slp_free(
-                pool.as_mut_ptr(),
-                pool.len(),
-                storage.as_mut_ptr(),
-                storage.len(),
-                slip,
-            )
-        }
-    }
-
-    /// A new slip on one new piece equal to the head; answers the new slip.
-    pub fn dup(pool: &mut [u8], storage: &[u8], slip: u16) -> Answer {
-        unsafe {
-            ffi::slp_dup(
-                pool.as_mut_ptr(),
-                pool.len(),
-                storage.as_ptr(),
-                storage.len(),
-                slip,
-            )
-        }
-    }
-
-    /// A new slip on one new piece for each piece that overlaps the range; answers the new slip.
-    pub fn cut(pool: &mut [u8], storage: &[u8], slip: u16, offset: u32, length: u32) -> Answer {
-        unsafe {
-            ffi::slp_cut(
-                pool.as_mut_ptr(),
-                pool.len(),
-                storage.as_ptr(),
-                storage.len(),
-                slip,
-                offset,
-                length,
-            )
-        }
-    }
-
-    /// Slip a reads as a then b; slip b is vacant.
-    pub fn append(pool: &mut [u8], storage: &mut [u8], a: u16, b: u16) -> Answer {
-        unsafe {
-            ffi::slp_append(
-                pool.as_mut_ptr(),
-                pool.len(),
-                storage.as_mut_ptr(),
-                storage.len(),
-                a,
-                b,
-            )
-        }
-    }
-
-    /// The first n bytes go.
-    pub fn drop(pool: &mut [u8], storage: &mut [u8], slip: u16, n: u32) -> Answer {
-        unsafe {
-            ffi::slp_drop(
-                pool.as_mut_ptr(),
-                pool.len(),
-                storage.as_mut_ptr(),
-                storage.len(),
-                slip,
-                n,
-            )
-        }
-    }
-
-    /// The first n bytes stay.
-    pub fn keep(pool: &mut [u8], storage: &mut [u8], slip: u16, n: u32) -> Answer {
-        unsafe {
-            ffi::slp_keep(
-                pool.as_mut_ptr(),
-                pool.len(),
-                storage.as_mut_ptr(),
-                storage.len(),
-                slip,
-                n,
-            )
-        }
-    }
-
-    /// The first n bytes come to lie in the first piece.
-    pub fn pullup(pool: &mut [u8], storage: &mut [u8], slip: u16, n: u32) -> Answer {
-        unsafe {
-            ffi::slp_pullup(
-                pool.as_mut_ptr(),
-                pool.len(),
-                storage.as_mut_ptr(),
-                storage.len(),
-                slip,
-                n,
-            )
-        }
-    }
-
-    /// The chain's bytes are put afresh under the same slip.
-    pub fn pack(pool: &mut [u8], storage: &mut [u8], slip: u16) -> Answer {
-        unsafe {
-            ffi::slp_pack(
-                pool.as_mut_ptr(),
-                pool.len(),
-                storage.as_mut_ptr(),
-                storage.len(),
-                slip,
-            )
-        }
-    }
-}
-
-#[cfg(feature = "whole")]
-pub use changing::{append, cut, drop, dup, free, keep, pack, pullup, put};
+pub use picture::Picture;
+pub use pool::{Pool, Slip};
+pub use refusal::Refusal;
+pub use shape::{pool_length, storage_length, Shape, BUFFER_LENGTH};
+pub use svg::Svg;

@@ -1,6 +1,6 @@
 //! All fourteen calls of the library beside the model: the paper's cases, long random lists compared
 //! after every call with the recount, and damaged pools.
-#![cfg(all(fulcrumnest_lib, feature = "whole"))]
+#![cfg(fulcrumnest_lib)]
 
 mod common;
 

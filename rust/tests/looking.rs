@@ -13,7 +13,7 @@ use common::library;
 use common::model::{Call, Slip, Tables, TRUE};
 use common::random::{self, Random, Shape, SHAPES};
 use common::sequence::{setting, List};
-use fulcrumnest::ffi;
+use fulcrumnest::{calls, ffi};
 
 /// Makes calls of library and model on the same bytes and counts them.
 struct Pair {
@@ -479,15 +479,15 @@ fn view_reads_the_same() {
     for (seed, list) in pools(200, 40) {
         let tables = Tables::parse(&list.pool, &list.storage).expect("sound");
         for slip in 0..tables.slips.len() as u16 {
-            let whole = fulcrumnest::length(&list.pool, &list.storage, slip);
+            let whole = calls::length(&list.pool, &list.storage, slip);
             if whole.code != 0 {
                 continue;
             }
             let n = whole.number.min(512);
             let mut scratch = [0; 512];
             let mut output = [0; 512];
-            let shown = fulcrumnest::show(&list.pool, &list.storage, slip, n, &mut scratch);
-            let read = fulcrumnest::read(&list.pool, &list.storage, slip, 0, n, &mut output);
+            let shown = calls::show(&list.pool, &list.storage, slip, n, &mut scratch);
+            let read = calls::read(&list.pool, &list.storage, slip, 0, n, &mut output);
             assert_eq!((shown.code, shown.number), (0, n), "seed {seed}");
             assert_eq!((read.code, read.number), (0, n), "seed {seed}");
             let view = shown.view(&list.storage, &scratch);

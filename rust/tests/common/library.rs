@@ -2,6 +2,8 @@
 
 use std::sync::atomic::{AtomicUsize, Ordering};
 
+use fulcrumnest::{calls, Answer, Shown};
+
 use super::model::{Call, Outcome, View, NO_VIEW};
 
 /// Lent bytes between guards, at every alignment in turn.
@@ -65,65 +67,48 @@ pub fn step(pool: &[u8], storage: &[u8], call: &Call) -> Outcome {
     }
 }
 
-fn answer(
-    pool: &mut [u8],
-    storage: &mut [u8],
-    lent: &mut [u8],
-    call: &Call,
-) -> (fulcrumnest::Answer, View) {
+fn answer(pool: &mut [u8], storage: &mut [u8], lent: &mut [u8], call: &Call) -> (Answer, View) {
     let answer = match call {
         Call::Open {
             buffers,
             pieces,
             slips,
-        } => fulcrumnest::open(pool, storage, *buffers, *pieces, *slips),
-        Call::Audit => fulcrumnest::audit(pool, storage),
-        Call::Length { slip } => fulcrumnest::length(pool, storage, *slip),
+        } => calls::open(pool, storage, *buffers, *pieces, *slips),
+        Call::Audit => calls::audit(pool, storage),
+        Call::Put { data } => calls::put(pool, storage, data),
+        Call::Free { slip } => calls::free(pool, storage, *slip),
+        Call::Dup { slip } => calls::dup(pool, storage, *slip),
+        Call::Cut {
+            slip,
+            offset,
+            length,
+        } => calls::cut(pool, storage, *slip, *offset, *length),
+        Call::Append { a, b } => calls::append(pool, storage, *a, *b),
+        Call::Drop { slip, n } => calls::drop(pool, storage, *slip, *n),
+        Call::Keep { slip, n } => calls::keep(pool, storage, *slip, *n),
+        Call::Pullup { slip, n } => calls::pullup(pool, storage, *slip, *n),
+        Call::Pack { slip } => calls::pack(pool, storage, *slip),
+        Call::Length { slip } => calls::length(pool, storage, *slip),
         Call::Read {
             slip,
             offset,
             length,
             ..
-        } => fulcrumnest::read(pool, storage, *slip, *offset, *length, lent),
-        Call::Show { slip, n, .. } => {
-            let shown = fulcrumnest::show(pool, storage, *slip, *n, lent);
-            assert!(shown.in_scratch <= 1, "in_scratch is {}", shown.in_scratch);
-            let answer = fulcrumnest::Answer {
-                code: shown.code,
-                number: shown.number,
-            };
-            let view = View {
-                in_scratch: shown.in_scratch == 1,
-                start: shown.start as u64,
-            };
-            return (answer, view);
-        }
-        changing => change(pool, storage, changing),
+        } => calls::read(pool, storage, *slip, *offset, *length, lent),
+        Call::Show { slip, n, .. } => return shown(calls::show(pool, storage, *slip, *n, lent)),
     };
     (answer, NO_VIEW)
 }
 
-#[cfg(feature = "whole")]
-fn change(pool: &mut [u8], storage: &mut [u8], call: &Call) -> fulcrumnest::Answer {
-    match call {
-        Call::Put { data } => fulcrumnest::put(pool, storage, data),
-        Call::Free { slip } => fulcrumnest::free(pool, storage, *slip),
-        Call::Dup { slip } => fulcrumnest::dup(pool, storage, *slip),
-        Call::Cut {
-            slip,
-            offset,
-            length,
-        } => fulcrumnest::cut(pool, storage, *slip, *offset, *length),
-        Call::Append { a, b } => fulcrumnest::append(pool, storage, *a, *b),
-        Call::Drop { slip, n } => fulcrumnest::drop(pool, storage, *slip, *n),
-        Call::Keep { slip, n } => fulcrumnest::keep(pool, storage, *slip, *n),
-        Call::Pullup { slip, n } => fulcrumnest::pullup(pool, storage, *slip, *n),
-        Call::Pack { slip } => fulcrumnest::pack(pool, storage, *slip),
-        _ => unreachable!("a call that looks"),
-    }
-}
-
-#[cfg(not(feature = "whole"))]
-fn change(_pool: &mut [u8], _storage: &mut [u8], call: &Call) -> fulcrumnest::Answer {
-    panic!("not linked without the feature `whole`: {}", call.brief());
+fn shown(shown: Shown) -> (Answer, View) {
+    assert!(shown.in_scratch <= 1, "in_scratch is {}", shown.in_scratch);
+    let answer = Answer {
+        code: shown.code,
+        number: shown.number,
+    };
+    let view = View {
+        in_scratch: shown.in_scratch == 1,
+        start: shown.start as u64,
+    };
+    (answer, view)
 }

@@ -1,0 +1,783 @@
+//! The operations written by hand in ordinary Rust over the same bytes: the yardstick of the figures.
+//!
+//! Each trusts that the pool is sound, and audits nothing. It judges its own codes in their order, takes nothing
+//! before every refusal is ruled out, and loads and stores without bounds checks. A link is 0 for none, 1 + d for
+//! piece d.
+
+use std::ptr;
+
+use fulcrumnest::{Answer, Shown};
+
+/// Bytes of one buffer.
+const SIZE: usize = 512;
+
+const SLIP: u16 = 3;
+const SAME: u16 = 4;
+const LONG: u16 = 5;
+const RANGE: u16 = 6;
+const NARROW: u16 = 7;
+const SLIPS: u16 = 8;
+const PIECES: u16 = 9;
+const BUFFERS: u16 = 10;
+
+/// Where a piece's numbers stand behind its count.
+const BUFFER: usize = 2;
+const OFFSET: usize = 4;
+const LENGTH: usize = 6;
+const NEXT: usize = 8;
+
+fn done(number: usize) -> Answer {
+    Answer {
+        code: 0,
+        number: number as u32,
+    }
+}
+
+fn refused(code: u16) -> Answer {
+    Answer { code, number: 0 }
+}
+
+/// The 16-bit number at byte `at`, which lies inside the pool.
+#[inline(always)]
+unsafe fn get16(pool: &[u8], at: usize) -> usize {
+    debug_assert!(at + 2 <= pool.len());
+    u16::from_le_bytes(*pool.as_ptr().add(at).cast::<[u8; 2]>()) as usize
+}
+
+/// Writes the 16-bit number at byte `at`, which lies inside the pool.
+#[inline(always)]
+unsafe fn put16(pool: &mut [u8], at: usize, v: usize) {
+    debug_assert!(at + 2 <= pool.len());
+    *pool.as_mut_ptr().add(at).cast::<[u8; 2]>() = (v as u16).to_le_bytes();
+}
+
+/// How long the tables are, and where those of pieces and of buffers start.
+#[derive(Clone, Copy)]
+struct Tables {
+    buffers: usize,
+    pieces: usize,
+    slips: usize,
+    first_piece: usize,
+    first_count: usize,
+}
+
+impl Tables {
+    #[inline(always)]
+    unsafe fn of(pool: &[u8]) -> Tables {
+        let (buffers, pieces, slips) = (get16(pool, 5), get16(pool, 7), get16(pool, 9));
+        Tables {
+            buffers,
+            pieces,
+            slips,
+            first_piece: 11 + 2 * slips,
+            first_count: 11 + 2 * slips + 10 * pieces,
+        }
+    }
+
+    /// The byte of slip `s`.
+    #[inline(always)]
+    fn slip(self, s: usize) -> usize {
+        11 + 2 * s
+    }
+
+    /// The byte of piece `d`.
+    #[inline(always)]
+    fn piece(self, d: usize) -> usize {
+        self.first_piece + 10 * d
+    }
+
+    /// The byte of the count of buffer `b`.
+    #[inline(always)]
+    fn count(self, b: usize) -> usize {
+        self.first_count + 2 * b
+    }
+
+    /// The link that slip `s` holds, if it is held.
+    unsafe fn held(self, pool: &[u8], s: u16) -> Option<usize> {
+        if s as usize >= self.slips {
+            return None;
+        }
+        get16(pool, self.slip(s as usize)).checked_sub(1)
+    }
+
+    /// The lowest vacant slip.
+    unsafe fn vacant(self, pool: &[u8]) -> Option<usize> {
+        let mut s = 0;
+        while s < self.slips {
+            if get16(pool, self.slip(s)) == 0 {
+                return Some(s);
+            }
+            s += 1;
+        }
+        None
+    }
+
+    /// The lowest free piece from `from` on.
+    unsafe fn free_piece(self, pool: &[u8], from: usize) -> Option<usize> {
+        let mut d = from;
+        while d < self.pieces {
+            if get16(pool, self.piece(d)) == 0 {
+                return Some(d);
+            }
+            d += 1;
+        }
+        None
+    }
+
+    /// The lowest free buffer from `from` on.
+    unsafe fn free_buffer(self, pool: &[u8], from: usize) -> Option<usize> {
+        let mut b = from;
+        while b < self.buffers {
+            if get16(pool, self.count(b)) == 0 {
+                return Some(b);
+            }
+            b += 1;
+        }
+        None
+    }
+
+    /// The lowest free piece, if at least `wanted` are free, which is above 0.
+    unsafe fn room_for_pieces(self, pool: &[u8], wanted: usize) -> Option<usize> {
+        let first = self.free_piece(pool, 0)?;
+        let mut last = first;
+        for _ in 1..wanted {
+            last = self.free_piece(pool, last + 1)?;
+        }
+        Some(first)
+    }
+
+    /// The lowest free buffer, if at least `wanted` are free, which is above 0.
+    unsafe fn room_for_buffers(self, pool: &[u8], wanted: usize) -> Option<usize> {
+        let first = self.free_buffer(pool, 0)?;
+        let mut last = first;
+        for _ in 1..wanted {
+            last = self.free_buffer(pool, last + 1)?;
+        }
+        Some(first)
+    }
+
+    /// The free piece `d` becomes a piece of count 1.
+    unsafe fn take(
+        self,
+        pool: &mut [u8],
+        d: usize,
+        buffer: usize,
+        offset: usize,
+        length: usize,
+        next: usize,
+    ) {
+        let held = self.count(buffer);
+        put16(pool, held, get16(pool, held) + 1);
+        let at = self.piece(d);
+        put16(pool, at, 1);
+        put16(pool, at + BUFFER, buffer);
+        put16(pool, at + OFFSET, offset);
+        put16(pool, at + LENGTH, length);
+        put16(pool, at + NEXT, next);
+    }
+
+    /// One reference more to where `link` leads.
+    unsafe fn share(self, pool: &mut [u8], link: usize) {
+        if link != 0 {
+            let at = self.piece(link - 1);
+            put16(pool, at, get16(pool, at) + 1);
+        }
+    }
+
+    /// Releases one reference to where `link` leads.
+    unsafe fn release(self, pool: &mut [u8], mut link: usize) {
+        while link != 0 {
+            let at = self.piece(link - 1);
+            let count = get16(pool, at);
+            if count > 1 {
+                put16(pool, at, count - 1);
+                return;
+            }
+            let held = self.count(get16(pool, at + BUFFER));
+            put16(pool, held, get16(pool, held) - 1);
+            link = get16(pool, at + NEXT);
+            pool.get_unchecked_mut(at..at + 10).fill(0);
+        }
+    }
+}
+
+/// A place in a chain: the link to a piece, the bytes of it before the place, and whether it is own.
+#[derive(Clone, Copy)]
+struct Place {
+    link: usize,
+    into: usize,
+    own: bool,
+}
+
+impl Place {
+    /// The start of the piece that `link` leads to.
+    fn start(link: usize) -> Place {
+        Place {
+            link,
+            into: 0,
+            own: false,
+        }
+    }
+
+    /// Whether what stays from here on wants a new piece.
+    fn wants_piece(self) -> bool {
+        self.into != 0 && !self.own
+    }
+}
+
+impl Tables {
+    /// The bytes of the chain from `link`.
+    unsafe fn length(self, pool: &[u8], mut link: usize) -> usize {
+        let mut length = 0;
+        while link != 0 {
+            let at = self.piece(link - 1);
+            length += get16(pool, at + LENGTH);
+            link = get16(pool, at + NEXT);
+        }
+        length
+    }
+
+    /// The place `n` bytes into the chain from `link`, if it has so many.
+    unsafe fn find(self, pool: &[u8], mut link: usize, n: usize) -> Option<Place> {
+        let mut into = n;
+        let mut own = true;
+        while link != 0 {
+            let at = self.piece(link - 1);
+            own &= get16(pool, at) == 1;
+            let length = get16(pool, at + LENGTH);
+            if into < length {
+                break;
+            }
+            into -= length;
+            link = get16(pool, at + NEXT);
+        }
+        (link != 0 || into == 0).then_some(Place { link, into, own })
+    }
+
+    /// How many pieces the first `n` bytes from `link` overlap, if there are so many bytes.
+    unsafe fn pieces_of(self, pool: &[u8], mut link: usize, n: usize) -> Option<usize> {
+        let mut left = n;
+        let mut pieces = 0;
+        while left > 0 {
+            if link == 0 {
+                return None;
+            }
+            let at = self.piece(link - 1);
+            left = left.saturating_sub(get16(pool, at + LENGTH));
+            pieces += 1;
+            link = get16(pool, at + NEXT);
+        }
+        Some(pieces)
+    }
+
+    /// Copies `n` bytes of a chain from a place on to `output`, which stands apart from them.
+    unsafe fn gather(
+        self,
+        pool: &[u8],
+        storage: *const u8,
+        from: Place,
+        n: usize,
+        output: *mut u8,
+    ) -> Place {
+        let mut from = from;
+        let mut copied = 0;
+        while copied < n {
+            let at = self.piece(from.link - 1);
+            let length = get16(pool, at + LENGTH);
+            let start = SIZE * get16(pool, at + BUFFER) + get16(pool, at + OFFSET) + from.into;
+            let part = (length - from.into).min(n - copied);
+            ptr::copy_nonoverlapping(storage.add(start), output.add(copied), part);
+            copied += part;
+            from.into += part;
+            if from.into == length {
+                from.link = get16(pool, at + NEXT);
+                from.into = 0;
+            }
+        }
+        from
+    }
+
+    /// New pieces from the free piece `first` on, for the `n` bytes from a place on, which overlap `pieces` pieces,
+    /// on the same buffers and before the link `tail`; answers the link to the first.
+    unsafe fn copy_pieces(
+        self,
+        pool: &mut [u8],
+        first: usize,
+        from: Place,
+        n: usize,
+        pieces: usize,
+        tail: usize,
+    ) -> usize {
+        let (mut link, mut skip, mut left) = (from.link, from.into, n);
+        let mut free = first;
+        for more in (0..pieces).rev() {
+            let at = self.piece(link - 1);
+            let buffer = get16(pool, at + BUFFER);
+            let offset = get16(pool, at + OFFSET) + skip;
+            let length = (get16(pool, at + LENGTH) - skip).min(left);
+            link = get16(pool, at + NEXT);
+            skip = 0;
+            left -= length;
+            if more == 0 {
+                self.take(pool, free, buffer, offset, length, tail);
+            } else {
+                let next = self.free_piece(pool, free + 1).unwrap_unchecked();
+                self.take(pool, free, buffer, offset, length, next + 1);
+                free = next;
+            }
+        }
+        first + 1
+    }
+
+    /// What stays from a place on, with one reference more, on the free piece `free` where it wants one; answers the
+    /// link to it.
+    unsafe fn settle(self, pool: &mut [u8], from: Place, free: usize) -> usize {
+        if from.into == 0 {
+            self.share(pool, from.link);
+            return from.link;
+        }
+        let at = self.piece(from.link - 1);
+        let offset = get16(pool, at + OFFSET) + from.into;
+        let length = get16(pool, at + LENGTH) - from.into;
+        if from.own {
+            self.share(pool, from.link);
+            put16(pool, at + OFFSET, offset);
+            put16(pool, at + LENGTH, length);
+            return from.link;
+        }
+        let (buffer, next) = (get16(pool, at + BUFFER), get16(pool, at + NEXT));
+        self.share(pool, next);
+        self.take(pool, free, buffer, offset, length, next);
+        free + 1
+    }
+}
+
+/// Fills the rest of a buffer, from its byte `n` on, with zeros.
+unsafe fn clear_rest(storage: &mut [u8], buffer: usize, n: usize) {
+    let start = SIZE * buffer;
+    storage.get_unchecked_mut(start + n..start + SIZE).fill(0);
+}
+
+/// put: the bytes go into fresh pieces, under a new slip.
+///
+/// # Safety
+/// As for every operation here: the pool is sound, and storage is of its length.
+#[inline(never)]
+pub unsafe fn put(pool: &mut [u8], storage: &mut [u8], data: &[u8]) -> Answer {
+    let t = Tables::of(pool);
+    let Some(slip) = t.vacant(pool) else {
+        return refused(SLIPS);
+    };
+    if data.is_empty() {
+        put16(pool, t.slip(slip), 1);
+        return done(slip);
+    }
+    let wanted = data.len().div_ceil(SIZE);
+    let Some(first) = t.room_for_pieces(pool, wanted) else {
+        return refused(PIECES);
+    };
+    let Some(mut buffer) = t.room_for_buffers(pool, wanted) else {
+        return refused(BUFFERS);
+    };
+    let mut piece = first;
+    let mut rest = data;
+    loop {
+        let n = rest.len().min(SIZE);
+        let start = SIZE * buffer;
+        ptr::copy_nonoverlapping(rest.as_ptr(), storage.as_mut_ptr().add(start), n);
+        rest = rest.get_unchecked(n..);
+        if rest.is_empty() {
+            clear_rest(storage, buffer, n);
+            t.take(pool, piece, buffer, 0, n, 0);
+            break;
+        }
+        let next = t.free_piece(pool, piece + 1).unwrap_unchecked();
+        t.take(pool, piece, buffer, 0, n, next + 1);
+        piece = next;
+        buffer = t.free_buffer(pool, buffer + 1).unwrap_unchecked();
+    }
+    put16(pool, t.slip(slip), first + 2);
+    done(slip)
+}
+
+/// free: the slip gives up its chain.
+///
+/// # Safety
+/// As for put.
+#[inline(never)]
+pub unsafe fn free(pool: &mut [u8], _storage: &mut [u8], slip: u16) -> Answer {
+    let t = Tables::of(pool);
+    let Some(head) = t.held(pool, slip) else {
+        return refused(SLIP);
+    };
+    put16(pool, t.slip(slip as usize), 0);
+    t.release(pool, head);
+    done(0)
+}
+
+/// dup: a new slip on one new piece that shares the rest.
+///
+/// # Safety
+/// As for put.
+#[inline(never)]
+pub unsafe fn dup(pool: &mut [u8], _storage: &[u8], slip: u16) -> Answer {
+    let t = Tables::of(pool);
+    let Some(head) = t.held(pool, slip) else {
+        return refused(SLIP);
+    };
+    let Some(new) = t.vacant(pool) else {
+        return refused(SLIPS);
+    };
+    if head == 0 {
+        put16(pool, t.slip(new), 1);
+        return done(new);
+    }
+    let Some(piece) = t.free_piece(pool, 0) else {
+        return refused(PIECES);
+    };
+    let at = t.piece(head - 1);
+    let (buffer, offset) = (get16(pool, at + BUFFER), get16(pool, at + OFFSET));
+    let (length, next) = (get16(pool, at + LENGTH), get16(pool, at + NEXT));
+    t.share(pool, next);
+    t.take(pool, piece, buffer, offset, length, next);
+    put16(pool, t.slip(new), piece + 2);
+    done(new)
+}
+
+/// cut: a new slip on new pieces for a range, on the same buffers.
+///
+/// # Safety
+/// As for put.
+#[inline(never)]
+pub unsafe fn cut(pool: &mut [u8], _storage: &[u8], slip: u16, offset: u32, length: u32) -> Answer {
+    let t = Tables::of(pool);
+    let n = length as usize;
+    let Some(head) = t.held(pool, slip) else {
+        return refused(SLIP);
+    };
+    let Some(from) = t.find(pool, head, offset as usize) else {
+        return refused(RANGE);
+    };
+    let Some(pieces) = t.pieces_of(pool, from.link, from.into + n) else {
+        return refused(RANGE);
+    };
+    let Some(new) = t.vacant(pool) else {
+        return refused(SLIPS);
+    };
+    if n == 0 {
+        put16(pool, t.slip(new), 1);
+        return done(new);
+    }
+    let Some(free) = t.room_for_pieces(pool, pieces) else {
+        return refused(PIECES);
+    };
+    let first = t.copy_pieces(pool, free, from, n, pieces, 0);
+    put16(pool, t.slip(new), first + 1);
+    done(new)
+}
+
+/// append: slip `a` reads as a then b, and `b` is vacant.
+///
+/// # Safety
+/// As for put.
+#[inline(never)]
+pub unsafe fn append(pool: &mut [u8], _storage: &mut [u8], a: u16, b: u16) -> Answer {
+    let t = Tables::of(pool);
+    let (Some(head), Some(tail)) = (t.held(pool, a), t.held(pool, b)) else {
+        return refused(SLIP);
+    };
+    if a == b {
+        return refused(SAME);
+    }
+    if head == 0 || tail == 0 {
+        put16(pool, t.slip(b as usize), 0);
+        put16(pool, t.slip(a as usize), head + tail + 1);
+        return done(0);
+    }
+    // The own pieces stay: where the first one that is not hangs, its link, and how many there are from it on.
+    let mut hook = t.slip(a as usize);
+    let mut link = head;
+    while link != 0 && get16(pool, t.piece(link - 1)) == 1 {
+        hook = t.piece(link - 1) + NEXT;
+        link = get16(pool, hook);
+    }
+    let mut pieces = 0;
+    let mut after = link;
+    while after != 0 {
+        pieces += 1;
+        after = get16(pool, t.piece(after - 1) + NEXT);
+    }
+    let mut rest = tail;
+    if pieces > 0 {
+        let Some(free) = t.room_for_pieces(pool, pieces) else {
+            return refused(PIECES);
+        };
+        rest = t.copy_pieces(pool, free, Place::start(link), usize::MAX, pieces, tail);
+    }
+    // A slip's entry is its link and 1.
+    let entry = usize::from(link == head);
+    put16(pool, hook, rest + entry);
+    put16(pool, t.slip(b as usize), 0);
+    t.release(pool, link);
+    done(0)
+}
+
+/// drop: the first bytes go.
+///
+/// # Safety
+/// As for put.
+#[inline(never)]
+pub unsafe fn drop(pool: &mut [u8], _storage: &mut [u8], slip: u16, n: u32) -> Answer {
+    let t = Tables::of(pool);
+    let Some(head) = t.held(pool, slip) else {
+        return refused(SLIP);
+    };
+    let Some(from) = t.find(pool, head, n as usize) else {
+        return refused(RANGE);
+    };
+    if n == 0 {
+        return done(0);
+    }
+    let mut free = 0;
+    if from.wants_piece() {
+        let Some(piece) = t.free_piece(pool, 0) else {
+            return refused(PIECES);
+        };
+        free = piece;
+    }
+    let rest = t.settle(pool, from, free);
+    put16(pool, t.slip(slip as usize), rest + 1);
+    t.release(pool, head);
+    done(0)
+}
+
+/// keep: the first bytes stay.
+///
+/// # Safety
+/// As for put.
+#[inline(never)]
+pub unsafe fn keep(pool: &mut [u8], _storage: &mut [u8], slip: u16, n: u32) -> Answer {
+    let t = Tables::of(pool);
+    let Some(head) = t.held(pool, slip) else {
+        return refused(SLIP);
+    };
+    if n == 0 {
+        put16(pool, t.slip(slip as usize), 1);
+        t.release(pool, head);
+        return done(0);
+    }
+    // The walk ends at the last piece kept; `others` counts from the first piece not own, which hangs on `hook`.
+    let mut hook = t.slip(slip as usize);
+    let (mut first_other, mut others, mut bytes) = (head, 0, 0);
+    let (mut link, mut left) = (head, n as usize);
+    loop {
+        if link == 0 {
+            return refused(RANGE);
+        }
+        let at = t.piece(link - 1);
+        let length = get16(pool, at + LENGTH);
+        let next = get16(pool, at + NEXT);
+        if others > 0 || get16(pool, at) != 1 {
+            others += 1;
+            bytes += length.min(left);
+        } else {
+            hook = at + NEXT;
+            first_other = next;
+        }
+        if left <= length {
+            if left == length && next == 0 {
+                return done(0);
+            }
+            break;
+        }
+        left -= length;
+        link = next;
+    }
+    if others == 0 {
+        put16(pool, hook - NEXT + LENGTH, left);
+        put16(pool, hook, 0);
+    } else {
+        let Some(free) = t.room_for_pieces(pool, others) else {
+            return refused(PIECES);
+        };
+        let from = Place::start(first_other);
+        let first = t.copy_pieces(pool, free, from, bytes, others, 0);
+        // A slip's entry is its link and 1.
+        let entry = usize::from(first_other == head);
+        put16(pool, hook, first + entry);
+    }
+    t.release(pool, first_other);
+    done(0)
+}
+
+/// pullup: the first bytes come to lie in the first piece.
+///
+/// # Safety
+/// As for put.
+#[inline(never)]
+pub unsafe fn pullup(pool: &mut [u8], storage: &mut [u8], slip: u16, n: u32) -> Answer {
+    let t = Tables::of(pool);
+    let n = n as usize;
+    let Some(head) = t.held(pool, slip) else {
+        return refused(SLIP);
+    };
+    if n > SIZE {
+        return refused(LONG);
+    }
+    let Some(from) = t.find(pool, head, n) else {
+        return refused(RANGE);
+    };
+    if n == 0 || n <= get16(pool, t.piece(head - 1) + LENGTH) {
+        return done(0);
+    }
+    let Some(front) = t.free_piece(pool, 0) else {
+        return refused(PIECES);
+    };
+    let mut free = 0;
+    if from.wants_piece() {
+        let Some(piece) = t.free_piece(pool, front + 1) else {
+            return refused(PIECES);
+        };
+        free = piece;
+    }
+    let Some(buffer) = t.free_buffer(pool, 0) else {
+        return refused(BUFFERS);
+    };
+    let bytes = storage.as_mut_ptr();
+    t.gather(pool, bytes, Place::start(head), n, bytes.add(SIZE * buffer));
+    clear_rest(storage, buffer, n);
+    let rest = t.settle(pool, from, free);
+    t.take(pool, front, buffer, 0, n, rest);
+    put16(pool, t.slip(slip as usize), front + 2);
+    t.release(pool, head);
+    done(0)
+}
+
+/// pack: the chain's bytes are put afresh under the same slip.
+///
+/// # Safety
+/// As for put.
+#[inline(never)]
+pub unsafe fn pack(pool: &mut [u8], storage: &mut [u8], slip: u16) -> Answer {
+    let t = Tables::of(pool);
+    let Some(head) = t.held(pool, slip) else {
+        return refused(SLIP);
+    };
+    if head == 0 || get16(pool, t.piece(head - 1) + NEXT) == 0 {
+        return done(0);
+    }
+    let mut left = t.length(pool, head);
+    let wanted = left.div_ceil(SIZE);
+    let Some(first) = t.room_for_pieces(pool, wanted) else {
+        return refused(PIECES);
+    };
+    let Some(mut buffer) = t.room_for_buffers(pool, wanted) else {
+        return refused(BUFFERS);
+    };
+    let mut piece = first;
+    let mut from = Place::start(head);
+    let bytes = storage.as_mut_ptr();
+    loop {
+        let n = left.min(SIZE);
+        from = t.gather(pool, bytes, from, n, bytes.add(SIZE * buffer));
+        left -= n;
+        if left == 0 {
+            clear_rest(storage, buffer, n);
+            t.take(pool, piece, buffer, 0, n, 0);
+            break;
+        }
+        let next = t.free_piece(pool, piece + 1).unwrap_unchecked();
+        t.take(pool, piece, buffer, 0, n, next + 1);
+        piece = next;
+        buffer = t.free_buffer(pool, buffer + 1).unwrap_unchecked();
+    }
+    put16(pool, t.slip(slip as usize), first + 2);
+    t.release(pool, head);
+    done(0)
+}
+
+/// length: the chain's byte count.
+///
+/// # Safety
+/// As for put.
+#[inline(never)]
+pub unsafe fn length(pool: &[u8], _storage: &[u8], slip: u16) -> Answer {
+    let t = Tables::of(pool);
+    match t.held(pool, slip) {
+        Some(head) => done(t.length(pool, head)),
+        None => refused(SLIP),
+    }
+}
+
+/// read: bytes of the chain to the front of the output.
+///
+/// # Safety
+/// As for put.
+#[inline(never)]
+pub unsafe fn read(
+    pool: &[u8],
+    storage: &[u8],
+    slip: u16,
+    offset: u32,
+    length: u32,
+    output: &mut [u8],
+) -> Answer {
+    let t = Tables::of(pool);
+    let n = length as usize;
+    let Some(head) = t.held(pool, slip) else {
+        return refused(SLIP);
+    };
+    let Some(from) = t.find(pool, head, offset as usize) else {
+        return refused(RANGE);
+    };
+    if t.pieces_of(pool, from.link, from.into + n).is_none() {
+        return refused(RANGE);
+    }
+    if output.len() < n {
+        return refused(NARROW);
+    }
+    t.gather(pool, storage.as_ptr(), from, n, output.as_mut_ptr());
+    done(n)
+}
+
+/// show: the first bytes in one stretch, of storage or of the scratch.
+///
+/// # Safety
+/// As for put.
+#[inline(never)]
+pub unsafe fn show(pool: &[u8], storage: &[u8], slip: u16, n: u32, scratch: &mut [u8]) -> Shown {
+    let shown = |code: u16, number: usize, in_scratch: bool, start: usize| Shown {
+        code,
+        number: number as u32,
+        in_scratch: in_scratch as u16,
+        start: start as u32,
+    };
+    let t = Tables::of(pool);
+    let n = n as usize;
+    let Some(head) = t.held(pool, slip) else {
+        return shown(SLIP, 0, false, 0);
+    };
+    if n > SIZE {
+        return shown(LONG, 0, false, 0);
+    }
+    if n == 0 {
+        return shown(0, 0, false, 0);
+    }
+    if head == 0 {
+        return shown(RANGE, 0, false, 0);
+    }
+    let at = t.piece(head - 1);
+    if n <= get16(pool, at + LENGTH) {
+        let start = SIZE * get16(pool, at + BUFFER) + get16(pool, at + OFFSET);
+        return shown(0, n, false, start);
+    }
+    if t.pieces_of(pool, head, n).is_none() {
+        return shown(RANGE, 0, false, 0);
+    }
+    if scratch.len() < n {
+        return shown(NARROW, 0, false, 0);
+    }
+    let from = Place::start(head);
+    t.gather(pool, storage.as_ptr(), from, n, scratch.as_mut_ptr());
+    shown(0, n, true, 0)
+}

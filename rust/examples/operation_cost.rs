@@ -1,0 +1,485 @@
+//! Does one operation many times on a full pool, so that a profiler can count its instructions.
+//!
+//! `operation_cost WHO CASE TIMES`: WHO is `library` (audit and operation), `audit` (slp_audit alone on the same
+//! pool), `yardstick` (the same operation written by hand, unaudited) or `empty` (a call that does nothing). Every call
+//! starts from the case's pool, storage and output, which are copied back in each run alike. Before that the library
+//! and the yardstick do the case once, and must leave the very same bytes and answer.
+//!
+//! Without arguments it lists the cases, one a line: name, operation and what is done.
+
+mod by_hand;
+
+use std::env;
+use std::hint::black_box;
+
+use fulcrumnest::{Answer, Shown};
+
+/// The shape of every case's pool.
+const BUFFERS: usize = 128;
+const PIECES: usize = 256;
+const SLIPS: usize = 64;
+
+/// The bytes of most pieces: two lie on a buffer.
+const PIECE: usize = 256;
+
+/// All that a call is lent, and what it answers.
+#[derive(Clone, Debug, PartialEq, Eq)]
+struct Lent {
+    pool: Vec<u8>,
+    storage: Vec<u8>,
+    data: Vec<u8>,
+    output: Vec<u8>,
+    slip: u16,
+    other: u16,
+    offset: u32,
+    n: u32,
+    answer: Answer,
+    shown: Shown,
+}
+
+impl Lent {
+    /// A pool and its storage, with no data, no output and arguments 0.
+    fn new(pool: Vec<u8>) -> Lent {
+        Lent {
+            pool,
+            storage: (0..512 * BUFFERS).map(|i| (i % 251) as u8).collect(),
+            data: Vec::new(),
+            output: Vec::new(),
+            slip: 0,
+            other: 0,
+            offset: 0,
+            n: 0,
+            answer: Answer { code: 0, number: 0 },
+            shown: Shown {
+                code: 0,
+                number: 0,
+                in_scratch: 0,
+                start: 0,
+            },
+        }
+    }
+
+    fn data(self, n: usize) -> Lent {
+        let data = (0..n).map(|i| (i % 241) as u8).collect();
+        Lent { data, ..self }
+    }
+
+    fn output(self, n: usize) -> Lent {
+        let output = vec![0xEE; n];
+        Lent { output, ..self }
+    }
+
+    fn other(self, other: u16) -> Lent {
+        Lent { other, ..self }
+    }
+
+    fn offset(self, offset: u32) -> Lent {
+        Lent { offset, ..self }
+    }
+
+    fn n(self, n: u32) -> Lent {
+        Lent { n, ..self }
+    }
+
+    /// Pool, storage and output become those of the case again.
+    fn reset(&mut self, case: &Lent) {
+        self.pool.copy_from_slice(&case.pool);
+        self.storage.copy_from_slice(&case.storage);
+        self.output.copy_from_slice(&case.output);
+    }
+}
+
+/// How many of the last slips, pieces and buffers a case leaves free: exactly what its call takes.
+#[derive(Clone, Copy)]
+struct Room {
+    slips: usize,
+    pieces: usize,
+    buffers: usize,
+}
+
+const fn room(slips: usize, pieces: usize, buffers: usize) -> Room {
+    Room {
+        slips,
+        pieces,
+        buffers,
+    }
+}
+
+/// A pool being built: slips and pieces are taken from the lowest on, and the counts are set at the end.
+struct Builder {
+    pool: Vec<u8>,
+    room: Room,
+    slips: usize,
+    pieces: usize,
+}
+
+fn get16(pool: &[u8], at: usize) -> usize {
+    u16::from_le_bytes([pool[at], pool[at + 1]]) as usize
+}
+
+fn put16(pool: &mut [u8], at: usize, v: usize) {
+    pool[at..at + 2].copy_from_slice(&(v as u16).to_le_bytes());
+}
+
+/// The bytes of a slip, of a piece and of a buffer's count.
+fn slip_at(s: usize) -> usize {
+    11 + 2 * s
+}
+
+fn piece_at(d: usize) -> usize {
+    slip_at(SLIPS) + 10 * d
+}
+
+fn count_at(b: usize) -> usize {
+    piece_at(PIECES) + 2 * b
+}
+
+impl Builder {
+    fn new(room: Room) -> Builder {
+        let mut pool = vec![0; count_at(BUFFERS)];
+        pool[..3].copy_from_slice(b"SLP");
+        for (at, v) in [(3, 1), (5, BUFFERS), (7, PIECES), (9, SLIPS)] {
+            put16(&mut pool, at, v);
+        }
+        Builder {
+            pool,
+            room,
+            slips: 0,
+            pieces: 0,
+        }
+    }
+
+    /// The next slip takes this entry.
+    fn slip(mut self, entry: usize) -> Builder {
+        put16(&mut self.pool, slip_at(self.slips), entry);
+        self.slips += 1;
+        self
+    }
+
+    /// The next slip takes a chain of new pieces of `length` bytes, each on the next buffer.
+    fn chain(mut self, pieces: usize, length: usize) -> Builder {
+        let buffers = BUFFERS - self.room.buffers;
+        let first = self.pieces;
+        let end = first + pieces;
+        for d in first..end {
+            let next = if d + 1 < end { d + 2 } else { 0 };
+            let entry = [0, d % buffers, PIECE * (d / buffers % 2), length, next];
+            for (k, v) in entry.into_iter().enumerate() {
+                put16(&mut self.pool, piece_at(d) + 2 * k, v);
+            }
+        }
+        self.pieces = end;
+        self.slip(if pieces == 0 { 1 } else { first + 2 })
+    }
+
+    /// Fills the pool up to its room with chains of equal length, then sets every count by the references.
+    fn full(mut self) -> Lent {
+        while self.slips < SLIPS - self.room.slips {
+            let chains = SLIPS - self.room.slips - self.slips;
+            let pieces = PIECES - self.room.pieces - self.pieces;
+            self = self.chain(pieces.div_ceil(chains), PIECE);
+        }
+        assert_eq!(self.pieces, PIECES - self.room.pieces);
+        let pool = &mut self.pool;
+        let heads = (0..SLIPS).map(|s| get16(pool, slip_at(s)).saturating_sub(1));
+        let nexts = (0..PIECES).map(|d| get16(pool, piece_at(d) + 8));
+        let links = heads.chain(nexts).filter(|link| *link != 0);
+        let references = links.map(|link| piece_at(link - 1));
+        let lying = (0..self.pieces).map(|d| count_at(get16(pool, piece_at(d) + 2)));
+        for at in references.chain(lying).collect::<Vec<usize>>() {
+            let count = get16(pool, at);
+            put16(pool, at, count + 1);
+        }
+        Lent::new(self.pool)
+    }
+}
+
+/// A full pool whose slip 0 has a chain of so many pieces, all own.
+fn own(pieces: usize, length: usize, room: Room) -> Lent {
+    Builder::new(room).chain(pieces, length).full()
+}
+
+/// A full pool whose slip 0 has a chain of so many pieces, while slip 1 heads its piece `from`.
+fn shared(pieces: usize, from: usize, room: Room) -> Lent {
+    let built = Builder::new(room).chain(pieces, PIECE);
+    built.slip(from + 2).full()
+}
+
+/// One way to do something with what is lent.
+type Way = fn(&mut Lent);
+
+/// An operation, the library's way to do it and the yardstick's.
+#[derive(Clone, Copy)]
+struct Operation {
+    name: &'static str,
+    library: Way,
+    yardstick: Way,
+}
+
+/// Both ways of one operation, called with the same arguments.
+macro_rules! operation {
+    ($l:ident.$answer:ident = $name:ident($($argument:expr),*)) => {
+        Operation {
+            name: stringify!($name),
+            library: |$l| $l.$answer = fulcrumnest::$name($($argument),*),
+            // Every case's pool is audited before it is used.
+            yardstick: |$l| $l.$answer = unsafe { by_hand::$name($($argument),*) },
+        }
+    };
+}
+
+const PUT: Operation = operation!(l.answer = put(&mut l.pool, &mut l.storage, &l.data));
+const FREE: Operation = operation!(l.answer = free(&mut l.pool, &mut l.storage, l.slip));
+const DUP: Operation = operation!(l.answer = dup(&mut l.pool, &l.storage, l.slip));
+const CUT: Operation = operation!(l.answer = cut(&mut l.pool, &l.storage, l.slip, l.offset, l.n));
+const APPEND: Operation =
+    operation!(l.answer = append(&mut l.pool, &mut l.storage, l.slip, l.other));
+const DROP: Operation = operation!(l.answer = drop(&mut l.pool, &mut l.storage, l.slip, l.n));
+const KEEP: Operation = operation!(l.answer = keep(&mut l.pool, &mut l.storage, l.slip, l.n));
+const PULLUP: Operation = operation!(l.answer = pullup(&mut l.pool, &mut l.storage, l.slip, l.n));
+const PACK: Operation = operation!(l.answer = pack(&mut l.pool, &mut l.storage, l.slip));
+const LENGTH: Operation = operation!(l.answer = length(&l.pool, &l.storage, l.slip));
+const READ: Operation =
+    operation!(l.answer = read(&l.pool, &l.storage, l.slip, l.offset, l.n, &mut l.output));
+const SHOW: Operation = operation!(l.shown = show(&l.pool, &l.storage, l.slip, l.n, &mut l.output));
+
+/// What is done in a case of an operation, and what the call is lent.
+type States = Vec<(&'static str, Lent)>;
+
+const NONE: Room = room(0, 0, 0);
+
+fn puts() -> States {
+    let put = |n: usize| {
+        let wanted = n.div_ceil(512);
+        let built = Builder::new(room(1, wanted, wanted));
+        built.full().data(n)
+    };
+    vec![
+        ("100 bytes: 1 new piece", put(100)),
+        ("2,000 bytes: 4 new pieces", put(2_000)),
+        ("51,100 bytes: 100 new pieces", put(51_100)),
+    ]
+}
+
+fn frees() -> States {
+    vec![
+        ("4 pieces", own(4, PIECE, NONE)),
+        ("4 pieces, shared from the third on", shared(4, 2, NONE)),
+        ("100 pieces", own(100, PIECE, NONE)),
+    ]
+}
+
+fn dups() -> States {
+    vec![("4 pieces: 1 new piece", own(4, PIECE, room(1, 1, 0)))]
+}
+
+fn cuts() -> States {
+    let cut = |pieces, wanted, offset, n| {
+        let lent = own(pieces, PIECE, room(1, wanted, 0));
+        lent.offset(offset).n(n)
+    };
+    vec![
+        (
+            "600 bytes inside 4 pieces: 3 new pieces",
+            cut(4, 3, 100, 600),
+        ),
+        (
+            "25,580 bytes of 100 pieces: 100 new pieces",
+            cut(100, 100, 10, 25_580),
+        ),
+    ]
+}
+
+fn appends() -> States {
+    let behind = |lent: Lent| lent.other(9);
+    let own = |pieces| behind(own(pieces, PIECE, NONE));
+    let shared = |pieces, from| behind(shared(pieces, from, room(0, pieces - from, 0)));
+    vec![
+        ("behind 4 pieces", own(4)),
+        (
+            "behind 4 pieces, shared from the second on: 3 new pieces",
+            shared(4, 1),
+        ),
+        ("behind 100 pieces", own(100)),
+        ("behind 100 pieces, shared: 100 new pieces", shared(100, 0)),
+    ]
+}
+
+fn drops() -> States {
+    let own = |pieces, n| own(pieces, PIECE, NONE).n(n);
+    let shared = |pieces, n| shared(pieces, 0, room(0, 1, 0)).n(n);
+    vec![
+        ("512 bytes of 4 pieces, at a border", own(4, 512)),
+        ("600 bytes of 4 pieces, inside the third", own(4, 600)),
+        ("600 bytes of 4 pieces, shared: 1 new piece", shared(4, 600)),
+        (
+            "25,500 bytes of 100 pieces, inside the last",
+            own(100, 25_500),
+        ),
+    ]
+}
+
+fn keeps() -> States {
+    let own = |pieces, n| own(pieces, PIECE, NONE).n(n);
+    let shared = |pieces, wanted, n| shared(pieces, 0, room(0, wanted, 0)).n(n);
+    vec![
+        ("600 bytes of 4 pieces, inside the third", own(4, 600)),
+        (
+            "600 bytes of 4 pieces, shared: 3 new pieces",
+            shared(4, 3, 600),
+        ),
+        (
+            "25,500 bytes of 100 pieces, inside the last",
+            own(100, 25_500),
+        ),
+        (
+            "25,500 bytes of 100 pieces, shared: 100 new pieces",
+            shared(100, 100, 25_500),
+        ),
+    ]
+}
+
+fn pullups() -> States {
+    vec![
+        (
+            "500 bytes of 4 pieces: 1 new piece",
+            own(4, PIECE, room(0, 1, 1)).n(500),
+        ),
+        (
+            "500 bytes of 4 pieces, shared: 2 new pieces",
+            shared(4, 0, room(0, 2, 1)).n(500),
+        ),
+        (
+            "498 bytes of 100 pieces of 5: 1 new piece",
+            own(100, 5, room(0, 1, 1)).n(498),
+        ),
+    ]
+}
+
+fn packs() -> States {
+    vec![
+        ("4 pieces: 2 new pieces", own(4, PIECE, room(0, 2, 2))),
+        (
+            "100 pieces: 50 new pieces",
+            own(100, PIECE, room(0, 50, 50)),
+        ),
+    ]
+}
+
+fn lengths() -> States {
+    vec![
+        ("4 pieces", own(4, PIECE, NONE)),
+        ("100 pieces", own(100, PIECE, NONE)),
+    ]
+}
+
+fn reads() -> States {
+    let read = |pieces, length, offset, n: u32| {
+        let lent = own(pieces, length, NONE);
+        lent.offset(offset).n(n).output(n as usize)
+    };
+    vec![
+        ("600 bytes inside 4 pieces", read(4, PIECE, 100, 600)),
+        ("25,580 bytes of 100 pieces", read(100, PIECE, 10, 25_580)),
+        ("490 bytes of 100 pieces of 5", read(100, 5, 6, 490)),
+    ]
+}
+
+fn shows() -> States {
+    let show = |n| own(4, PIECE, NONE).n(n).output(512);
+    vec![
+        ("200 bytes of 4 pieces, in storage", show(200)),
+        ("500 bytes of 4 pieces, copied", show(500)),
+    ]
+}
+
+/// One operation on one state of what it is lent.
+struct Case {
+    name: String,
+    operation: Operation,
+    what: &'static str,
+    lent: Lent,
+}
+
+/// Every case, named by its operation and its place among those of the operation.
+fn cases() -> Vec<Case> {
+    let all: [(Operation, fn() -> States); 12] = [
+        (PUT, puts),
+        (FREE, frees),
+        (DUP, dups),
+        (CUT, cuts),
+        (APPEND, appends),
+        (DROP, drops),
+        (KEEP, keeps),
+        (PULLUP, pullups),
+        (PACK, packs),
+        (LENGTH, lengths),
+        (READ, reads),
+        (SHOW, shows),
+    ];
+    let mut cases = Vec::new();
+    for (operation, states) in all {
+        for (i, (what, lent)) in states().into_iter().enumerate() {
+            cases.push(Case {
+                name: format!("{}-{}", operation.name, i + 1),
+                operation,
+                what,
+                lent,
+            });
+        }
+    }
+    cases
+}
+
+/// A call that does nothing with what it is lent.
+#[inline(never)]
+fn nothing(_pool: &mut [u8], _storage: &mut [u8]) -> Answer {
+    black_box(Answer { code: 0, number: 0 })
+}
+
+/// Both ways leave the same bytes and answer, done, and the pool is sound before and after.
+fn compare(case: &Case) {
+    let sound = |lent: &Lent| fulcrumnest::audit(&lent.pool, &lent.storage).code == 0;
+    assert!(sound(&case.lent), "{}: the case's pool", case.name);
+    let (mut one, mut two) = (case.lent.clone(), case.lent.clone());
+    (case.operation.library)(&mut one);
+    (case.operation.yardstick)(&mut two);
+    assert!(one == two, "{}: library and yardstick differ", case.name);
+    assert_eq!((one.answer.code, one.shown.code), (0, 0), "{}", case.name);
+    assert!(sound(&one), "{}: the pool left", case.name);
+    // All that was free is taken: the pool was full but for exactly that.
+    let slips = (0..SLIPS).map(slip_at);
+    let pieces = (0..PIECES).map(piece_at);
+    let counts = (0..BUFFERS).map(count_at);
+    for at in slips.chain(pieces).chain(counts) {
+        let taken = get16(&case.lent.pool, at) != 0 || get16(&one.pool, at) != 0;
+        assert!(taken, "{}: byte {at} stays free", case.name);
+    }
+}
+
+fn main() {
+    let args: Vec<String> = env::args().skip(1).collect();
+    let cases = cases();
+    if args.is_empty() {
+        for case in &cases {
+            println!("{}|{}|{}", case.name, case.operation.name, case.what);
+        }
+        return;
+    }
+    let case = cases.iter().find(|case| case.name == args[1]);
+    let case = case.expect("a case");
+    let times: u64 = args[2].parse().expect("a number");
+    let way: Way = match args[0].as_str() {
+        "library" => case.operation.library,
+        "audit" => |l| l.answer = fulcrumnest::audit(&l.pool, &l.storage),
+        "yardstick" => case.operation.yardstick,
+        "empty" => |l| l.answer = nothing(&mut l.pool, &mut l.storage),
+        _ => panic!("library, audit, yardstick or empty"),
+    };
+    compare(case);
+    let mut lent = case.lent.clone();
+    for _ in 0..times {
+        lent.reset(&case.lent);
+        black_box(way)(black_box(&mut lent));
+    }
+}

@@ -1,0 +1,25 @@
+//! `slp`: makes the library's calls from a file, and audits and draws pools.
+//!
+//! Exit status 0: done, refused calls too; 1: `slp audit` found the pool torn; 2: bad input, with a
+//! line on standard error that says where and what.
+
+#[cfg(fulcrumnest_lib)]
+mod command;
+#[cfg(fulcrumnest_lib)]
+mod script;
+#[cfg(fulcrumnest_lib)]
+mod session;
+
+use std::process::ExitCode;
+
+#[cfg(fulcrumnest_lib)]
+fn main() -> ExitCode {
+    command::run(std::env::args_os().skip(1).collect())
+}
+
+/// Without the archive there is no library to call.
+#[cfg(not(fulcrumnest_lib))]
+fn main() -> ExitCode {
+    eprintln!("slp: built without libslp.a, so there is nothing to call");
+    ExitCode::from(2)
+}

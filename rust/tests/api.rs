@@ -1,0 +1,556 @@
+//! The safe interface: each method done and refused, its views, its texts, and beside the model.
+#![cfg(fulcrumnest_lib)]
+
+mod common;
+
+use std::error::Error;
+
+use common::desk::data;
+use common::model::{Call, Outcome, View, NO_VIEW};
+use common::random::SHAPES;
+use common::sequence::{run_lists, setting};
+use fulcrumnest::{
+    pool_length, storage_length, Fault, Picture, Pool, Refusal, Shape, Slip, BUFFER_LENGTH,
+};
+
+const SHAPE: Shape = Shape {
+    buffers: 4,
+    pieces: 6,
+    slips: 4,
+};
+
+/// The lent memory of a pool.
+struct Memory {
+    pool: Vec<u8>,
+    storage: Vec<u8>,
+}
+
+impl Memory {
+    fn new(shape: Shape) -> Memory {
+        Memory {
+            pool: vec![0xDD; pool_length(shape)],
+            storage: vec![0xEE; storage_length(shape.buffers)],
+        }
+    }
+
+    fn open(&mut self, shape: Shape) -> Pool<'_> {
+        Pool::open(&mut self.pool, &mut self.storage, shape).expect("the lengths that it asks")
+    }
+}
+
+/// A pool of this shape, and what is done with it.
+fn with(buffers: u16, pieces: u16, slips: u16, work: impl FnOnce(Pool<'_>)) {
+    let shape = Shape {
+        buffers,
+        pieces,
+        slips,
+    };
+    work(Memory::new(shape).open(shape));
+}
+
+fn bytes(pool: &Pool<'_>, slip: Slip) -> Vec<u8> {
+    let length = pool.length(slip).expect("a held slip");
+    let mut output = vec![0; length as usize];
+    let read = pool.read(slip, 0, length, &mut output);
+    read.expect("the whole chain").to_vec()
+}
+
+#[test]
+fn open() {
+    let mut memory = Memory::new(SHAPE);
+    let pool = memory.open(SHAPE);
+    assert_eq!(pool.shape(), SHAPE);
+    assert_eq!(pool.audit(), Ok(()));
+    let mut fresh = b"SLP\x01\x00\x04\x00\x06\x00\x04\x00".to_vec();
+    fresh.resize(87, 0);
+    assert_eq!(memory.pool, fresh);
+    assert!(memory.storage.iter().all(|byte| *byte == 0xEE));
+}
+
+#[test]
+fn open_refused() {
+    let shapes = [(0, 6, 4), (4, 0, 4), (4, 6, 0), (129, 6, 4), (4, 257, 4)];
+    for (buffers, pieces, slips) in shapes.into_iter().chain([(4, 6, 65)]) {
+        let shape = Shape {
+            buffers,
+            pieces,
+            slips,
+        };
+        let mut memory = Memory::new(shape);
+        let refused = Pool::open(&mut memory.pool, &mut memory.storage, shape);
+        assert_eq!(refused.unwrap_err(), Refusal::Counts, "{shape:?}");
+        assert!(memory.pool.iter().all(|byte| *byte == 0xDD));
+        assert!(!shape.in_range());
+    }
+    let mut memory = Memory::new(SHAPE);
+    let short = Pool::open(&mut memory.pool[1..], &mut memory.storage, SHAPE);
+    assert_eq!(short.unwrap_err(), Refusal::Counts);
+    let short = Pool::open(&mut memory.pool, &mut memory.storage[..2047], SHAPE);
+    assert_eq!(short.unwrap_err(), Refusal::Counts);
+    let none = Pool::open(&mut [], &mut [], SHAPE);
+    assert_eq!(none.unwrap_err(), Refusal::Counts);
+}
+
+/// The lengths are those that open takes, for every shape that is tried.
+#[test]
+fn lengths() {
+    for &(buffers, pieces, slips) in SHAPES {
+        with(buffers, pieces, slips, |pool| {
+            assert!(pool.shape().in_range());
+            assert_eq!(pool.audit(), Ok(()));
+        });
+    }
+    assert_eq!(pool_length(SHAPE), 87);
+    assert_eq!(pool_length(Shape::MOST), 11 + 128 + 2560 + 256);
+    assert_eq!(storage_length(128), 65_536);
+}
+
+#[test]
+fn attach() {
+    let mut memory = Memory::new(SHAPE);
+    let slip = memory.open(SHAPE).put(b"kept").unwrap();
+    let pool = Pool::attach(&mut memory.pool, &mut memory.storage).unwrap();
+    assert_eq!(bytes(&pool, slip), b"kept");
+    assert_eq!(pool.shape(), SHAPE);
+    // Any byte that is off tears the pool, but for the offset and the length of a piece in use.
+    let mut sound = Vec::new();
+    for at in 0..memory.pool.len() {
+        let mut other = memory.pool.clone();
+        other[at] ^= 0x81;
+        let before = other.clone();
+        let refused = Pool::attach(&mut other, &mut memory.storage).err();
+        assert_eq!(other, before);
+        let fault = Picture::new(&other, &memory.storage).fault();
+        match (refused, fault) {
+            (Some(Refusal::Torn), Some(_)) => (),
+            (None, None) => sound.push(at),
+            differ => panic!("byte {at}: {differ:?}"),
+        }
+    }
+    assert_eq!(sound, [23, 25]);
+    let none = Pool::attach(&mut [], &mut []);
+    assert_eq!(none.unwrap_err(), Refusal::Torn);
+}
+
+#[test]
+fn put() {
+    with(4, 6, 4, |mut pool| {
+        assert_eq!(pool.put(&data(2049)), Err(Refusal::Buffers));
+        assert_eq!(pool.put(&data(600)), Ok(Slip(0)));
+        assert_eq!(bytes(&pool, Slip(0)), data(600));
+        assert_eq!(pool.put(&[]), Ok(Slip(1)));
+        assert_eq!(pool.length(Slip(1)), Ok(0));
+    });
+    with(2, 1, 2, |mut pool| {
+        assert_eq!(pool.put(&data(513)), Err(Refusal::Pieces));
+        assert_eq!(pool.put(&data(512)), Ok(Slip(0)));
+        assert_eq!(pool.put(&[]), Ok(Slip(1)));
+        assert_eq!(pool.put(&[]), Err(Refusal::Slips));
+    });
+}
+
+#[test]
+fn free() {
+    with(4, 6, 4, |mut pool| {
+        let slip = pool.put(&data(2048)).unwrap();
+        assert_eq!(pool.put(b"more"), Err(Refusal::Buffers));
+        assert_eq!(pool.free(slip), Ok(()));
+        assert_eq!(pool.free(slip), Err(Refusal::Slip));
+        assert_eq!(pool.free(Slip(4)), Err(Refusal::Slip));
+        assert_eq!(pool.free(Slip(u16::MAX)), Err(Refusal::Slip));
+        assert_eq!(pool.put(b"more"), Ok(slip));
+    });
+}
+
+#[test]
+fn dup() {
+    with(4, 3, 3, |mut pool| {
+        let slip = pool.put(&data(600)).unwrap();
+        assert_eq!(pool.dup(slip), Ok(Slip(1)));
+        assert_eq!(bytes(&pool, Slip(1)), data(600));
+        assert_eq!(pool.dup(Slip(2)), Err(Refusal::Slip));
+        assert_eq!(pool.dup(slip), Err(Refusal::Pieces));
+        assert_eq!(pool.put(&[]), Ok(Slip(2)));
+        assert_eq!(pool.dup(slip), Err(Refusal::Slips));
+    });
+}
+
+#[test]
+fn cut() {
+    with(4, 4, 3, |mut pool| {
+        let slip = pool.put(&data(600)).unwrap();
+        assert_eq!(pool.cut(slip, 500, 50), Ok(Slip(1)));
+        assert_eq!(bytes(&pool, Slip(1)), data(600)[500..550]);
+        assert_eq!(pool.cut(Slip(2), 0, 0), Err(Refusal::Slip));
+        assert_eq!(pool.cut(slip, 600, 1), Err(Refusal::Range));
+        assert_eq!(pool.cut(slip, 601, 0), Err(Refusal::Range));
+        assert_eq!(pool.cut(slip, 1, u32::MAX), Err(Refusal::Range));
+        assert_eq!(pool.cut(slip, 0, 1), Err(Refusal::Pieces));
+        assert_eq!(pool.cut(slip, 600, 0), Ok(Slip(2)));
+        assert_eq!(pool.cut(slip, 0, 0), Err(Refusal::Slips));
+    });
+}
+
+#[test]
+fn append() {
+    with(4, 5, 4, |mut pool| {
+        let (a, b) = (pool.put(b"one, ").unwrap(), pool.put(b"two").unwrap());
+        let other = pool.dup(a).unwrap();
+        assert_eq!(pool.append(a, a), Err(Refusal::Same));
+        assert_eq!(pool.append(a, Slip(3)), Err(Refusal::Slip));
+        assert_eq!(pool.append(Slip(9), Slip(9)), Err(Refusal::Slip));
+        assert_eq!(pool.append(a, b), Ok(()));
+        assert_eq!(bytes(&pool, a), b"one, two");
+        assert_eq!(bytes(&pool, other), b"one, ");
+        assert_eq!(pool.length(b), Err(Refusal::Slip));
+    });
+    with(3, 3, 3, |mut pool| {
+        let a = pool.put(&data(1)).unwrap();
+        pool.dup(a).unwrap();
+        let b = pool.put(&data(1)).unwrap();
+        // The first slip's head is its own: nothing is wanted, though no piece is free.
+        assert_eq!(pool.append(a, b), Ok(()));
+    });
+}
+
+/// Two slips run into one piece behind their heads: to change it behind one of them wants a piece.
+fn shared(pool: &mut Pool<'_>) -> (Slip, Slip) {
+    let slip = pool.put(&data(600)).unwrap();
+    let other = pool.dup(slip).unwrap();
+    (slip, other)
+}
+
+#[test]
+fn append_wants_pieces() {
+    with(4, 4, 3, |mut pool| {
+        let (slip, other) = shared(&mut pool);
+        let more = pool.put(b"more").unwrap();
+        assert_eq!(pool.append(slip, more), Err(Refusal::Pieces));
+        assert_eq!(pool.length(more), Ok(4));
+        pool.free(other).unwrap();
+        assert_eq!(pool.append(slip, more), Ok(()));
+        assert_eq!(pool.length(slip), Ok(604));
+    });
+}
+
+#[test]
+fn drop_bytes() {
+    with(4, 3, 3, |mut pool| {
+        let (slip, other) = shared(&mut pool);
+        assert_eq!(pool.drop(Slip(2), 0), Err(Refusal::Slip));
+        assert_eq!(pool.drop(slip, 601), Err(Refusal::Range));
+        assert_eq!(pool.drop(slip, 520), Err(Refusal::Pieces));
+        assert_eq!(pool.drop(slip, 512), Ok(()));
+        assert_eq!(bytes(&pool, slip), data(600)[512..]);
+        assert_eq!(bytes(&pool, other), data(600));
+        assert_eq!(pool.drop(slip, 88), Ok(()));
+        assert_eq!(pool.length(slip), Ok(0));
+    });
+}
+
+#[test]
+fn keep() {
+    with(4, 3, 3, |mut pool| {
+        let (slip, other) = shared(&mut pool);
+        assert_eq!(pool.keep(Slip(2), 0), Err(Refusal::Slip));
+        assert_eq!(pool.keep(slip, 601), Err(Refusal::Range));
+        assert_eq!(pool.keep(slip, 599), Err(Refusal::Pieces));
+        assert_eq!(pool.keep(slip, 600), Ok(()));
+        assert_eq!(pool.keep(slip, 500), Ok(()));
+        assert_eq!(bytes(&pool, slip), data(500));
+        assert_eq!(bytes(&pool, other), data(600));
+        assert_eq!(pool.keep(slip, 0), Ok(()));
+        assert_eq!(pool.length(slip), Ok(0));
+    });
+}
+
+#[test]
+fn pullup() {
+    with(4, 6, 4, |mut pool| {
+        let slip = pool.put(&data(10)).unwrap();
+        let rest = pool.put(&data(600)).unwrap();
+        assert_eq!(pool.append(slip, rest), Ok(()));
+        let before = bytes(&pool, slip);
+        assert_eq!(pool.show(slip, 20, &mut []), Err(Refusal::Narrow));
+        assert_eq!(pool.pullup(slip, 20), Ok(()));
+        assert_eq!(pool.show(slip, 20, &mut []).unwrap(), &before[..20]);
+        assert_eq!(bytes(&pool, slip), before);
+        assert_eq!(pool.pullup(Slip(1), 0), Err(Refusal::Slip));
+        assert_eq!(pool.pullup(slip, 513), Err(Refusal::Long));
+        let short = pool.put(&data(5)).unwrap();
+        assert_eq!(pool.pullup(short, 6), Err(Refusal::Range));
+        assert_eq!(pool.pullup(short, 513), Err(Refusal::Long));
+    });
+    with(3, 2, 2, |mut pool| {
+        let (slip, rest) = (pool.put(b"a").unwrap(), pool.put(b"b").unwrap());
+        pool.append(slip, rest).unwrap();
+        assert_eq!(pool.pullup(slip, 2), Err(Refusal::Pieces));
+    });
+    with(2, 4, 2, |mut pool| {
+        let (slip, rest) = (pool.put(b"a").unwrap(), pool.put(b"b").unwrap());
+        pool.append(slip, rest).unwrap();
+        assert_eq!(pool.pullup(slip, 2), Err(Refusal::Buffers));
+        assert_eq!(bytes(&pool, slip), b"ab");
+    });
+}
+
+#[test]
+fn pack() {
+    with(4, 6, 4, |mut pool| {
+        let (slip, rest) = (pool.put(b"one ").unwrap(), pool.put(b"piece").unwrap());
+        pool.append(slip, rest).unwrap();
+        assert_eq!(pool.pack(slip), Ok(()));
+        assert_eq!(pool.show(slip, 9, &mut []).unwrap(), b"one piece");
+        assert_eq!(pool.pack(Slip(1)), Err(Refusal::Slip));
+    });
+    with(3, 2, 2, |mut pool| {
+        let (slip, rest) = (pool.put(b"a").unwrap(), pool.put(b"b").unwrap());
+        pool.append(slip, rest).unwrap();
+        assert_eq!(pool.pack(slip), Err(Refusal::Pieces));
+    });
+    with(2, 4, 2, |mut pool| {
+        let (slip, rest) = (pool.put(b"a").unwrap(), pool.put(b"b").unwrap());
+        pool.append(slip, rest).unwrap();
+        assert_eq!(pool.pack(slip), Err(Refusal::Buffers));
+    });
+}
+
+#[test]
+fn length() {
+    with(4, 6, 4, |mut pool| {
+        let slip = pool.put(&data(600)).unwrap();
+        assert_eq!(pool.length(slip), Ok(600));
+        assert_eq!(pool.length(Slip(1)), Err(Refusal::Slip));
+        assert_eq!(pool.length(Slip(4)), Err(Refusal::Slip));
+    });
+}
+
+#[test]
+fn read() {
+    with(4, 6, 4, |mut pool| {
+        let slip = pool.put(&data(600)).unwrap();
+        let mut output = [0x99; 40];
+        let read = pool.read(slip, 500, 30, &mut output).unwrap();
+        assert_eq!(read, &data(600)[500..530]);
+        assert_eq!(output[30..], [0x99; 10]);
+        let mut output = [0x99; 40];
+        for (slip, offset, length, refusal) in [
+            (Slip(1), 0, 0, Refusal::Slip),
+            (slip, 600, 1, Refusal::Range),
+            (slip, 601, 0, Refusal::Range),
+            (slip, u32::MAX, 2, Refusal::Range),
+            (slip, 0, 41, Refusal::Narrow),
+        ] {
+            let refused = pool.read(slip, offset, length, &mut output);
+            assert_eq!(refused, Err(refusal));
+        }
+        assert_eq!(output, [0x99; 40]);
+        assert_eq!(pool.read(slip, 600, 0, &mut []).unwrap(), b"");
+    });
+}
+
+/// A view is a part of storage where the first piece has the bytes, and else of the scratch.
+#[test]
+fn show() {
+    let mut memory = Memory::new(SHAPE);
+    let storage = memory.storage.as_ptr_range();
+    let mut pool = memory.open(SHAPE);
+    let slip = pool.put(&data(10)).unwrap();
+    let rest = pool.put(&data(600)).unwrap();
+    pool.append(slip, rest).unwrap();
+    let mut scratch = [0x99; BUFFER_LENGTH];
+    let place = scratch.as_ptr_range();
+
+    let view = pool.show(slip, 10, &mut scratch).unwrap();
+    assert_eq!(view, data(10));
+    assert!(storage.contains(&view.as_ptr()));
+    assert_eq!(scratch, [0x99; BUFFER_LENGTH]);
+
+    let view = pool.show(slip, 20, &mut scratch).unwrap();
+    assert_eq!(view, [data(10), data(10)].concat());
+    assert!(place.contains(&view.as_ptr()));
+    assert_eq!(scratch[20..], [0x99; BUFFER_LENGTH - 20]);
+
+    // Two views of one pool at a time, and each lives as long as pool and its own scratch.
+    let (mut one, mut other) = ([0; 512], [0; 512]);
+    let first = pool.show(slip, 20, &mut one).unwrap();
+    let second = pool.show(slip, 10, &mut other).unwrap();
+    assert_eq!(first[..10], second[..]);
+
+    let mut small = [0x99; 19];
+    assert_eq!(pool.show(slip, 20, &mut small), Err(Refusal::Narrow));
+    assert_eq!(pool.show(slip, 513, &mut small), Err(Refusal::Long));
+    assert_eq!(pool.show(Slip(1), 0, &mut small), Err(Refusal::Slip));
+    assert_eq!(small, [0x99; 19]);
+    assert_eq!(pool.show(slip, 0, &mut []).unwrap(), b"");
+    let short = pool.put(b"short").unwrap();
+    assert_eq!(pool.show(short, 6, &mut small), Err(Refusal::Range));
+}
+
+/// A view outlives the borrow of the pool's name, not the pool: it can be handed back.
+#[test]
+fn views_are_handed_back() {
+    fn front<'v>(pool: &'v Pool<'_>, slip: Slip, scratch: &'v mut [u8]) -> &'v [u8] {
+        pool.show(slip, 4, scratch).unwrap_or_default()
+    }
+    with(4, 6, 4, |mut pool| {
+        let slip = pool.put(b"front and rest").unwrap();
+        assert_eq!(front(&pool, slip, &mut [0; 4]), b"fron");
+        assert_eq!(front(&pool, Slip(3), &mut [0; 4]), b"");
+    });
+}
+
+/// A refused call leaves every byte of pool and storage.
+#[test]
+fn refusals_change_nothing() {
+    let mut memory = Memory::new(SHAPE);
+    let mut pool = memory.open(SHAPE);
+    let (slip, _) = shared(&mut pool);
+    pool.put(&data(1024)).unwrap();
+    let before = (memory.pool.clone(), memory.storage.clone());
+    let mut pool = Pool::attach(&mut memory.pool, &mut memory.storage).unwrap();
+    assert_eq!(pool.put(&data(513)), Err(Refusal::Pieces));
+    assert_eq!(pool.free(Slip(3)), Err(Refusal::Slip));
+    assert_eq!(pool.cut(slip, 0, 600), Err(Refusal::Pieces));
+    assert_eq!(pool.append(slip, slip), Err(Refusal::Same));
+    assert_eq!(pool.drop(slip, 601), Err(Refusal::Range));
+    assert_eq!(pool.keep(slip, 601), Err(Refusal::Range));
+    assert_eq!(pool.pullup(slip, 513), Err(Refusal::Long));
+    assert_eq!(pool.pack(slip), Err(Refusal::Pieces));
+    assert_eq!((memory.pool, memory.storage), before);
+}
+
+#[test]
+fn texts() {
+    let texts = [
+        "1 COUNTS: open: a count outside its range, or a lent length not the one it asks",
+        "2 TORN: the pool isn't sound",
+        "3 SLIP: a named slip is S or more, or vacant",
+        "4 SAME: append names one slip twice",
+        "5 LONG: pullup or show asks more than 512",
+        "6 RANGE: the asked bytes reach past the chain's end, as whole numbers",
+        "7 NARROW: the lent output can't take the bytes to be copied",
+        "8 SLIPS: a new slip is wanted and none is vacant",
+        "9 PIECES: more new pieces wanted than free",
+        "10 BUFFERS: more new buffers wanted than free",
+    ];
+    for (refusal, text) in Refusal::ALL.iter().copied().zip(texts) {
+        assert_eq!(refusal.to_string(), text);
+        assert_eq!(Refusal::from_code(refusal.code()), Some(refusal));
+        let error: Box<dyn Error> = Box::new(refusal);
+        assert_eq!(error.to_string(), text);
+    }
+    assert_eq!(Refusal::ALL.len(), texts.len());
+    assert!(Refusal::ALL.windows(2).all(|pair| pair[0] < pair[1]));
+    assert_eq!(Refusal::from_code(0), None);
+    assert_eq!(Refusal::from_code(11), None);
+    assert_eq!(Slip(3).to_string(), "slip 3");
+    with(4, 6, 4, |pool| {
+        let text = "Pool { shape: Shape { buffers: 4, pieces: 6, slips: 4 }, .. }";
+        assert_eq!(format!("{pool:?}"), text);
+    });
+}
+
+/// Errors pass through `?`, with those of the standard library too.
+#[test]
+fn errors_pass() -> Result<(), Box<dyn Error>> {
+    let mut memory = Memory::new(SHAPE);
+    let mut pool = Pool::open(&mut memory.pool, &mut memory.storage, SHAPE)?;
+    let slip = pool.put(b"12")?;
+    let mut output = [0; 2];
+    let amount: u32 = std::str::from_utf8(pool.read(slip, 0, 2, &mut output)?)?.parse()?;
+    assert_eq!(amount, 12);
+    let fault: Option<Fault> = pool.picture().fault();
+    assert_eq!(fault, None);
+    Ok(())
+}
+
+/// One call by the safe interface on copies of the lent bytes.
+fn step(pool: &[u8], storage: &[u8], call: &Call) -> Outcome {
+    let (mut pool, mut storage) = (pool.to_vec(), storage.to_vec());
+    let mut lent = call.lent().to_vec();
+    let answer = answer(&mut pool, &mut storage, &mut lent, call);
+    let (code, (number, view)) = match answer {
+        Ok(done) => (0, done),
+        Err(refusal) => (refusal.code(), (0, NO_VIEW)),
+    };
+    Outcome {
+        code,
+        number,
+        view,
+        pool,
+        storage,
+        lent,
+    }
+}
+
+fn answer(
+    pool: &mut [u8],
+    storage: &mut [u8],
+    lent: &mut [u8],
+    call: &Call,
+) -> Result<(u64, View), Refusal> {
+    if let Call::Open {
+        buffers,
+        pieces,
+        slips,
+    } = *call
+    {
+        let shape = Shape {
+            buffers,
+            pieces,
+            slips,
+        };
+        return Pool::open(pool, storage, shape).map(|_| (0, NO_VIEW));
+    }
+    let start = storage.as_ptr() as usize;
+    let scratch = lent.as_ptr_range();
+    let mut pool = Pool::attach(pool, storage)?;
+    let slipped = |slip: Slip| u64::from(slip.0);
+    let number = match call {
+        Call::Open { .. } | Call::Audit => pool.audit().map(|()| 0)?,
+        Call::Put { data } => pool.put(data).map(slipped)?,
+        Call::Free { slip } => pool.free(Slip(*slip)).map(|()| 0)?,
+        Call::Dup { slip } => pool.dup(Slip(*slip)).map(slipped)?,
+        Call::Cut {
+            slip,
+            offset,
+            length,
+        } => pool.cut(Slip(*slip), *offset, *length).map(slipped)?,
+        Call::Append { a, b } => pool.append(Slip(*a), Slip(*b)).map(|()| 0)?,
+        Call::Drop { slip, n } => pool.drop(Slip(*slip), *n).map(|()| 0)?,
+        Call::Keep { slip, n } => pool.keep(Slip(*slip), *n).map(|()| 0)?,
+        Call::Pullup { slip, n } => pool.pullup(Slip(*slip), *n).map(|()| 0)?,
+        Call::Pack { slip } => pool.pack(Slip(*slip)).map(|()| 0)?,
+        Call::Length { slip } => pool.length(Slip(*slip)).map(u64::from)?,
+        Call::Read {
+            slip,
+            offset,
+            length,
+            ..
+        } => pool.read(Slip(*slip), *offset, *length, lent)?.len() as u64,
+        Call::Show { slip, n, .. } => {
+            let view = pool.show(Slip(*slip), *n, lent)?;
+            let in_scratch = *n > 0 && scratch.contains(&view.as_ptr());
+            let from = if in_scratch {
+                scratch.start as usize
+            } else {
+                start
+            };
+            let start = (view.as_ptr() as usize - from) as u64;
+            return Ok((view.len() as u64, View { in_scratch, start }));
+        }
+    };
+    Ok((number, NO_VIEW))
+}
+
+paper_cases!(step);
+
+/// Random lists by the safe interface: code, number, view and every byte as the model has them.
+#[test]
+fn random_lists() {
+    let calls = setting("FULCRUMNEST_CALLS", 1_000_000) / 10;
+    let seed = setting("FULCRUMNEST_SEED", 2_000_000);
+    let tally = run_lists(Some(step), seed, calls, SHAPES);
+    assert_eq!(tally.calls, calls);
+}

@@ -1,0 +1,459 @@
+//! The command `slp`: what it prints, where and what it says of bad input, and its exit status.
+#![cfg(fulcrumnest_lib)]
+
+mod common;
+
+use std::fs;
+use std::io::Write;
+use std::path::PathBuf;
+use std::process::{Command, Stdio};
+
+use common::xml::{self, Element};
+use fulcrumnest::Refusal;
+
+/// What a run of the command left.
+struct Left {
+    out: String,
+    err: String,
+    status: i32,
+}
+
+/// Runs the command in the package's directory with this standard input.
+fn slp(arguments: &[&str], input: &[u8]) -> Left {
+    let mut child = Command::new(env!("CARGO_BIN_EXE_slp"))
+        .args(arguments)
+        .current_dir(env!("CARGO_MANIFEST_DIR"))
+        .stdin(Stdio::piped())
+        .stdout(Stdio::piped())
+        .stderr(Stdio::piped())
+        .spawn()
+        .expect("the command starts");
+    // A command that stops early has closed its input, and that is no failure of this test.
+    let _ = child.stdin.take().expect("piped").write_all(input);
+    let left = child.wait_with_output().expect("the command ends");
+    Left {
+        out: String::from_utf8(left.stdout).expect("text"),
+        err: String::from_utf8(left.stderr).expect("text"),
+        status: left.status.code().expect("an exit status"),
+    }
+}
+
+/// Runs calls from standard input, all of which are answered.
+fn answers(calls: &str) -> String {
+    let left = slp(&["run", "-"], calls.as_bytes());
+    assert_eq!((left.err.as_str(), left.status), ("", 0), "{calls}");
+    left.out
+}
+
+/// An empty directory of this test's own.
+fn directory(name: &str) -> PathBuf {
+    let place = PathBuf::from(env!("CARGO_TARGET_TMPDIR")).join(name);
+    let _ = fs::remove_dir_all(&place);
+    fs::create_dir_all(&place).expect("a directory");
+    place
+}
+
+fn named(place: &std::path::Path, file: &str) -> String {
+    let path = place.join(file);
+    path.to_str().expect("a path in UTF-8").to_string()
+}
+
+const MORNING: &str = include_str!("morning.out");
+
+#[test]
+fn morning() {
+    for arguments in [
+        ["run", "tests/morning.slp", "--draw"],
+        ["run", "--draw", "tests/morning.slp"],
+    ] {
+        let left = slp(&arguments, b"");
+        assert_eq!(left.out, MORNING);
+        assert_eq!((left.err.as_str(), left.status), ("", 0));
+    }
+}
+
+/// Without the drawings there is one line a call, and the bytes under a read.
+#[test]
+fn morning_without_drawings() {
+    let left = slp(&["run", "tests/morning.slp"], b"");
+    let answer = |line: &&str| {
+        let words = ["slip", "buffers", "pieces"];
+        let indented = line.strip_prefix("  ");
+        let drawing = |line: &str| words.iter().any(|word| line.starts_with(word));
+        !line.is_empty() && !indented.is_some_and(drawing)
+    };
+    let wanted: Vec<&str> = MORNING.lines().filter(answer).collect();
+    let got: Vec<&str> = left.out.lines().collect();
+    assert_eq!(got, wanted);
+    assert_eq!(got.len(), 12 + 3);
+    let read = "  32  1E 1F 20 21 22 23 24 25                          .. !\"#$%";
+    assert_eq!(got[13], read);
+}
+
+/// The edges of document 01, each in a fresh pool; refusals are answers.
+#[test]
+fn edges() {
+    let calls = "\
+pool 4 6 4
+put 512
+put 513
+pool 4 6 4
+put 2048
+pool 4 6 4
+put 2049
+pool 4 6 4
+put 600
+cut 0 600 0
+cut 0 601 0
+pool 4 6 4
+put 10
+pullup 0 513
+append 0 0
+append 1 1
+pool 0 6 4
+pool 4 257 4
+length 0
+";
+    let wanted = "\
+pool 4 6 4 -> done
+put 512 -> slip 0
+put 513 -> slip 1
+pool 4 6 4 -> done
+put 2048 -> slip 0
+pool 4 6 4 -> done
+put 2049 -> 10 BUFFERS
+pool 4 6 4 -> done
+put 600 -> slip 0
+cut 0 600 0 -> slip 1
+cut 0 601 0 -> 6 RANGE
+pool 4 6 4 -> done
+put 10 -> slip 0
+pullup 0 513 -> 5 LONG
+append 0 0 -> 4 SAME
+append 1 1 -> 3 SLIP
+pool 0 6 4 -> 1 COUNTS
+pool 4 257 4 -> 1 COUNTS
+length 0 -> 10
+";
+    assert_eq!(answers(calls), wanted);
+}
+
+/// Every call once, with spaces, comments and texts as they may be written.
+#[test]
+fn every_call() {
+    let calls = "
+# a comment, and a blank line before it
+  pool\t4 6 4   # behind a call
+put \"pay # 7\"   # a text may have a mark
+put \"\\\"\\\\\\n\\r\\t\\0\\x41\u{e9}\"
+put \"\"
+put 3
+free 03
+append 0 1
+length 0
+read 0 4 11
+show 0 7
+show 0 9
+show 2 0
+dup 0
+cut 0 1 2
+keep 0 8
+drop 0 6
+pullup 0 2
+pack 0
+read 0 0 2
+audit
+free 9
+read 0 0 4294967295";
+    let wanted = "\
+pool 4 6 4 -> done
+put \"pay # 7\" -> slip 0
+put \"\\\"\\\\\\n\\r\\t\\0\\x41\u{e9}\" -> slip 1
+put \"\" -> slip 2
+put 3 -> slip 3
+free 3 -> done
+append 0 1 -> done
+length 0 -> 16
+read 0 4 11 -> 11
+   0  23 20 37 22 5C 0A 0D 09 00 41 C3                 # 7\"\\....A.
+show 0 7 -> 7 in storage from 0
+  0  70 61 79 20 23 20 37                             pay # 7
+show 0 9 -> 9 in scratch
+  0  70 61 79 20 23 20 37 22 5C                       pay # 7\"\\
+show 2 0 -> 0 in storage from 0
+dup 0 -> slip 1
+cut 0 1 2 -> slip 3
+keep 0 8 -> done
+drop 0 6 -> done
+pullup 0 2 -> done
+pack 0 -> done
+read 0 0 2 -> 2
+  0  37 22                                            7\"
+audit -> done
+free 9 -> 3 SLIP
+read 0 0 4294967295 -> 6 RANGE
+";
+    assert_eq!(answers(calls), wanted);
+    let windows = calls.replace('\n', "\r\n");
+    assert_eq!(answers(&windows), wanted);
+}
+
+/// Each bad line, and what is said of it: the place, then what is wrong.
+#[test]
+fn bad_lines() {
+    for (line, what) in [
+        ("pit 600", "'pit' is no call; 'slp help' lists them"),
+        ("Put 600", "'Put' is no call; 'slp help' lists them"),
+        ("put", "put takes BYTES or a \"text\", 0 given"),
+        ("put 1 2", "put takes BYTES or a \"text\", 2 given"),
+        ("pool 4 6", "pool takes BUFFERS PIECES SLIPS, 2 given"),
+        ("audit 0", "audit takes nothing, 1 given"),
+        ("cut 0 500", "cut takes SLIP OFFSET LENGTH, 2 given"),
+        ("append 1", "append takes SLIP SLIP, 1 given"),
+        ("free x", "free: SLIP 'x' is not a whole number"),
+        ("free -1", "free: SLIP '-1' is not a whole number"),
+        ("free +1", "free: SLIP '+1' is not a whole number"),
+        ("drop 0 5.5", "drop: N '5.5' is not a whole number"),
+        ("free 65536", "free: SLIP '65536' is above 65535"),
+        ("pool 65536 1 1", "pool: BUFFERS '65536' is above 65535"),
+        (
+            "cut 0 4294967296 1",
+            "cut: OFFSET '4294967296' is above 4294967295",
+        ),
+        (
+            "read 0 0 99999999999999999999999",
+            "read: LENGTH '99999999999999999999999' is above 4294967295",
+        ),
+        ("put 16777217", "put: BYTES '16777217' is above 16777216"),
+        ("put \"open", "put: the text has no closing quote"),
+        ("put \"open\\", "put: the text has no closing quote"),
+        ("put \"a\" b", "put: 'b' stands behind the text"),
+        ("put \"\\q\"", "put: '\\q' stands for nothing"),
+        ("put \"\\x4\"", "put: '\\x4\"' wants two hexadecimal digits"),
+        ("put \"\\x+4\"", "put: '\\x+4' wants two hexadecimal digits"),
+    ] {
+        let calls = format!("pool 4 6 4\n\nput 600\n{line}\nfree 0\n");
+        let left = slp(&["run", "-"], calls.as_bytes());
+        assert_eq!(left.err, format!("-:4: {what}\n"), "{line}");
+        assert_eq!(left.status, 2, "{line}");
+        // What was answered before is there, and nothing behind.
+        assert_eq!(left.out, "pool 4 6 4 -> done\nput 600 -> slip 0\n");
+    }
+}
+
+#[test]
+fn bad_files() {
+    let place = directory("bad-files");
+    let file = named(&place, "calls.slp");
+    fs::write(&file, "# nothing is open yet\nput 600\n").unwrap();
+    let left = slp(&["run", &file, "--draw"], b"");
+    let what = "no pool is open; 'pool BUFFERS PIECES SLIPS' opens one";
+    assert_eq!(left.err, format!("{file}:2: {what}\n"));
+    assert_eq!((left.out.as_str(), left.status), ("", 2));
+
+    // A refused pool is an answer, and leaves none open.
+    let left = slp(&["run", "-"], b"pool 0 1 1\naudit\n");
+    assert_eq!(left.err, format!("-:2: {what}\n"));
+    assert_eq!(
+        (left.out.as_str(), left.status),
+        ("pool 0 1 1 -> 1 COUNTS\n", 2)
+    );
+
+    fs::write(&file, b"pool 4 6 4\nput \"\xFF\"\n").unwrap();
+    let left = slp(&["run", &file], b"");
+    assert_eq!(left.err, format!("{file}:2: the line is not UTF-8 text\n"));
+    assert_eq!(
+        (left.out.as_str(), left.status),
+        ("pool 4 6 4 -> done\n", 2)
+    );
+
+    let none = named(&place, "none");
+    for arguments in [
+        &["run", &none][..],
+        &["save", &none, &file, &none],
+        &["audit", &none, &file],
+        &["audit", &file, &none],
+        &["draw", &none, &file],
+        &["draw", "--svg", &file, &none],
+    ] {
+        let left = slp(arguments, b"");
+        let start = format!("{none}: can't be read: ");
+        assert!(left.err.starts_with(&start), "{}", left.err);
+        assert_eq!(left.err.lines().count(), 1);
+        assert_eq!((left.out.as_str(), left.status), ("", 2));
+    }
+    let here = named(&place, "");
+    let left = slp(&["run", &here], b"");
+    assert!(left.err.starts_with(&format!("{here}: can't be read: ")));
+    assert_eq!(left.status, 2);
+}
+
+#[test]
+fn bad_arguments() {
+    let run = "it is 'slp run FILE [--draw]'";
+    let save = "it is 'slp save FILE POOL STORAGE [--draw]'";
+    let audit = "it is 'slp audit POOL STORAGE'";
+    let draw = "it is 'slp draw POOL STORAGE [--svg]'";
+    for (arguments, what) in [
+        (&[][..], "no command; 'slp help' lists them".to_string()),
+        (
+            &["walk"],
+            "'walk' is no command; 'slp help' lists them".to_string(),
+        ),
+        (&["run"], format!("too few names; {run}")),
+        (&["run", "a", "b"], format!("too many names; {run}")),
+        (
+            &["run", "a", "--svg"],
+            format!("'--svg' is no flag here; {run}"),
+        ),
+        (&["save", "a", "b"], format!("too few names; {save}")),
+        (&["audit", "a"], format!("too few names; {audit}")),
+        (
+            &["audit", "a", "b", "--draw"],
+            format!("'--draw' is no flag here; {audit}"),
+        ),
+        (&["draw", "a"], format!("too few names; {draw}")),
+        (
+            &["draw", "a", "b", "--"],
+            format!("'--' is no flag here; {draw}"),
+        ),
+    ] {
+        let left = slp(arguments, b"");
+        assert_eq!(left.err, format!("slp: {what}\n"));
+        assert_eq!((left.out.as_str(), left.status), ("", 2));
+    }
+}
+
+#[test]
+fn help() {
+    let left = slp(&["help"], b"");
+    assert_eq!((left.err.as_str(), left.status), ("", 0));
+    for name in [
+        "pool", "audit", "put", "free", "dup", "cut", "append", "drop", "keep", "pullup", "pack",
+        "length", "read", "show",
+    ] {
+        let call = |line: &str| line.split_whitespace().next() == Some(name);
+        assert!(left.out.lines().any(call), "{name}");
+    }
+    for refusal in Refusal::ALL {
+        assert!(left.out.contains(refusal.word()));
+        assert!(left.out.contains(refusal.meaning()));
+    }
+    assert!(left.out.lines().all(|line| line.len() <= 84));
+    assert_eq!(slp(&["--help"], b"").out, left.out);
+}
+
+/// A run saved, audited and drawn again.
+#[test]
+fn save_audit_draw() {
+    let place = directory("save-audit-draw");
+    let (pool, storage) = (named(&place, "pool"), named(&place, "storage"));
+    let calls = b"pool 4 6 4\nput 600\ncut 0 500 50\ndup 0\n";
+    let left = slp(&["save", "-", &pool, &storage, "--draw"], calls);
+    assert_eq!((left.err.as_str(), left.status), ("", 0));
+    // The first four blocks of the morning.
+    assert!(MORNING.starts_with(&left.out));
+    assert_eq!(left.out.matches("\n\n").count(), 4);
+    assert_eq!(fs::read(&pool).unwrap().len(), 87);
+    assert_eq!(fs::read(&storage).unwrap().len(), 2048);
+
+    let left = slp(&["audit", &pool, &storage], b"");
+    assert_eq!((left.out.as_str(), left.status), ("audit -> done\n", 0));
+    let drawing = "\
+slip 0  600 bytes  p0[b0 0+512] > p1[b1 0+88]x2
+slip 1   50 bytes  p2[b0 500+12] > p3[b1 0+38]
+slip 2  600 bytes  p4[b0 0+512] > p1[b1 0+88]x2
+slip 3  vacant
+buffers  b0 x3  b1 x2  b2 free  b3 free
+pieces   5 in use, 1 free
+";
+    let left = slp(&["draw", &pool, &storage], b"");
+    assert_eq!((left.out.as_str(), left.status), (drawing, 0));
+
+    // Piece 1 loses a reference that it counts.
+    let mut bytes = fs::read(&pool).unwrap();
+    bytes[11 + 8 + 10] = 1;
+    fs::write(&pool, bytes).unwrap();
+    let left = slp(&["audit", &pool, &storage], b"");
+    let torn = "audit -> 2 TORN\n  piece 1 has count 1, references 2\n";
+    assert_eq!((left.out.as_str(), left.err.as_str()), (torn, ""));
+    assert_eq!(left.status, 1);
+    let left = slp(&["draw", &pool, &storage], b"");
+    let last = "pieces   5 in use, 1 free\ntorn     piece 1 has count 1, references 2\n";
+    assert!(left.out.ends_with(last), "{}", left.out);
+    assert_eq!(left.status, 0);
+    // The two files taken for each other.
+    let left = slp(&["audit", &storage, &pool], b"");
+    let torn = "audit -> 2 TORN\n  the pool doesn't begin with the mark SLP\n";
+    assert_eq!((left.out.as_str(), left.status), (torn, 1));
+}
+
+#[test]
+fn save_refused() {
+    let place = directory("save-refused");
+    let (pool, storage) = (named(&place, "pool"), named(&place, "storage"));
+    // Nothing is saved of a run that stops.
+    let left = slp(&["save", "-", &pool, &storage], b"pool 4 6 4\npit\n");
+    assert!(left.err.starts_with("-:2: "));
+    assert_eq!(
+        (left.out.as_str(), left.status),
+        ("pool 4 6 4 -> done\n", 2)
+    );
+    let left = slp(&["save", "-", &pool, &storage], b"# nothing\n");
+    assert_eq!(left.err, "-: no pool was opened, so none is saved\n");
+    assert_eq!(left.status, 2);
+    let left = slp(&["save", "-", &pool, &pool], b"pool 4 6 4\n");
+    assert_eq!(
+        left.err,
+        format!("{pool}: named for the pool and for storage\n")
+    );
+    assert_eq!((left.out.as_str(), left.status), ("", 2));
+    assert!(fs::read_dir(&place).unwrap().next().is_none());
+    let nowhere = named(&place, "none/pool");
+    let left = slp(&["save", "-", &nowhere, &storage], b"pool 4 6 4\n");
+    assert!(left
+        .err
+        .starts_with(&format!("{nowhere}: can't be written: ")));
+    assert_eq!(
+        (left.out.as_str(), left.status),
+        ("pool 4 6 4 -> done\n", 2)
+    );
+}
+
+/// The drawing is well-formed, has one box for each piece in use and an arrow for each reference.
+#[test]
+fn svg() {
+    let place = directory("svg");
+    let (pool, storage) = (named(&place, "pool"), named(&place, "storage"));
+    let calls = b"pool 4 6 4\nput 600\ncut 0 500 50\ndup 0\n";
+    slp(&["save", "-", &pool, &storage], calls);
+    for arguments in [
+        ["draw", "--svg", &pool, &storage],
+        ["draw", &pool, &storage, "--svg"],
+    ] {
+        let left = slp(&arguments, b"");
+        assert_eq!((left.err.as_str(), left.status), ("", 0));
+        let elements = xml::elements(&left.out).expect("well-formed");
+        let count = |name: &str, class: &str| {
+            let of = |e: &&Element| e.name == name && e.is(class);
+            elements.iter().filter(of).count()
+        };
+        assert_eq!(elements[0].name, "svg");
+        let space = elements[0].attribute("xmlns");
+        assert_eq!(space, Some("http://www.w3.org/2000/svg"));
+        assert_eq!(count("rect", "piece"), 5);
+        assert_eq!(count("rect", "shared"), 1);
+        assert_eq!(count("rect", "slip"), 3);
+        assert_eq!(count("rect", "vacant"), 1 + 2);
+        assert_eq!(count("rect", "bar"), 2);
+        assert_eq!(count("rect", "stretch"), 5);
+        // Three heads, and the next of pieces 0, 2 and 4.
+        assert_eq!(count("path", "arrow"), 6);
+        assert_eq!(count("script", ""), 0);
+    }
+    // Bytes that are no pool: a drawing all the same, which says so.
+    let left = slp(&["draw", "--svg", &storage, &pool], b"");
+    let elements = xml::elements(&left.out).expect("well-formed");
+    assert!(elements.iter().any(|e| e.is("torn")));
+    assert_eq!(left.status, 0);
+}

@@ -1,0 +1,308 @@
+//! Pictures: the text, the drawing, and torn pools, of which each is told and none is trusted.
+#![cfg(fulcrumnest_lib)]
+
+mod common;
+
+use common::damage;
+use common::desk::data;
+use common::model::Tables;
+use common::random::{Random, SHAPES};
+use common::sequence::{setting, List};
+use common::xml::{self, Element};
+use fulcrumnest::{calls, Picture, Pool, Shape, Slip};
+
+/// A pool of these counts after some work.
+fn drawn(buffers: u16, pieces: u16, slips: u16, work: impl FnOnce(&mut Pool<'_>)) -> String {
+    let shape = Shape {
+        buffers,
+        pieces,
+        slips,
+    };
+    let mut pool = vec![0; fulcrumnest::pool_length(shape)];
+    let mut storage = vec![0; fulcrumnest::storage_length(buffers)];
+    let mut pool = Pool::open(&mut pool, &mut storage, shape).unwrap();
+    work(&mut pool);
+    pool.picture().to_string()
+}
+
+#[test]
+fn lengths_are_aligned_and_counts_marked() {
+    let text = drawn(4, 6, 4, |pool| {
+        pool.put(&data(600)).unwrap();
+        pool.cut(Slip(0), 500, 50).unwrap();
+        pool.dup(Slip(0)).unwrap();
+        pool.put(&[]).unwrap();
+    });
+    let wanted = "\
+slip 0  600 bytes  p0[b0 0+512] > p1[b1 0+88]x2
+slip 1   50 bytes  p2[b0 500+12] > p3[b1 0+38]
+slip 2  600 bytes  p4[b0 0+512] > p1[b1 0+88]x2
+slip 3    0 bytes  empty
+buffers  b0 x3  b1 x2  b2 free  b3 free
+pieces   5 in use, 1 free";
+    assert_eq!(text, wanted);
+}
+
+#[test]
+fn vacant_slips_at_the_end() {
+    let fresh = "slip 0  vacant\nslip 1  vacant\nbuffers  b0 free\npieces   0 in use, 3 free";
+    assert_eq!(drawn(1, 3, 2, |_| ()), fresh);
+    // Up to eight slips have a line each; of more, the vacant ones at the end have one line.
+    assert_eq!(drawn(1, 3, 8, |_| ()).lines().count(), 10);
+    let fresh = "slips 0 to 63  vacant\nbuffers  b0 free\npieces   0 in use, 3 free";
+    assert_eq!(drawn(1, 3, 64, |_| ()), fresh);
+    let text = drawn(1, 3, 12, |pool| {
+        for _ in 0..11 {
+            pool.put(&[]).unwrap();
+        }
+        pool.free(Slip(1)).unwrap();
+    });
+    let lines: Vec<&str> = text.lines().collect();
+    assert_eq!(lines[0], "slip 0   0 bytes  empty");
+    assert_eq!(lines[1], "slip 1   vacant");
+    assert_eq!(lines[10], "slip 10  0 bytes  empty");
+    assert_eq!(lines[11], "slip 11  vacant");
+}
+
+/// One box for each piece in use, and each in the lane of a slip.
+fn boxes(svg: &str) -> Vec<Element> {
+    let elements = xml::elements(svg).unwrap_or_else(|wrong| panic!("{wrong}\n{svg}"));
+    assert_eq!(elements[0].name, "svg");
+    assert!(elements.iter().all(|e| e.name != "script"));
+    let piece = |e: &Element| e.name == "rect" && e.is("piece");
+    elements.into_iter().filter(piece).collect()
+}
+
+/// No two boxes lie on each other, and all lie in the drawing.
+fn apart(boxes: &[Element], svg: &str) {
+    let number = |e: &Element, name: &str| -> i64 {
+        let text = e.attribute(name).expect("an attribute of a box");
+        text.parse().expect("a number")
+    };
+    let root = &xml::elements(svg).expect("well formed")[0];
+    let (wide, high) = (number(root, "width"), number(root, "height"));
+    for (k, e) in boxes.iter().enumerate() {
+        let (x, y) = (number(e, "x"), number(e, "y"));
+        assert!(x + number(e, "width") <= wide && y + number(e, "height") <= high);
+        for other in &boxes[k + 1..] {
+            let (dx, dy) = (x - number(other, "x"), y - number(other, "y"));
+            let (w, h) = (number(e, "width"), number(e, "height"));
+            assert!(dx.abs() >= w || dy.abs() >= h, "two boxes at {x}, {y}");
+        }
+    }
+}
+
+/// Sound pools of all shapes: no fault, as many boxes as pieces in use, as many arrows as
+/// references.
+#[test]
+fn sound_pools() {
+    for seed in 0..60 * setting("FULCRUMNEST_TIMES", 1).max(1) {
+        let mut list = List::start(seed, SHAPES.get(seed as usize).copied());
+        list.run(80 + 3 * list.shape.1 as u64);
+        let picture = Picture::new(&list.pool, &list.storage);
+        assert_eq!(picture.fault(), None, "seed {seed}");
+        let text = picture.to_string();
+        let tables = Tables::parse(&list.pool, &list.storage).expect("sound");
+        let used = tables.pieces.iter().filter(|q| q.count > 0).count();
+        let free = tables.pieces.len() - used;
+        let last = text.lines().last().expect("a line");
+        assert_eq!(last, format!("pieces   {used} in use, {free} free"));
+        assert!(!text.contains("torn") && !text.contains('('));
+        let svg = picture.svg().to_string();
+        let boxes = boxes(&svg);
+        assert_eq!(boxes.len(), used, "seed {seed}");
+        apart(&boxes, &svg);
+        let references: u64 = tables.pieces.iter().map(|q| q.count).sum();
+        let arrows = svg.matches("class=\"arrow\"").count();
+        assert_eq!(arrows as u64, references, "seed {seed}");
+        let stretches = svg.matches("class=\"stretch\"").count();
+        assert_eq!(stretches, used, "seed {seed}");
+    }
+}
+
+/// The text of each held slip has the chain's length and its pieces in order.
+#[test]
+fn slips_as_the_model_has_them() {
+    for seed in 100..160 {
+        let mut list = List::start(seed, None);
+        list.run(120);
+        let text = Picture::new(&list.pool, &list.storage).to_string();
+        let tables = Tables::parse(&list.pool, &list.storage).expect("sound");
+        for slip in 0..tables.slips.len() as u16 {
+            let Some(state) = tables.held(slip) else {
+                continue;
+            };
+            let chain = tables.chain(state);
+            let piece = |d: &usize| {
+                let q = &tables.pieces[*d];
+                let mark = match q.count {
+                    1 => String::new(),
+                    count => format!("x{count}"),
+                };
+                format!("p{d}[b{} {}+{}]{mark}", q.buffer, q.offset, q.length)
+            };
+            let pieces: Vec<String> = chain.iter().map(piece).collect();
+            let wanted = match pieces.is_empty() {
+                true => "0 bytes  empty".to_string(),
+                false => format!("{} bytes  {}", tables.length(&chain), pieces.join(" > ")),
+            };
+            let name = format!("slip {slip} ");
+            let line = text.lines().find(|line| line.starts_with(&name));
+            let line = line.unwrap_or_else(|| panic!("seed {seed}: no {name}"));
+            assert_eq!(line[name.len()..].trim_start(), wanted, "seed {seed}");
+        }
+    }
+}
+
+/// Damaged pools: torn in the picture exactly where the library's audit says so, and drawn.
+#[test]
+fn torn_pools() {
+    let (mut sound, mut torn, mut longest) = (0, 0, 0);
+    let mut visit = |what: &str, pool: &[u8], storage: &[u8]| {
+        let picture = Picture::new(pool, storage);
+        let code = calls::audit(pool, storage).code;
+        let fault = picture.fault();
+        assert_eq!(fault.is_some(), code == 2, "{what}: {fault:?}\n{picture}");
+        let text = picture.to_string();
+        let last = text.lines().last().expect("a line");
+        assert_eq!(last.starts_with("torn     "), code == 2, "{what}:\n{text}");
+        longest = longest.max(text.len());
+        match code {
+            0 => sound += 1,
+            _ => torn += 1,
+        }
+        if torn % 16 == 0 {
+            let svg = picture.svg().to_string();
+            apart(&boxes(&svg), &svg);
+        }
+    };
+    damage::counts_out_of_range(&mut visit);
+    for seed in 0..30 * setting("FULCRUMNEST_TIMES", 1).max(1) {
+        let mut list = List::start(seed, (seed < 13).then(|| SHAPES[seed as usize]));
+        list.run(60);
+        let mut random = Random::new(seed);
+        damage::every_damage(&mut random, &list.pool, &list.storage, &mut visit);
+    }
+    println!("{sound} sound, {torn} torn, the longest drawing {longest} bytes");
+    assert!(sound > 1_000 && torn > 10_000);
+    assert!(longest < 64 * 256 * 32);
+}
+
+/// Where every piece is next of the one before and the last comes back to the first, each chain is
+/// drawn once round, in the largest pool too.
+#[test]
+fn a_ring_of_all_pieces() {
+    let words = |words: &[u16]| -> Vec<u8> { words.iter().flat_map(|w| w.to_le_bytes()).collect() };
+    let mut pool = [b"SLP".to_vec(), words(&[1, 128, 256, 64])].concat();
+    for slip in 0..64 {
+        pool.extend(words(&[2 + slip]));
+    }
+    for d in 0..256 {
+        pool.extend(words(&[
+            u16::MAX,
+            200,
+            u16::MAX,
+            u16::MAX,
+            1 + (d + 1) % 256,
+        ]));
+    }
+    pool.resize(pool.len() + 256, 0xFF);
+    let storage = vec![0; 65_536];
+    let picture = Picture::new(&pool, &storage);
+    let text = picture.to_string();
+    assert_eq!(text.lines().count(), 64 + 3);
+    let first = text.lines().next().expect("a line");
+    assert!(first.starts_with("slip 0   16776960 bytes  p0[b200 65535+65535]x65535 > p1["));
+    assert!(first.ends_with("p255[b200 65535+65535]x65535 > p0 (again)"));
+    assert_eq!(
+        text.lines().last(),
+        Some("torn     piece 0 lies on buffer 200, which is none")
+    );
+    let svg = picture.svg().to_string();
+    let boxes = boxes(&svg);
+    assert_eq!(boxes.len(), 256);
+    apart(&boxes, &svg);
+}
+
+/// Any bytes at all can be drawn.
+#[test]
+fn any_bytes() {
+    let mut random = Random::new(setting("FULCRUMNEST_SEED", 5));
+    for length in (0..400).chain([2_955, 10_000]) {
+        let pool = random.bytes(length);
+        let storage = random.bytes(length % 7 * 512);
+        let picture = Picture::new(&pool, &storage);
+        assert!(picture.to_string().starts_with("torn     "));
+        assert!(boxes(&picture.svg().to_string()).is_empty());
+        assert!(picture.fault().is_some());
+    }
+}
+
+#[test]
+fn faults_in_words() {
+    let shape = Shape {
+        buffers: 2,
+        pieces: 4,
+        slips: 2,
+    };
+    let mut pool = vec![0; fulcrumnest::pool_length(shape)];
+    let mut storage = vec![0; 1024];
+    let mut open = Pool::open(&mut pool, &mut storage, shape).unwrap();
+    let slip = open.put(&data(600)).unwrap();
+    open.dup(slip).unwrap();
+    // Pieces 0, 1 and 2 are in use; 0 and 2 have piece 1 next. Slips 0 and 1 head 0 and 2.
+    let entry = |d: usize, field: usize| 15 + 10 * d + 2 * field;
+    for (at, word, text) in [
+        (3, 2, "the version is 2, not 1"),
+        (
+            9,
+            65,
+            "a count is outside its range: 2 buffers, 4 pieces, 65 slips",
+        ),
+        (9, 3, "the pool has 59 bytes, its counts ask 61"),
+        (entry(3, 2), 9, "piece 3 has count 0 and is not all zero"),
+        (entry(0, 1), 2, "piece 0 lies on buffer 2, which is none"),
+        (entry(0, 3), 0, "piece 0 has length 0"),
+        (entry(0, 2), 1, "piece 0 ends at 513 of 512"),
+        (entry(1, 2), 65_535, "piece 1 ends at 65623 of 512"),
+        (entry(1, 4), 5, "piece 1 has piece 4 next, which is none"),
+        (entry(1, 4), 4, "piece 1 has piece 3 next, which is free"),
+        (11, 6, "slip 0 heads piece 4, which is none"),
+        (11, 5, "slip 0 heads piece 3, which is free"),
+        (entry(1, 0), 3, "piece 1 has count 3, references 2"),
+        (55, 1, "buffer 0 has count 1, pieces 2"),
+    ] {
+        let mut torn = pool.clone();
+        torn[at..at + 2].copy_from_slice(&u16::to_le_bytes(word));
+        let fault = Picture::new(&torn, &storage).fault().expect(text);
+        assert_eq!(fault.to_string(), text);
+        assert_eq!(calls::audit(&torn, &storage).code, 2, "{text}");
+    }
+    // A ring that keeps every count: piece 1 has itself next.
+    let mut torn = pool.clone();
+    torn[entry(1, 4)] = 2;
+    torn[entry(1, 0)] = 3;
+    let fault = Picture::new(&torn, &storage).fault().expect("a ring");
+    assert_eq!(fault.to_string(), "following next from piece 0 comes back");
+    let cases: [(&[u8], &[u8], &str); 3] = [
+        (
+            &pool[..10],
+            &storage,
+            "the pool has 10 bytes, its header alone 11",
+        ),
+        (
+            &pool[1..],
+            &storage,
+            "the pool doesn't begin with the mark SLP",
+        ),
+        (
+            &pool,
+            &storage[1..],
+            "storage has 1023 bytes, its buffers ask 1024",
+        ),
+    ];
+    for (pool, storage, text) in cases {
+        let fault = Picture::new(pool, storage).fault().expect(text);
+        assert_eq!(fault.to_string(), text);
+    }
+}
