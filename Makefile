@@ -1,6 +1,14 @@
 # make test: the gate, as .ci/run. make prove: every crate, with what is unchanged taken as proved.
-# make lib: the archive target/staticlib/libslp.a. make figures: the audit's cost, counted.
-.PHONY: test prove lib figures fmt clean
+# make lib: the archive target/staticlib/libslp.a. make figures: the cost of the audit and of the operations, counted.
+# make install: archive, header and pkg-config file to PREFIX (under DESTDIR, if given); the archive as it stands, made first if there is none.
+# make uninstall: takes the three away again.
+.PHONY: test prove lib figures fmt clean install uninstall
+
+PREFIX = /usr/local
+ARCHIVE = target/staticlib/libslp.a
+# PREFIX from the root, for the pkg-config file; and where the files go
+whole = $(if $(filter /%,$(PREFIX)),$(PREFIX),$(CURDIR)/$(PREFIX))
+to = $(DESTDIR)$(whole)
 
 test:
 	.ci/run
@@ -13,9 +21,23 @@ lib:
 
 figures:
 	tools/audit-figures
+	tools/operation-figures
 
 fmt:
 	rt fmt
 
 clean:
 	rm -rf target rust/target
+
+$(ARCHIVE):
+	rt staticlib slp
+
+install: $(ARCHIVE)
+	install -d "$(to)/lib/pkgconfig" "$(to)/include"
+	install -m 644 $(ARCHIVE) "$(to)/lib/libslp.a"
+	install -m 644 include/slp.h "$(to)/include/slp.h"
+	{ echo "prefix=$(whole)"; cat tools/slp.pc.in; } >"$(to)/lib/pkgconfig/slp.pc"
+	chmod 644 "$(to)/lib/pkgconfig/slp.pc"
+
+uninstall:
+	rm -f "$(to)/lib/libslp.a" "$(to)/include/slp.h" "$(to)/lib/pkgconfig/slp.pc"

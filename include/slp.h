@@ -1,0 +1,118 @@
+/*
+ * slp.h: Fulcrumnest's calls for C11 and C++17. Link with libslp.a.
+ *
+ * The caller lends two stretches of memory: a pool, which holds the tables, and storage, which holds the buffers. A message is a chain of
+ * pieces over buffers of 512 bytes, several pieces may share one buffer, and counts in the pool say who holds what. The caller knows a
+ * chain by its slip number alone. A slip is vacant, or holds an empty chain, or heads a piece.
+ *
+ * Slices. A slice is a pointer, then its length in bytes. It may be empty: then the pointer is not read and may be null.
+ *
+ * Answers. Every call answers a code and a number. Code 0 is done. Any other code is a no: the number is 0, and pool, storage and
+ * everything else that was lent are unchanged. Ask the code first, since 0 is also the number of a slip. Where several codes apply, the
+ * lowest is given. Room is counted when the call begins; what it gives back is room for the next one.
+ *
+ * Any bytes may be lent, of any length: every call but slp_open tests the pool first (2 TORN). What no call can test, and the caller keeps:
+ *   - a pointer is what it says: as many bytes as its length stand there, readable, and writable where it isn't const;
+ *   - pool, storage and whatever else a call is lent stand apart: no two of them overlap;
+ *   - until a call is back, nobody else writes what it was lent, or reads what it may write.
+ *
+ * The pool is written by every call whose pool isn't const, storage by slp_put, slp_pullup and slp_pack alone. They write only buffers
+ * that no piece lay on when they began.
+ */
+#ifndef SLP_H
+#define SLP_H
+
+#include <stddef.h>
+#include <stdint.h>
+
+#ifdef __cplusplus
+extern "C" {
+#endif
+
+/* The limits of a pool's counts, each at least 1, and the bytes of a buffer. */
+#define SLP_MOST_BUFFERS 128
+#define SLP_MOST_PIECES 256
+#define SLP_MOST_SLIPS 64
+#define SLP_BUFFER_SIZE 512
+
+/* The exact length of the pool for B buffers, P pieces and S slips, and of the storage for B buffers. */
+#define SLP_POOL_LENGTH(B, P, S) (11u + 2u * (S) + 10u * (P) + 2u * (B))
+#define SLP_STORAGE_LENGTH(B) (512u * (B))
+
+/* The codes, and when exactly each is given. */
+enum slp_code {
+    SLP_DONE = 0,     /* done */
+    SLP_COUNTS = 1,   /* open: a count outside its range, or a lent length not the one it asks */
+    SLP_TORN = 2,     /* any other call: the pool isn't sound */
+    SLP_SLIP = 3,     /* a named slip is S or more, or vacant */
+    SLP_SAME = 4,     /* append names one slip twice */
+    SLP_LONG = 5,     /* pullup or show asks more than 512 */
+    SLP_RANGE = 6,    /* the asked bytes reach past the chain's end, as whole numbers */
+    SLP_NARROW = 7,   /* the lent output can't take the bytes to be copied */
+    SLP_SLIPS = 8,    /* a new slip is wanted and none is vacant */
+    SLP_PIECES = 9,   /* more new pieces wanted than free */
+    SLP_BUFFERS = 10  /* more new buffers wanted than free */
+};
+
+/* What a call answers: one of the codes, and a number. */
+typedef struct { uint16_t code; uint32_t number; } slp_answer;
+
+/*
+ * What slp_show answers. The view is `number` bytes from `start` on: of the scratch if in_scratch is 1, of storage if it is 0. With a no it
+ * is empty, at the start of storage. In storage it stays as it is while any piece lies on its buffer.
+ */
+typedef struct { uint16_t code; uint32_t number; uint16_t in_scratch; uint32_t start; } slp_shown;
+
+/* Writes the fresh pool, whatever the bytes were; answers 0. No: 1 COUNTS. */
+slp_answer slp_open(uint8_t *pool, size_t pool_length, uint8_t *storage, size_t storage_length,
+                    uint16_t buffers, uint16_t pieces, uint16_t slips);
+
+/* Tests whether the pool is sound; answers 0. No: 2 TORN. */
+slp_answer slp_audit(const uint8_t *pool, size_t pool_length, const uint8_t *storage, size_t storage_length);
+
+/* Copies the data into fresh buffers, 512 bytes to each; answers the new slip. No: 2 TORN, 8 SLIPS, 9 PIECES, 10 BUFFERS. */
+slp_answer slp_put(uint8_t *pool, size_t pool_length, uint8_t *storage, size_t storage_length,
+                   const uint8_t *data, size_t data_length);
+
+/* Gives up the slip's chain, and frees what nobody else holds; the slip is vacant; answers 0. No: 2 TORN, 3 SLIP. */
+slp_answer slp_free(uint8_t *pool, size_t pool_length, uint8_t *storage, size_t storage_length, uint16_t slip);
+
+/* A new slip that reads the same and shares its buffers, at one new piece; answers it. No: 2 TORN, 3 SLIP, 8 SLIPS, 9 PIECES. */
+slp_answer slp_dup(uint8_t *pool, size_t pool_length, const uint8_t *storage, size_t storage_length, uint16_t slip);
+
+/* A new slip on `length` bytes from `offset` on, shared and not copied; answers it. No: 2 TORN, 3 SLIP, 6 RANGE, 8 SLIPS, 9 PIECES. */
+slp_answer slp_cut(uint8_t *pool, size_t pool_length, const uint8_t *storage, size_t storage_length,
+                   uint16_t slip, uint32_t offset, uint32_t length);
+
+/* Slip a reads as a then b, other slips as before; b is vacant; answers 0. No: 2 TORN, 3 SLIP, 4 SAME, 9 PIECES. */
+slp_answer slp_append(uint8_t *pool, size_t pool_length, uint8_t *storage, size_t storage_length, uint16_t a, uint16_t b);
+
+/* The slip's first n bytes go, other slips read as before; answers 0. No: 2 TORN, 3 SLIP, 6 RANGE, 9 PIECES. */
+slp_answer slp_drop(uint8_t *pool, size_t pool_length, uint8_t *storage, size_t storage_length, uint16_t slip, uint32_t n);
+
+/* The slip's first n bytes stay and the rest goes, other slips read as before; answers 0. No: 2 TORN, 3 SLIP, 6 RANGE, 9 PIECES. */
+slp_answer slp_keep(uint8_t *pool, size_t pool_length, uint8_t *storage, size_t storage_length, uint16_t slip, uint32_t n);
+
+/* The slip's first n bytes, at most 512, come to lie in one piece; answers 0. No: 2 TORN, 3 SLIP, 5 LONG, 6 RANGE, 9 PIECES, 10 BUFFERS. */
+slp_answer slp_pullup(uint8_t *pool, size_t pool_length, uint8_t *storage, size_t storage_length, uint16_t slip, uint32_t n);
+
+/* Puts a chain of two or more pieces afresh, under the same slip, in as few buffers as hold it; answers 0. No: 2 TORN, 3 SLIP, 9 PIECES, 10 BUFFERS. */
+slp_answer slp_pack(uint8_t *pool, size_t pool_length, uint8_t *storage, size_t storage_length, uint16_t slip);
+
+/* Answers the chain's length in bytes. No: 2 TORN, 3 SLIP. */
+slp_answer slp_length(const uint8_t *pool, size_t pool_length, const uint8_t *storage, size_t storage_length, uint16_t slip);
+
+/* Copies `length` bytes from `offset` on to the front of the output; answers how many. No: 2 TORN, 3 SLIP, 6 RANGE, 7 NARROW. */
+slp_answer slp_read(const uint8_t *pool, size_t pool_length, const uint8_t *storage, size_t storage_length,
+                    uint16_t slip, uint32_t offset, uint32_t length, uint8_t *output, size_t output_length);
+
+/* The slip's first n bytes, at most 512, in one stretch, in storage where they lie so, else copied to the scratch; answers n and where.
+ * No: 2 TORN, 3 SLIP, 5 LONG, 6 RANGE, 7 NARROW (a scratch that is needed and too short). */
+slp_shown slp_show(const uint8_t *pool, size_t pool_length, const uint8_t *storage, size_t storage_length,
+                   uint16_t slip, uint32_t n, uint8_t *scratch, size_t scratch_length);
+
+#ifdef __cplusplus
+}
+#endif
+
+#endif

@@ -1,0 +1,609 @@
+/*
+ * The calls from C, beside document 01: the ten marked rows of its morning with answers and every byte, its edges, the refusals, the two views
+ * of show, and the macros of slp.h. What is lent stands in memory of exactly its length, so that a checker of memory sees one byte too far.
+ * C11 and C++17 alike. Exit status 0 only where every check holds.
+ */
+#include <slp.h>
+
+#include <assert.h>
+#include <stdio.h>
+#include <stdlib.h>
+#include <string.h>
+
+/* C's layout of the two answers, and the macros where a constant is wanted. */
+static_assert(sizeof(slp_answer) == 8 && offsetof(slp_answer, number) == 4, "slp_answer");
+static_assert(sizeof(slp_shown) == 16 && offsetof(slp_shown, in_scratch) == 8 && offsetof(slp_shown, start) == 12, "slp_shown");
+static_assert(SLP_POOL_LENGTH(4, 6, 4) == 87 && SLP_STORAGE_LENGTH(4) == 2048, "lengths");
+static_assert(SLP_DONE == 0 && SLP_COUNTS == 1 && SLP_TORN == 2 && SLP_SLIP == 3 && SLP_SAME == 4 && SLP_LONG == 5, "codes 0 to 5");
+static_assert(SLP_RANGE == 6 && SLP_NARROW == 7 && SLP_SLIPS == 8 && SLP_PIECES == 9 && SLP_BUFFERS == 10, "codes 6 to 10");
+#if SLP_POOL_LENGTH(SLP_MOST_BUFFERS, SLP_MOST_PIECES, SLP_MOST_SLIPS) != 2955 || SLP_STORAGE_LENGTH(SLP_MOST_BUFFERS) != 65536
+#error "the lengths of the largest pool"
+#endif
+
+enum { OUTPUT = 64, OLD = 0xA5 };
+
+static unsigned checks, failures;
+
+/* Counts one check, and says where it failed. */
+static void check(int holds, int line, const char *what)
+{
+    checks++;
+    if (!holds) {
+        failures++;
+        printf("rows.c:%d: not so: %s\n", line, what);
+    }
+}
+#define CHECK(holds) check((holds), __LINE__, #holds)
+
+/* Memory of exactly n bytes, all of them `byte`. */
+static uint8_t *lend(size_t n, int byte)
+{
+    uint8_t *p = (uint8_t *)malloc(n ? n : 1);
+    if (!p) {
+        perror("malloc");
+        exit(2);
+    }
+    memset(p, byte, n ? n : 1);
+    return p;
+}
+
+/* The data of document 01's morning: byte i is i mod 251. */
+static uint8_t *morning_data(size_t n)
+{
+    uint8_t *data = lend(n, 0);
+    for (size_t i = 0; i < n; i++) data[i] = (uint8_t)(i % 251);
+    return data;
+}
+
+/* A pool, its storage, and an output for what is copied out. */
+typedef struct {
+    uint8_t *pool;
+    size_t pool_length;
+    uint8_t *storage;
+    size_t storage_length;
+    uint8_t *output;
+} box;
+#define LENT(b) (b).pool, (b).pool_length, (b).storage, (b).storage_length
+
+/* A box for these counts, opened over old bytes; its storage and output hold old bytes still. */
+static box fresh(uint16_t buffers, uint16_t pieces, uint16_t slips)
+{
+    box b;
+    b.pool_length = SLP_POOL_LENGTH(buffers, pieces, slips);
+    b.storage_length = SLP_STORAGE_LENGTH(buffers);
+    b.pool = lend(b.pool_length, OLD);
+    b.storage = lend(b.storage_length, OLD);
+    b.output = lend(OUTPUT, OLD);
+    slp_answer a = slp_open(LENT(b), buffers, pieces, slips);
+    CHECK(a.code == SLP_DONE && a.number == 0);
+    return b;
+}
+
+/* A copy of all that a box holds. */
+static box copy_of(box b)
+{
+    box c = b;
+    c.pool = (uint8_t *)memcpy(lend(b.pool_length, 0), b.pool, b.pool_length);
+    c.storage = (uint8_t *)memcpy(lend(b.storage_length, 0), b.storage, b.storage_length);
+    c.output = (uint8_t *)memcpy(lend(OUTPUT, 0), b.output, OUTPUT);
+    return c;
+}
+
+/* Whether two boxes hold the same bytes. */
+static int same(box b, box c)
+{
+    return memcmp(b.pool, c.pool, b.pool_length) == 0 && memcmp(b.storage, c.storage, b.storage_length) == 0
+        && memcmp(b.output, c.output, OUTPUT) == 0;
+}
+
+static void give_back(box b)
+{
+    free(b.pool);
+    free(b.storage);
+    free(b.output);
+}
+
+/* An answer, and that the box holds what it held before the call. */
+static void check_still(slp_answer a, unsigned code, box b, box before, int line, const char *call)
+{
+    check(a.code == code && a.number == 0, line, call);
+    check(same(b, before), line, "the call above changes nothing");
+    give_back(before);
+}
+/* The call is refused with the code, and changes nothing. */
+#define REFUSES(wanted, b, call)                                    \
+    do {                                                            \
+        box before = copy_of(b);                                    \
+        slp_answer answer = (call);                                 \
+        check_still(answer, (wanted), (b), before, __LINE__, #call); \
+    } while (0)
+/* The call is done, answers 0 and changes nothing. */
+#define IDLE(b, call) REFUSES(SLP_DONE, b, call)
+
+/* The code of a show, whose other three numbers are 0 with a no. */
+static slp_answer refused_show(slp_shown v)
+{
+    slp_answer a;
+    CHECK(v.in_scratch == 0 && v.start == 0);
+    a.code = v.code;
+    a.number = v.number;
+    return a;
+}
+
+/* The call is done and answers the number. */
+static void check_done(slp_answer a, uint32_t number, int line, const char *call)
+{
+    check(a.code == SLP_DONE && a.number == number, line, call);
+}
+#define ANSWERS(wanted, call) check_done((call), (wanted), __LINE__, #call)
+
+/* put of n bytes of the morning's data. */
+static slp_answer put(box b, size_t n)
+{
+    uint8_t *data = morning_data(n);
+    slp_answer a = slp_put(LENT(b), data, n);
+    free(data);
+    return a;
+}
+
+/* Whether a slip reads as n bytes of the morning's data from `from` on. */
+static int reads(box b, uint16_t slip, uint32_t n, uint32_t from)
+{
+    uint8_t *data = morning_data(from + n);
+    uint8_t *out = lend(n, OLD);
+    slp_answer length = slp_length(LENT(b), slip);
+    slp_answer a = slp_read(LENT(b), slip, 0, n, out, n);
+    int as_wanted = length.code == SLP_DONE && length.number == n && a.code == SLP_DONE && a.number == n
+        && memcmp(out, data + from, n) == 0;
+    free(out);
+    free(data);
+    return as_wanted;
+}
+
+/* Whether the pool's tables are those of a fresh one. */
+static int all_zero(box b)
+{
+    for (size_t i = 11; i < b.pool_length; i++) {
+        if (b.pool[i] != 0) return 0;
+    }
+    return 1;
+}
+
+/* The 16-bit number at a position of the pool, low byte first. */
+static unsigned word_at(box b, size_t at)
+{
+    return b.pool[at] + 256u * b.pool[at + 1];
+}
+
+/* The entries of a pool for B 4, P 6, S 4. */
+typedef struct {
+    uint16_t slip[4];      /* 0 vacant, 1 empty, 2 + d heads piece d */
+    uint16_t piece[6][5];  /* count, buffer, offset, length, next (0 none, 1 + d) */
+    uint16_t buffer[4];    /* counts */
+} entries;
+
+/* The entries after each of document 01's rows, row 0 being open. */
+static const entries after[11] = {
+    /* 0 open        */ {{0, 0, 0, 0}, {{0}, {0}, {0}, {0}, {0}, {0}}, {0, 0, 0, 0}},
+    /* 1 put 600     */ {{2, 0, 0, 0}, {{1, 0, 0, 512, 2}, {1, 1, 0, 88, 0}, {0}, {0}, {0}, {0}}, {1, 1, 0, 0}},
+    /* 2 cut 0,500,50 */ {{2, 4, 0, 0},
+        {{1, 0, 0, 512, 2}, {1, 1, 0, 88, 0}, {1, 0, 500, 12, 4}, {1, 1, 0, 38, 0}, {0}, {0}}, {2, 2, 0, 0}},
+    /* 3 dup 0       */ {{2, 4, 6, 0},
+        {{1, 0, 0, 512, 2}, {2, 1, 0, 88, 0}, {1, 0, 500, 12, 4}, {1, 1, 0, 38, 0}, {1, 0, 0, 512, 2}, {0}}, {3, 2, 0, 0}},
+    /* 4 free 0      */ {{0, 4, 6, 0},
+        {{0}, {1, 1, 0, 88, 0}, {1, 0, 500, 12, 4}, {1, 1, 0, 38, 0}, {1, 0, 0, 512, 2}, {0}}, {2, 2, 0, 0}},
+    /* 5 drop 2,520  */ {{0, 4, 3, 0}, {{0}, {1, 1, 8, 80, 0}, {1, 0, 500, 12, 4}, {1, 1, 0, 38, 0}, {0}, {0}}, {1, 2, 0, 0}},
+    /* 6 append 1,2  */ {{0, 4, 0, 0}, {{0}, {1, 1, 8, 80, 0}, {1, 0, 500, 12, 4}, {1, 1, 0, 38, 2}, {0}, {0}}, {1, 2, 0, 0}},
+    /* 7 keep 1,40   */ {{0, 4, 0, 0}, {{0}, {0}, {1, 0, 500, 12, 4}, {1, 1, 0, 28, 0}, {0}, {0}}, {1, 1, 0, 0}},
+    /* 8 pullup 1,20 */ {{0, 2, 0, 0}, {{1, 2, 0, 20, 4}, {0}, {0}, {1, 1, 8, 20, 0}, {0}, {0}}, {0, 1, 1, 0}},
+    /* 9 pack 1      */ {{0, 3, 0, 0}, {{0}, {1, 0, 0, 40, 0}, {0}, {0}, {0}, {0}}, {1, 0, 0, 0}},
+    /* 10 free 1     */ {{0, 0, 0, 0}, {{0}, {0}, {0}, {0}, {0}, {0}}, {0, 0, 0, 0}},
+};
+
+/* The fresh pool's first eleven bytes, and what row 1 leaves behind them up to piece 2: the same as entries, byte for byte. */
+static const uint8_t head[11] = {0x53, 0x4C, 0x50, 0x01, 0x00, 0x04, 0x00, 0x06, 0x00, 0x04, 0x00};
+static const uint8_t row_1[28] = {
+    0x02, 0x00, 0x00, 0x00, 0x00, 0x00, 0x00, 0x00,
+    0x01, 0x00, 0x00, 0x00, 0x00, 0x00, 0x00, 0x02, 0x02, 0x00,
+    0x01, 0x00, 0x01, 0x00, 0x00, 0x00, 0x58, 0x00, 0x00, 0x00,
+};
+
+/* The entries as a pool's 87 bytes. */
+static void write_pool(uint8_t bytes[87], const entries *e)
+{
+    uint16_t word[38];
+    memcpy(word, e->slip, sizeof e->slip);
+    memcpy(word + 4, e->piece, sizeof e->piece);
+    memcpy(word + 34, e->buffer, sizeof e->buffer);
+    memcpy(bytes, head, sizeof head);
+    for (int i = 0; i < 38; i++) {
+        bytes[11 + 2 * i] = (uint8_t)(word[i] % 256);
+        bytes[12 + 2 * i] = (uint8_t)(word[i] / 256);
+    }
+}
+
+/* The call of a row. */
+static slp_answer row_call(int row, box b)
+{
+    switch (row) {
+    case 1: return put(b, 600);
+    case 2: return slp_cut(LENT(b), 0, 500, 50);
+    case 3: return slp_dup(LENT(b), 0);
+    case 4: return slp_free(LENT(b), 0);
+    case 5: return slp_drop(LENT(b), 2, 520);
+    case 6: return slp_append(LENT(b), 1, 2);
+    case 7: return slp_keep(LENT(b), 1, 40);
+    case 8: return slp_pullup(LENT(b), 1, 20);
+    case 9: return slp_pack(LENT(b), 1);
+    default: return slp_free(LENT(b), 1);
+    }
+}
+
+/* What a row writes into storage: a taken buffer holds its bytes, then zeros. */
+static void row_storage(int row, uint8_t *storage)
+{
+    uint8_t *data = morning_data(600);
+    if (row == 1) {
+        memset(storage, 0, 1024);
+        memcpy(storage, data, 600);
+    }
+    if (row == 8) {
+        memset(storage + 1024, 0, 512);
+        memcpy(storage + 1024, data + 500, 20);
+    }
+    if (row == 9) {
+        memset(storage, 0, 512);
+        memcpy(storage, data + 500, 40);
+    }
+    free(data);
+}
+
+/* A row's answer, and every byte of pool and storage after it. */
+static void check_row(int row, box b, uint8_t *storage)
+{
+    static const uint32_t number[11] = {0, 0, 1, 2, 0, 0, 0, 0, 0, 0, 0};
+    uint8_t pool[87];
+    char what[40];
+    snprintf(what, sizeof what, "row %d of the morning", row);
+    if (row > 0) check_done(row_call(row, b), number[row], __LINE__, what);
+    write_pool(pool, &after[row]);
+    check(memcmp(b.pool, pool, 87) == 0, __LINE__, what);
+    row_storage(row, storage);
+    check(memcmp(b.storage, storage, 2048) == 0, __LINE__, what);
+    check(slp_audit(LENT(b)).code == SLP_DONE, __LINE__, what);
+}
+
+/* The ten marked rows, and what their slips read. */
+static void morning(void)
+{
+    static const uint8_t packed[40] = {249, 250, 0, 1, 2, 3, 4, 5, 6, 7, 8, 9, 10, 11, 12, 13, 14, 15, 16, 17,
+                                       18, 19, 20, 21, 22, 23, 24, 25, 26, 27, 28, 29, 30, 31, 32, 33, 34, 35, 36, 37};
+    uint8_t *storage = lend(2048, OLD);
+    box b = fresh(4, 6, 4);
+    for (int row = 0; row <= 10; row++) {
+        check_row(row, b, storage);
+        if (row == 1) CHECK(memcmp(b.pool + 11, row_1, sizeof row_1) == 0);
+        if (row == 2) CHECK(reads(b, 0, 600, 0) && reads(b, 1, 50, 500));
+        if (row == 4) CHECK(reads(b, 2, 600, 0));
+        if (row == 5) CHECK(reads(b, 2, 80, 520));
+        if (row == 6) ANSWERS(130, slp_length(LENT(b), 1));
+        if (row == 9) ANSWERS(40, slp_read(LENT(b), 1, 0, 40, b.output, OUTPUT));
+        if (row == 9) CHECK(memcmp(b.output, packed, 40) == 0 && b.output[40] == OLD);
+    }
+    give_back(b);
+    free(storage);
+}
+
+/* The edges of put: full buffers, and one byte more than there is room for. */
+static void edges_of_put(void)
+{
+    static const entries one = {{2, 0, 0, 0}, {{1, 0, 0, 512, 0}, {0}, {0}, {0}, {0}, {0}}, {1, 0, 0, 0}};
+    static const entries two = {{2, 0, 0, 0}, {{1, 0, 0, 512, 2}, {1, 1, 0, 1, 0}, {0}, {0}, {0}, {0}}, {1, 1, 0, 0}};
+    static const entries full = {{2, 0, 0, 0},
+        {{1, 0, 0, 512, 2}, {1, 1, 0, 512, 3}, {1, 2, 0, 512, 4}, {1, 3, 0, 512, 0}, {0}, {0}}, {1, 1, 1, 1}};
+    static const entries *const wanted[3] = {&one, &two, &full};
+    static const uint32_t bytes[3] = {512, 513, 2048};
+    for (int i = 0; i < 3; i++) {
+        uint8_t pool[87];
+        box b = fresh(4, 6, 4);
+        ANSWERS(0, put(b, bytes[i]));
+        write_pool(pool, wanted[i]);
+        CHECK(memcmp(b.pool, pool, 87) == 0);
+        CHECK(reads(b, 0, bytes[i], 0));
+        give_back(b);
+    }
+    box b = fresh(4, 6, 4);
+    REFUSES(SLP_BUFFERS, b, put(b, 2049));
+    give_back(b);
+}
+
+/* The edges of cut, pullup and append, each in a fresh pool. */
+static void edges_of_others(void)
+{
+    box b = fresh(4, 6, 4);
+    put(b, 600);
+    REFUSES(SLP_RANGE, b, slp_cut(LENT(b), 0, 601, 0));
+    ANSWERS(1, slp_cut(LENT(b), 0, 600, 0));
+    CHECK(word_at(b, 13) == 1);
+    ANSWERS(0, slp_length(LENT(b), 1));
+    give_back(b);
+
+    b = fresh(4, 6, 4);
+    put(b, 10);
+    REFUSES(SLP_LONG, b, slp_pullup(LENT(b), 0, 513));
+    give_back(b);
+
+    b = fresh(4, 6, 4);
+    put(b, 10);
+    REFUSES(SLP_SAME, b, slp_append(LENT(b), 0, 0));
+    REFUSES(SLP_SLIP, b, slp_append(LENT(b), 1, 1));
+    give_back(b);
+}
+
+/* Every call that names a slip, with one that is vacant or no slip of the pool. */
+static void refusals_of_slips(void)
+{
+    static const uint16_t bad[4] = {1, 3, 4, 65535};
+    box b = fresh(4, 6, 4);
+    put(b, 600);
+    for (int i = 0; i < 4; i++) {
+        REFUSES(SLP_SLIP, b, slp_free(LENT(b), bad[i]));
+        REFUSES(SLP_SLIP, b, slp_dup(LENT(b), bad[i]));
+        REFUSES(SLP_SLIP, b, slp_cut(LENT(b), bad[i], 0, 1));
+        REFUSES(SLP_SLIP, b, slp_append(LENT(b), bad[i], 0));
+        REFUSES(SLP_SLIP, b, slp_append(LENT(b), 0, bad[i]));
+        REFUSES(SLP_SLIP, b, slp_append(LENT(b), bad[i], bad[i]));
+        REFUSES(SLP_SLIP, b, slp_drop(LENT(b), bad[i], 1));
+        REFUSES(SLP_SLIP, b, slp_keep(LENT(b), bad[i], 1));
+        REFUSES(SLP_SLIP, b, slp_pullup(LENT(b), bad[i], 513));
+        REFUSES(SLP_SLIP, b, slp_pack(LENT(b), bad[i]));
+        REFUSES(SLP_SLIP, b, slp_length(LENT(b), bad[i]));
+        REFUSES(SLP_SLIP, b, slp_read(LENT(b), bad[i], 0, 1, b.output, OUTPUT));
+        REFUSES(SLP_SLIP, b, refused_show(slp_show(LENT(b), bad[i], 513, b.output, OUTPUT)));
+    }
+    give_back(b);
+}
+
+/* Bytes past the chain's end, more than 512, and outputs too short; sums past 32 bits do not wrap, and the lowest code is given. */
+static void refusals_of_ranges(void)
+{
+    const uint32_t most = UINT32_MAX;
+    box b = fresh(4, 6, 4);
+    put(b, 600);
+    slp_cut(LENT(b), 0, 500, 50);
+    REFUSES(SLP_RANGE, b, slp_cut(LENT(b), 0, 1, 600));
+    REFUSES(SLP_RANGE, b, slp_cut(LENT(b), 0, 1, most));
+    REFUSES(SLP_RANGE, b, slp_cut(LENT(b), 0, most, 1));
+    REFUSES(SLP_RANGE, b, slp_cut(LENT(b), 0, most, most));
+    REFUSES(SLP_RANGE, b, slp_drop(LENT(b), 0, 601));
+    REFUSES(SLP_RANGE, b, slp_keep(LENT(b), 0, most));
+    REFUSES(SLP_RANGE, b, slp_pullup(LENT(b), 1, 51));
+    REFUSES(SLP_RANGE, b, slp_read(LENT(b), 0, 600, 1, b.output, OUTPUT));
+    REFUSES(SLP_RANGE, b, slp_read(LENT(b), 0, 1, most, b.output, OUTPUT));
+    REFUSES(SLP_RANGE, b, slp_read(LENT(b), 0, 601, 0, NULL, 0));
+    REFUSES(SLP_RANGE, b, refused_show(slp_show(LENT(b), 1, 51, b.output, 0)));
+    REFUSES(SLP_LONG, b, slp_pullup(LENT(b), 0, 513));
+    REFUSES(SLP_LONG, b, slp_pullup(LENT(b), 1, most));
+    REFUSES(SLP_LONG, b, refused_show(slp_show(LENT(b), 0, 513, b.output, OUTPUT)));
+    REFUSES(SLP_LONG, b, refused_show(slp_show(LENT(b), 1, most, b.output, OUTPUT)));
+    REFUSES(SLP_NARROW, b, slp_read(LENT(b), 0, 0, OUTPUT + 1, b.output, OUTPUT));
+    REFUSES(SLP_NARROW, b, slp_read(LENT(b), 0, 0, 1, NULL, 0));
+    REFUSES(SLP_NARROW, b, refused_show(slp_show(LENT(b), 1, 13, b.output, 12)));
+    give_back(b);
+}
+
+/* No vacant slip; then no free piece, each call that wants one; then no free buffer. */
+static void refusals_of_room(void)
+{
+    box b = fresh(4, 6, 4);
+    put(b, 2048);
+    for (int i = 0; i < 3; i++) put(b, 0);
+    REFUSES(SLP_SLIPS, b, put(b, 0));
+    REFUSES(SLP_SLIPS, b, put(b, 2049));
+    REFUSES(SLP_SLIPS, b, slp_dup(LENT(b), 0));
+    REFUSES(SLP_SLIPS, b, slp_cut(LENT(b), 0, 0, 2048));
+    give_back(b);
+
+    b = fresh(4, 6, 4);
+    put(b, 2048);
+    slp_dup(LENT(b), 0);
+    slp_dup(LENT(b), 0);
+    ANSWERS(0, slp_drop(LENT(b), 0, 1));
+    REFUSES(SLP_PIECES, b, put(b, 1));
+    REFUSES(SLP_PIECES, b, slp_dup(LENT(b), 0));
+    REFUSES(SLP_PIECES, b, slp_cut(LENT(b), 0, 0, 1));
+    REFUSES(SLP_PIECES, b, slp_append(LENT(b), 0, 1));
+    REFUSES(SLP_PIECES, b, slp_drop(LENT(b), 0, 520));
+    REFUSES(SLP_PIECES, b, slp_keep(LENT(b), 0, 520));
+    REFUSES(SLP_PIECES, b, slp_pullup(LENT(b), 0, 512));
+    REFUSES(SLP_PIECES, b, slp_pack(LENT(b), 0));
+    give_back(b);
+
+    b = fresh(4, 12, 4);
+    put(b, 2048);
+    slp_cut(LENT(b), 0, 500, 24);
+    REFUSES(SLP_BUFFERS, b, put(b, 1));
+    REFUSES(SLP_BUFFERS, b, slp_pullup(LENT(b), 1, 13));
+    REFUSES(SLP_BUFFERS, b, slp_pack(LENT(b), 1));
+    give_back(b);
+}
+
+/* Every call but open on a pool that isn't sound. */
+static void refuses_torn(box b)
+{
+    REFUSES(SLP_TORN, b, slp_audit(LENT(b)));
+    REFUSES(SLP_TORN, b, put(b, 600));
+    REFUSES(SLP_TORN, b, slp_free(LENT(b), 0));
+    REFUSES(SLP_TORN, b, slp_dup(LENT(b), 0));
+    REFUSES(SLP_TORN, b, slp_cut(LENT(b), 0, 0, 1));
+    REFUSES(SLP_TORN, b, slp_append(LENT(b), 0, 0));
+    REFUSES(SLP_TORN, b, slp_drop(LENT(b), 0, 1));
+    REFUSES(SLP_TORN, b, slp_keep(LENT(b), 0, 1));
+    REFUSES(SLP_TORN, b, slp_pullup(LENT(b), 0, 513));
+    REFUSES(SLP_TORN, b, slp_pack(LENT(b), 9));
+    REFUSES(SLP_TORN, b, slp_length(LENT(b), 0));
+    REFUSES(SLP_TORN, b, slp_read(LENT(b), 0, 0, 1, b.output, OUTPUT));
+    REFUSES(SLP_TORN, b, refused_show(slp_show(LENT(b), 0, 1, b.output, OUTPUT)));
+}
+
+/* Pools torn in mark, version, a count, a slip, a buffer's count, and in either length. */
+static void refusals_of_torn_pools(void)
+{
+    static const size_t at[6] = {0, 3, 9, 13, 19, 79};
+    box b = fresh(4, 6, 4);
+    put(b, 600);
+    for (int i = 0; i < 6; i++) {
+        b.pool[at[i]] = (uint8_t)(b.pool[at[i]] + 7);
+        refuses_torn(b);
+        b.pool[at[i]] = (uint8_t)(b.pool[at[i]] - 7);
+    }
+    CHECK(slp_audit(LENT(b)).code == SLP_DONE);
+    b.pool_length--;
+    refuses_torn(b);
+    b.pool_length++;
+    b.storage_length--;
+    refuses_torn(b);
+    b.storage_length++;
+    CHECK(slp_audit(NULL, 0, NULL, 0).code == SLP_TORN);
+    CHECK(slp_put(NULL, 0, NULL, 0, NULL, 0).code == SLP_TORN);
+    CHECK(slp_show(NULL, 0, NULL, 0, 0, 0, NULL, 0).code == SLP_TORN);
+    give_back(b);
+}
+
+/* Calls with nothing to do, done and without a change; empty slices with null for a pointer. */
+static void idle_calls(void)
+{
+    box b = fresh(4, 6, 4);
+    put(b, 600);
+    IDLE(b, slp_audit(LENT(b)));
+    IDLE(b, slp_drop(LENT(b), 0, 0));
+    IDLE(b, slp_keep(LENT(b), 0, 600));
+    IDLE(b, slp_pullup(LENT(b), 0, 0));
+    IDLE(b, slp_pullup(LENT(b), 0, 512));
+    IDLE(b, slp_read(LENT(b), 0, 600, 0, NULL, 0));
+    ANSWERS(0, slp_keep(LENT(b), 0, 512));
+    IDLE(b, slp_pack(LENT(b), 0));
+    ANSWERS(0, slp_keep(LENT(b), 0, 0));
+    CHECK(word_at(b, 11) == 1);
+    IDLE(b, slp_pack(LENT(b), 0));
+    IDLE(b, slp_length(LENT(b), 0));
+    ANSWERS(1, slp_put(LENT(b), NULL, 0));
+    CHECK(word_at(b, 13) == 1);
+    ANSWERS(0, slp_append(LENT(b), 0, 1));
+    ANSWERS(0, slp_free(LENT(b), 0));
+    CHECK(memcmp(b.pool, head, 11) == 0 && all_zero(b));
+    give_back(b);
+}
+
+/* What show answers, and the bytes of its view: n of the morning's data from `from` on. */
+static void check_view(box b, slp_shown v, uint32_t n, uint16_t in_scratch, uint32_t start, uint32_t from, int line)
+{
+    uint8_t *data = morning_data(from + n);
+    check(v.code == SLP_DONE && v.number == n && v.in_scratch == in_scratch && v.start == start, line, "the place of the view");
+    check(memcmp((in_scratch ? b.output : b.storage) + start, data + from, n) == 0, line, "the bytes of the view");
+    free(data);
+}
+#define SHOWS(b, v, n, in_scratch, start, from) check_view(b, v, n, in_scratch, start, from, __LINE__)
+
+/* The view in storage, where the scratch is neither asked for nor touched, and in the scratch, where nothing past it is. */
+static void views(void)
+{
+    box b = fresh(4, 6, 4);
+    put(b, 600);
+    slp_cut(LENT(b), 0, 500, 50);
+    box before = copy_of(b);
+    SHOWS(b, slp_show(LENT(b), 0, 512, b.output, OUTPUT), 512, 0, 0, 0);
+    SHOWS(b, slp_show(LENT(b), 0, 512, NULL, 0), 512, 0, 0, 0);
+    SHOWS(b, slp_show(LENT(b), 1, 12, NULL, 0), 12, 0, 500, 500);
+    SHOWS(b, slp_show(LENT(b), 1, 0, NULL, 0), 0, 0, 0, 0);
+    CHECK(same(b, before));
+    SHOWS(b, slp_show(LENT(b), 1, 13, b.output, 13), 13, 1, 0, 500);
+    memcpy(before.output, b.storage + 500, 13);
+    CHECK(same(b, before));
+    SHOWS(b, slp_show(LENT(b), 1, 50, b.output, OUTPUT), 50, 1, 0, 500);
+    CHECK(b.output[50] == OLD && b.output[OUTPUT - 1] == OLD);
+    CHECK(memcmp(b.pool, before.pool, b.pool_length) == 0 && memcmp(b.storage, before.storage, b.storage_length) == 0);
+    ANSWERS(0, slp_drop(LENT(b), 0, 512));
+    SHOWS(b, slp_show(LENT(b), 0, 88, NULL, 0), 88, 0, 512, 512);
+    ANSWERS(0, slp_drop(LENT(b), 0, 88));
+    SHOWS(b, slp_show(LENT(b), 0, 0, NULL, 0), 0, 0, 0, 0);
+    give_back(before);
+    give_back(b);
+}
+
+/* The code of an open with these counts, lent the given lengths; a no leaves the old bytes. */
+static unsigned open_code(uint16_t buffers, uint16_t pieces, uint16_t slips, size_t pool_length, size_t storage_length)
+{
+    uint8_t *pool = lend(pool_length, OLD);
+    uint8_t *storage = lend(storage_length, OLD);
+    uint8_t *old = lend(pool_length > storage_length ? pool_length : storage_length, OLD);
+    slp_answer a = slp_open(pool, pool_length, storage, storage_length, buffers, pieces, slips);
+    CHECK(a.number == 0);
+    CHECK((memcmp(pool, old, pool_length) == 0) == (a.code != SLP_DONE));
+    CHECK(memcmp(storage, old, storage_length) == 0);
+    free(pool);
+    free(storage);
+    free(old);
+    return a.code;
+}
+
+/* The macros are the lengths that open asks, to the byte; the limits are the largest counts that it takes. */
+static void macros(void)
+{
+    static const uint16_t shape[5][3] = {
+        {1, 1, 1}, {4, 6, 4}, {7, 256, 3}, {128, 1, 64}, {SLP_MOST_BUFFERS, SLP_MOST_PIECES, SLP_MOST_SLIPS}};
+    static const uint16_t outside[6][3] = {{0, 6, 4}, {4, 0, 4}, {4, 6, 0},
+        {SLP_MOST_BUFFERS + 1, 6, 4}, {4, SLP_MOST_PIECES + 1, 4}, {4, 6, SLP_MOST_SLIPS + 1}};
+    for (int i = 0; i < 5; i++) {
+        uint16_t buffers = shape[i][0], pieces = shape[i][1], slips = shape[i][2];
+        size_t pool = SLP_POOL_LENGTH(buffers, pieces, slips), storage = SLP_STORAGE_LENGTH(buffers);
+        CHECK(open_code(buffers, pieces, slips, pool, storage) == SLP_DONE);
+        CHECK(open_code(buffers, pieces, slips, pool - 1, storage) == SLP_COUNTS);
+        CHECK(open_code(buffers, pieces, slips, pool + 1, storage) == SLP_COUNTS);
+        CHECK(open_code(buffers, pieces, slips, pool, storage - 1) == SLP_COUNTS);
+        CHECK(open_code(buffers, pieces, slips, pool, storage + 1) == SLP_COUNTS);
+    }
+    for (int i = 0; i < 6; i++) {
+        uint16_t buffers = outside[i][0], pieces = outside[i][1], slips = outside[i][2];
+        CHECK(open_code(buffers, pieces, slips, SLP_POOL_LENGTH(buffers, pieces, slips), SLP_STORAGE_LENGTH(buffers)) == SLP_COUNTS);
+    }
+    CHECK(slp_open(NULL, 0, NULL, 0, 4, 6, 4).code == SLP_COUNTS);
+    CHECK(slp_open(NULL, 0, NULL, 0, 0, 0, 0).code == SLP_COUNTS);
+}
+
+/* The largest pool: all its storage in one chain, taken over by another slip, and every slip held. */
+static void largest(void)
+{
+    const uint32_t all = SLP_STORAGE_LENGTH(SLP_MOST_BUFFERS);
+    box b = fresh(SLP_MOST_BUFFERS, SLP_MOST_PIECES, SLP_MOST_SLIPS);
+    ANSWERS(0, put(b, all));
+    REFUSES(SLP_BUFFERS, b, put(b, 1));
+    ANSWERS(1, slp_cut(LENT(b), 0, 100, all - 100));
+    ANSWERS(0, slp_free(LENT(b), 0));
+    CHECK(reads(b, 1, all - 100, 100));
+    for (uint16_t s = 0; s < SLP_MOST_SLIPS; s++) {
+        if (s != 1) ANSWERS(s, slp_dup(LENT(b), 1));
+    }
+    REFUSES(SLP_SLIPS, b, slp_dup(LENT(b), 1));
+    CHECK(reads(b, SLP_MOST_SLIPS - 1, all - 100, 100));
+    for (uint16_t s = 0; s < SLP_MOST_SLIPS; s++) ANSWERS(0, slp_free(LENT(b), s));
+    CHECK(all_zero(b));
+    give_back(b);
+}
+
+int main(void)
+{
+    morning();
+    edges_of_put();
+    edges_of_others();
+    refusals_of_slips();
+    refusals_of_ranges();
+    refusals_of_room();
+    refusals_of_torn_pools();
+    idle_calls();
+    views();
+    macros();
+    largest();
+    printf("rows: %u checks, %u failed\n", checks, failures);
+    return failures == 0 && checks > 0 ? 0 : 1;
+}
