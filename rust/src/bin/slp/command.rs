@@ -10,7 +10,7 @@ use std::process::ExitCode;
 use fulcrumnest::{calls, Picture, Refusal};
 
 use crate::script::{self, FORMS};
-use crate::session::{Answer, Session};
+use crate::trial::{Answer, Trial};
 
 const USAGE: &str = "\
 slp run FILE [--draw]
@@ -89,7 +89,7 @@ fn command(arguments: &[OsString]) -> Result<ExitCode, Trouble> {
         Some("run") => {
             let (names, draw) = names(rest, "run FILE [--draw]", "--draw")?;
             let [file] = names;
-            session(file, draw)?;
+            trial(file, draw)?;
             Ok(ExitCode::SUCCESS)
         }
         Some("save") => {
@@ -180,30 +180,30 @@ fn open(name: &OsString) -> Result<Box<dyn BufRead>, Trouble> {
 }
 
 /// Makes the calls of a file in order, and prints each answer as it comes.
-fn session(name: &OsString, draw: bool) -> Result<Session, Trouble> {
+fn trial(name: &OsString, draw: bool) -> Result<Trial, Trouble> {
     let mut file = open(name)?;
     let place = Path::new(name).display();
-    let mut session = Session::default();
+    let mut trial = Trial::default();
     let mut line = Vec::new();
     for number in 1u64.. {
         line.clear();
         let got = file.read_until(b'\n', &mut line);
         match got.map_err(|error| Trouble::new(&place, format!("can't be read: {error}")))? {
             0 => break,
-            _ => answer(&mut session, &line, draw, &format!("{place}:{number}"))?,
+            _ => answer(&mut trial, &line, draw, &format!("{place}:{number}"))?,
         }
     }
-    Ok(session)
+    Ok(trial)
 }
 
 /// Makes the call of one line, if it has one, and prints the answer.
-fn answer(session: &mut Session, line: &[u8], draw: bool, place: &str) -> Result<(), Trouble> {
+fn answer(trial: &mut Trial, line: &[u8], draw: bool, place: &str) -> Result<(), Trouble> {
     let wrong = |what: &str| Trouble::new(place, what);
     let line = std::str::from_utf8(line).map_err(|_| wrong("the line is not UTF-8 text"))?;
     let Some(call) = script::parse(line).map_err(|what| wrong(&what))? else {
         return Ok(());
     };
-    let Some(answer) = session.answer(&call) else {
+    let Some(answer) = trial.answer(&call) else {
         return Err(wrong(
             "no pool is open; 'pool BUFFERS PIECES SLIPS' opens one",
         ));
@@ -211,7 +211,7 @@ fn answer(session: &mut Session, line: &[u8], draw: bool, place: &str) -> Result
     let mut out = io::stdout().lock();
     writeln!(out, "{call} -> {answer}")?;
     if draw {
-        if let Some(picture) = session.picture() {
+        if let Some(picture) = trial.picture() {
             for line in picture.to_string().lines() {
                 writeln!(out, "  {line}")?;
             }
@@ -232,8 +232,8 @@ fn save(
         let place = Path::new(pool).display();
         return Err(Trouble::new(place, "named for the pool and for storage"));
     }
-    let session = session(file, draw)?;
-    let Some((tables, buffers)) = session.bytes() else {
+    let trial = trial(file, draw)?;
+    let Some((tables, buffers)) = trial.bytes() else {
         let place = Path::new(file).display();
         return Err(Trouble::new(place, "no pool was opened, so none is saved"));
     };

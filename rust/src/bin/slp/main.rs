@@ -8,7 +8,7 @@ mod command;
 #[cfg(fulcrumnest_lib)]
 mod script;
 #[cfg(fulcrumnest_lib)]
-mod session;
+mod trial;
 
 use std::process::ExitCode;
 

@@ -67,11 +67,11 @@ fn printed(byte: u8) -> char {
 
 /// The pool and storage of a run, once a pool is open.
 #[derive(Default)]
-pub struct Session {
+pub struct Trial {
     held: Option<(Vec<u8>, Vec<u8>)>,
 }
 
-impl Session {
+impl Trial {
     /// Makes a call and answers; none where there is no pool to make it on.
     pub fn answer(&mut self, call: &Call) -> Option<Answer> {
         if let Call::Pool(shape) = call {
