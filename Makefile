@@ -1,8 +1,9 @@
 # make test: the gate, as .ci/run. make prove: every crate, with what is unchanged taken as proved.
+# make demo: the walk-through, proved and run: document 01's morning, with the tables after each call.
 # make lib: the archive target/staticlib/libslp.a. make figures: the cost of the audit and of the operations, counted.
 # make install: archive, header and pkg-config file to PREFIX (under DESTDIR, if given); the archive as it stands, made first if there is none.
 # make uninstall: takes the three away again.
-.PHONY: test prove lib figures fmt clean install uninstall
+.PHONY: test prove demo lib figures fmt clean install uninstall
 
 PREFIX = /usr/local
 ARCHIVE = target/staticlib/libslp.a
@@ -15,6 +16,10 @@ test:
 
 prove:
 	rt check
+
+demo:
+	rt check walkthrough
+	target/bin/walkthrough
 
 lib:
 	rt staticlib slp

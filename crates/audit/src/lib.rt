@@ -25,12 +25,12 @@ const PIECES: usize = PieceNumber::MOST as usize;
 const BUFFERS: usize = BufferNumber::MOST as usize;
 
 // The five numbers of a piece, loaded.
-struct Entry {
-    count: u16,
-    buffer: BufferNumber,
-    offset: u16,
-    len: u16,
-    next: u16,
+pub struct Entry {
+    pub count: u16,
+    pub buffer: BufferNumber,
+    pub offset: u16,
+    pub len: u16,
+    pub next: u16,
 }
 
 // What following next comes to: whether it ends, and how often it was followed.
@@ -86,7 +86,7 @@ fn count_slips(pool: &[u8], shape: Shape, refs: &mut [u16; PIECES]) -> bool
 }
 
 // The entry of piece `d`.
-fn entry_of(pool: &[u8], shape: Shape, d: PieceNumber) -> Entry
+pub fn entry_of(pool: &[u8], shape: Shape, d: PieceNumber) -> Entry
     requires { ⌜ Shaped (now pool) shape × (d .0 < shape .pieces) ⌝ }
     ensures { λ r. ⌜ pieceOf r ≡ piece (decode (now (pool .entry))) (d .0) ⌝ }
 {
@@ -297,7 +297,7 @@ fn tables_ok(pool: &[u8], shape: Shape) -> Followed
 }
 
 // Whether the mark and the version are a pool's.
-fn marked(pool: &[u8]) -> bool
+pub fn marked(pool: &[u8]) -> bool
     requires { ⌜ 11 ≤ length (now pool) ⌝ }
     ensures { λ r. ⌜ r ≡ markOk (now (pool .entry)) ⌝ }
 {
@@ -314,7 +314,7 @@ fn marked(pool: &[u8]) -> bool
 }
 
 // The exact length of a pool of this shape.
-fn pool_length(shape: Shape) -> usize
+pub fn pool_length(shape: Shape) -> usize
     ensures { λ r. ⌜ r ≡ poolLength (shape .buffers) (shape .pieces) (shape .slips) ⌝ }
 {
     11 + 2 * shape.slips as usize + 10 * shape.pieces as usize + 2 * shape.buffers as usize

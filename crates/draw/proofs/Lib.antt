@@ -1,0 +1,3 @@
+-- The laws of draw.
+pub mod Text
+pub mod Example

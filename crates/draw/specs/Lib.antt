@@ -1,0 +1,2 @@
+-- How a pool is drawn.
+pub mod Text

@@ -1,0 +1,3 @@
+-- The laws of page.
+pub mod Page
+pub mod Digits

@@ -1,0 +1,2 @@
+-- The laws of reply.
+pub mod Text

@@ -1,0 +1,2 @@
+-- How an answer is written.
+pub mod Text

@@ -1,0 +1,2 @@
+-- The laws of walkthrough.
+mod Data

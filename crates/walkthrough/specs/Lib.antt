@@ -1,0 +1,2 @@
+-- What stands behind a call.
+pub mod Row
