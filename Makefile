@@ -1,9 +1,9 @@
 # make test: the gate, as .ci/run. make prove: every crate, with what is unchanged taken as proved.
 # make demo: the walk-through, proved and run: document 01's morning, with the tables after each call.
-# make lib: the archive target/staticlib/libslp.a. make figures: the cost of the audit and of the operations, counted.
+# make lib: the archive target/staticlib/libslp.a. make bench: the cost of the audit and of the operations beside the same by hand, as ratios.
 # make install: archive, header and pkg-config file to PREFIX (under DESTDIR, if given); the archive as it stands, made first if there is none.
 # make uninstall: takes the three away again.
-.PHONY: test prove demo lib figures fmt clean install uninstall
+.PHONY: test prove demo lib bench fmt clean install uninstall
 
 PREFIX = /usr/local
 ARCHIVE = target/staticlib/libslp.a
@@ -24,9 +24,8 @@ demo:
 lib:
 	rt staticlib slp
 
-figures:
-	tools/audit-figures
-	tools/operation-figures
+bench:
+	tools/bench
 
 fmt:
 	rt fmt

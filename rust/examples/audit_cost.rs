@@ -3,6 +3,9 @@
 //! `audit_cost WHO B P S TIMES`: WHO is `library` (slp_audit) or `yardstick` (the same audit written by hand in
 //! ordinary Rust, without bounds checks). The pool is full: every piece is in use.
 
+#[allow(dead_code)]
+mod by_hand;
+
 use std::env;
 use std::hint::black_box;
 
@@ -40,103 +43,6 @@ fn full_pool(b: usize, p: usize, s: usize) -> (Vec<u8>, Vec<u8>) {
     (pool, vec![0u8; 512 * b])
 }
 
-/// The 16-bit number at byte `at`, which the caller keeps inside the pool.
-#[inline(always)]
-unsafe fn get16(pool: &[u8], at: usize) -> u16 {
-    debug_assert!(at + 2 <= pool.len());
-    unsafe { u16::from_le_bytes(*pool.as_ptr().add(at).cast::<[u8; 2]>()) }
-}
-
-/// The audit by hand: header, slips, pieces, counts, then the walk with colours.
-#[inline(never)]
-fn yardstick(pool: &[u8], storage: usize) -> u16 {
-    if pool.len() < 11 || &pool[..3] != b"SLP" {
-        return 2;
-    }
-    unsafe {
-        let (b, p, s) = (
-            get16(pool, 5) as usize,
-            get16(pool, 7) as usize,
-            get16(pool, 9) as usize,
-        );
-        let ranges = (1..=128).contains(&b) && (1..=256).contains(&p) && (1..=64).contains(&s);
-        if get16(pool, 3) != 1
-            || !ranges
-            || pool.len() != 11 + 2 * s + 10 * p + 2 * b
-            || storage != 512 * b
-        {
-            return 2;
-        }
-        let (pieces, counts) = (11 + 2 * s, 11 + 2 * s + 10 * p);
-        let mut refs = [0u16; 256];
-        let mut lies = [0u16; 128];
-        for slip in 0..s {
-            let v = get16(pool, 11 + 2 * slip) as usize;
-            if v > p + 1 {
-                return 2;
-            }
-            if v >= 2 {
-                *refs.get_unchecked_mut(v - 2) += 1;
-            }
-        }
-        for d in 0..p {
-            let at = pieces + 10 * d;
-            let (count, buffer, offset, length, next) = (
-                get16(pool, at),
-                get16(pool, at + 2),
-                get16(pool, at + 4),
-                get16(pool, at + 6),
-                get16(pool, at + 8),
-            );
-            if count == 0 {
-                if buffer != 0 || offset != 0 || length != 0 || next != 0 {
-                    return 2;
-                }
-                continue;
-            }
-            if buffer as usize >= b
-                || length < 1
-                || offset as u32 + length as u32 > 512
-                || next as usize > p
-            {
-                return 2;
-            }
-            if next != 0 {
-                *refs.get_unchecked_mut(next as usize - 1) += 1;
-            }
-            *lies.get_unchecked_mut(buffer as usize) += 1;
-        }
-        for d in 0..p {
-            if get16(pool, pieces + 10 * d) != *refs.get_unchecked(d) {
-                return 2;
-            }
-        }
-        for i in 0..b {
-            if get16(pool, counts + 2 * i) != *lies.get_unchecked(i) {
-                return 2;
-            }
-        }
-        let mut colours = [0u16; 256];
-        for d in 0..p {
-            let colour = d as u16 + 1;
-            let mut link = colour;
-            while link != 0 {
-                let at = link as usize - 1;
-                let seen = *colours.get_unchecked(at);
-                if seen != 0 {
-                    if seen == colour {
-                        return 2;
-                    }
-                    break;
-                }
-                *colours.get_unchecked_mut(at) = colour;
-                link = get16(pool, pieces + 10 * at + 8);
-            }
-        }
-        0
-    }
-}
-
 fn main() {
     let args: Vec<String> = env::args().skip(1).collect();
     let number = |i: usize| args[i].parse::<usize>().expect("a number");
@@ -147,7 +53,7 @@ fn main() {
         let pool = black_box(&pool[..]);
         codes += match args[0].as_str() {
             "library" => fulcrumnest::audit(pool, black_box(&storage[..])).code as u64,
-            _ => yardstick(pool, black_box(storage.len())) as u64,
+            _ => by_hand::audit(pool, black_box(&storage[..])).code as u64,
         };
     }
     assert_eq!(codes, 0, "the full pool is sound");

@@ -1,8 +1,8 @@
 //! Does one operation many times on a full pool, so that a profiler can count its instructions.
 //!
 //! `operation_cost WHO CASE TIMES`: WHO is `library` (audit and operation), `audit` (slp_audit alone on the same
-//! pool), `yardstick` (the same operation written by hand, unaudited) or `empty` (a call that does nothing). Every call
-//! starts from the case's pool, storage and output, which are copied back in each run alike. Before that the library
+//! pool), `yardstick` (the same operation written by hand, unaudited), `audited` (the audit by hand and then the same)
+//! or `empty` (a call that does nothing). Every call starts from the case's pool, storage and output, which are copied back in each run alike. Before that the library
 //! and the yardstick do the case once, and must leave the very same bytes and answer.
 //!
 //! Without arguments it lists the cases, one a line: name, operation and what is done.
@@ -208,15 +208,16 @@ fn shared(pieces: usize, from: usize, room: Room) -> Lent {
 /// One way to do something with what is lent.
 type Way = fn(&mut Lent);
 
-/// An operation, the library's way to do it and the yardstick's.
+/// An operation, the library's way to do it and the yardstick's, as it is and behind an audit.
 #[derive(Clone, Copy)]
 struct Operation {
     name: &'static str,
     library: Way,
     yardstick: Way,
+    audited: Way,
 }
 
-/// Both ways of one operation, called with the same arguments.
+/// The ways of one operation, called with the same arguments.
 macro_rules! operation {
     ($l:ident.$answer:ident = $name:ident($($argument:expr),*)) => {
         Operation {
@@ -224,6 +225,11 @@ macro_rules! operation {
             library: |$l| $l.$answer = fulcrumnest::$name($($argument),*),
             // Every case's pool is audited before it is used.
             yardstick: |$l| $l.$answer = unsafe { by_hand::$name($($argument),*) },
+            audited: |$l| {
+                if by_hand::audit(&$l.pool, &$l.storage).code == 0 {
+                    $l.$answer = unsafe { by_hand::$name($($argument),*) };
+                }
+            },
         }
     };
 }
@@ -439,7 +445,10 @@ fn nothing(_pool: &mut [u8], _storage: &mut [u8]) -> Answer {
 
 /// Both ways leave the same bytes and answer, done, and the pool is sound before and after.
 fn compare(case: &Case) {
-    let sound = |lent: &Lent| fulcrumnest::audit(&lent.pool, &lent.storage).code == 0;
+    let sound = |lent: &Lent| {
+        let by_hand = by_hand::audit(&lent.pool, &lent.storage);
+        fulcrumnest::audit(&lent.pool, &lent.storage).code == 0 && by_hand.code == 0
+    };
     assert!(sound(&case.lent), "{}: the case's pool", case.name);
     let (mut one, mut two) = (case.lent.clone(), case.lent.clone());
     (case.operation.library)(&mut one);
@@ -473,8 +482,9 @@ fn main() {
         "library" => case.operation.library,
         "audit" => |l| l.answer = fulcrumnest::audit(&l.pool, &l.storage),
         "yardstick" => case.operation.yardstick,
+        "audited" => case.operation.audited,
         "empty" => |l| l.answer = nothing(&mut l.pool, &mut l.storage),
-        _ => panic!("library, audit, yardstick or empty"),
+        _ => panic!("library, audit, yardstick, audited or empty"),
     };
     compare(case);
     let mut lent = case.lent.clone();

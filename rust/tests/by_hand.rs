@@ -8,7 +8,7 @@ use common::model::{Call, Outcome, View, NO_VIEW, TRUE};
 use common::random::SHAPES;
 use common::sequence::{run_lists, setting};
 
-/// One call by hand; open and audit are the model's. The pool is sound: its list starts from a done open.
+/// One call by hand; open is the model's. The pool is sound: its list starts from a done open.
 fn step(pool: &[u8], storage: &[u8], call: &Call) -> Outcome {
     let (mut new, mut bytes, mut lent) = (pool.to_vec(), storage.to_vec(), call.lent().to_vec());
     let (p, s, l) = (&mut new[..], &mut bytes[..], &mut lent[..]);
@@ -16,7 +16,8 @@ fn step(pool: &[u8], storage: &[u8], call: &Call) -> Outcome {
     // The pool is sound, and storage is of its length.
     let answer = unsafe {
         match call {
-            Call::Open { .. } | Call::Audit => return TRUE.step(pool, storage, call),
+            Call::Open { .. } => return TRUE.step(pool, storage, call),
+            Call::Audit => by_hand::audit(p, s),
             Call::Put { data } => by_hand::put(p, s, data),
             Call::Free { slip } => by_hand::free(p, s, *slip),
             Call::Dup { slip } => by_hand::dup(p, s, *slip),

@@ -1,6 +1,6 @@
 //! The operations written by hand in ordinary Rust over the same bytes: the yardstick of the figures.
 //!
-//! Each trusts that the pool is sound, and audits nothing. It judges its own codes in their order, takes nothing
+//! Each but the audit trusts that the pool is sound, and audits nothing. It judges its own codes in their order, takes nothing
 //! before every refusal is ruled out, and loads and stores without bounds checks. A link is 0 for none, 1 + d for
 //! piece d.
 
@@ -11,6 +11,7 @@ use fulcrumnest::{Answer, Shown};
 /// Bytes of one buffer.
 const SIZE: usize = 512;
 
+const TORN: u16 = 2;
 const SLIP: u16 = 3;
 const SAME: u16 = 4;
 const LONG: u16 = 5;
@@ -356,6 +357,82 @@ impl Tables {
 unsafe fn clear_rest(storage: &mut [u8], buffer: usize, n: usize) {
     let start = SIZE * buffer;
     storage.get_unchecked_mut(start + n..start + SIZE).fill(0);
+}
+
+/// The code of audit: header, slips, pieces, counts, then the walk with colours.
+unsafe fn audited(pool: &[u8], storage: usize) -> u16 {
+    if pool.len() < 11 || &pool[..3] != b"SLP" || get16(pool, 3) != 1 {
+        return TORN;
+    }
+    let t = Tables::of(pool);
+    let (b, p, s) = (t.buffers, t.pieces, t.slips);
+    let ranges = (1..=128).contains(&b) && (1..=256).contains(&p) && (1..=64).contains(&s);
+    if !ranges || pool.len() != t.count(b) || storage != SIZE * b {
+        return TORN;
+    }
+    let mut refs = [0u16; 256];
+    let mut lies = [0u16; 128];
+    for slip in 0..s {
+        let v = get16(pool, t.slip(slip));
+        if v > p + 1 {
+            return TORN;
+        }
+        if v >= 2 {
+            *refs.get_unchecked_mut(v - 2) += 1;
+        }
+    }
+    for d in 0..p {
+        let at = t.piece(d);
+        let (buffer, offset) = (get16(pool, at + BUFFER), get16(pool, at + OFFSET));
+        let (length, next) = (get16(pool, at + LENGTH), get16(pool, at + NEXT));
+        if get16(pool, at) == 0 {
+            if buffer != 0 || offset != 0 || length != 0 || next != 0 {
+                return TORN;
+            }
+            continue;
+        }
+        if buffer >= b || length < 1 || offset + length > SIZE || next > p {
+            return TORN;
+        }
+        if next != 0 {
+            *refs.get_unchecked_mut(next - 1) += 1;
+        }
+        *lies.get_unchecked_mut(buffer) += 1;
+    }
+    for d in 0..p {
+        if get16(pool, t.piece(d)) != *refs.get_unchecked(d) as usize {
+            return TORN;
+        }
+    }
+    for i in 0..b {
+        if get16(pool, t.count(i)) != *lies.get_unchecked(i) as usize {
+            return TORN;
+        }
+    }
+    let mut colours = [0u16; 256];
+    for d in 0..p {
+        let colour = d as u16 + 1;
+        let mut link = d + 1;
+        while link != 0 {
+            let seen = colours.get_unchecked_mut(link - 1);
+            if *seen == colour {
+                return TORN;
+            }
+            if *seen != 0 {
+                break;
+            }
+            *seen = colour;
+            link = get16(pool, t.piece(link - 1) + NEXT);
+        }
+    }
+    0
+}
+
+/// audit: whether the pool is sound, for any bytes.
+#[inline(never)]
+pub fn audit(pool: &[u8], storage: &[u8]) -> Answer {
+    // It loads nothing before it has tested the length that the loads ask.
+    refused(unsafe { audited(pool, storage.len()) })
 }
 
 /// put: the bytes go into fresh pieces, under a new slip.
