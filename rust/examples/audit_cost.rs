@@ -52,7 +52,7 @@ fn main() {
     for _ in 0..times {
         let pool = black_box(&pool[..]);
         codes += match args[0].as_str() {
-            "library" => fulcrumnest::audit(pool, black_box(&storage[..])).code as u64,
+            "library" => fulcrumnest::calls::audit(pool, black_box(&storage[..])).code as u64,
             _ => by_hand::audit(pool, black_box(&storage[..])).code as u64,
         };
     }

@@ -222,7 +222,7 @@ macro_rules! operation {
     ($l:ident.$answer:ident = $name:ident($($argument:expr),*)) => {
         Operation {
             name: stringify!($name),
-            library: |$l| $l.$answer = fulcrumnest::$name($($argument),*),
+            library: |$l| $l.$answer = fulcrumnest::calls::$name($($argument),*),
             // Every case's pool is audited before it is used.
             yardstick: |$l| $l.$answer = unsafe { by_hand::$name($($argument),*) },
             audited: |$l| {
@@ -447,7 +447,7 @@ fn nothing(_pool: &mut [u8], _storage: &mut [u8]) -> Answer {
 fn compare(case: &Case) {
     let sound = |lent: &Lent| {
         let by_hand = by_hand::audit(&lent.pool, &lent.storage);
-        fulcrumnest::audit(&lent.pool, &lent.storage).code == 0 && by_hand.code == 0
+        fulcrumnest::calls::audit(&lent.pool, &lent.storage).code == 0 && by_hand.code == 0
     };
     assert!(sound(&case.lent), "{}: the case's pool", case.name);
     let (mut one, mut two) = (case.lent.clone(), case.lent.clone());
@@ -480,7 +480,7 @@ fn main() {
     let times: u64 = args[2].parse().expect("a number");
     let way: Way = match args[0].as_str() {
         "library" => case.operation.library,
-        "audit" => |l| l.answer = fulcrumnest::audit(&l.pool, &l.storage),
+        "audit" => |l| l.answer = fulcrumnest::calls::audit(&l.pool, &l.storage),
         "yardstick" => case.operation.yardstick,
         "audited" => case.operation.audited,
         "empty" => |l| l.answer = nothing(&mut l.pool, &mut l.storage),

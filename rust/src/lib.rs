@@ -44,10 +44,6 @@ mod shape;
 mod svg;
 mod tables;
 
-#[doc(no_inline)]
-pub use calls::{
-    append, audit, cut, drop, dup, free, keep, length, open, pack, pullup, put, read, show,
-};
 pub use fault::Fault;
 pub use ffi::{Answer, Shown};
 pub use picture::Picture;

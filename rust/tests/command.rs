@@ -72,6 +72,15 @@ fn morning() {
     }
 }
 
+/// The proved walk-through prints the same rows, drawn the same: its first call is named open, and it reads nothing.
+#[test]
+fn walkthrough() {
+    let rows = MORNING.split_inclusive("\n\n");
+    let rows: String = rows.filter(|row| !row.starts_with("read ")).collect();
+    let rows = rows.replacen("pool ", "open ", 1);
+    assert_eq!(rows, include_str!("../../crates/walkthrough/stdout"));
+}
+
 /// Without the drawings there is one line a call, and the bytes under a read.
 #[test]
 fn morning_without_drawings() {
@@ -433,6 +442,8 @@ fn svg() {
     ] {
         let left = slp(&arguments, b"");
         assert_eq!((left.err.as_str(), left.status), ("", 0));
+        // The README shows this very picture.
+        assert_eq!(left.out, include_str!("../../docs/sharing.svg"));
         let elements = xml::elements(&left.out).expect("well-formed");
         let count = |name: &str, class: &str| {
             let of = |e: &&Element| e.name == name && e.is(class);
