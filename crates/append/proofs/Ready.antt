@@ -1,27 +1,22 @@
--- The tables on the way of a join: b is made vacant after the new pieces are built, and what stands before the hanging is sound. Assumes nothing.
-use mathlib.Core.Path.{_≡_, refl, sym, ap, subst, _∙_}
-use mathlib.Core.List.{List, [], _∷_}
-use Prim.Native.Nat.{ℕ, pred, _-_, _≤_, _<_}
-use native.Mathlib.Decide.{ℕ-discrete}
+-- The tables on the way of a join: b is made vacant after the new pieces, if any, are built, and what stands before the hanging is sound. Assumes nothing.
+use mathlib.Core.Path.{_≡_, sym, ap, subst, _∙_}
+use mathlib.Core.List.{List, []}
+use Prim.Native.Nat.{ℕ, _-_, _≤_, _<_}
 use native.Mathlib.Omega.{arith}
-use lib.ListN.{length, getD, drop, length-set}
-use lib.Seq.{getD-set-other}
+use lib.ListN.{length}
 use Rattle.rules.specs.Basics.{Is}
-use Rattle.rules.specs.Tables.{Tables, slip, piece, headOf, vacant, slipTotal, pieceTotal, bufferTotal, setSlip}
+use Rattle.rules.specs.Tables.{Tables, piece, headOf, vacant, pieceTotal, setSlip}
 use Rattle.rules.specs.Bytes.{decode}
-use Rattle.rules.specs.Chain.{Stretch, spans, cutOut}
+use Rattle.rules.specs.Chain.{Stretch, follow, cutOut}
 use Rattle.rules.specs.Sound.{linkOk}
 use Rattle.rules.specs.Room.{freePieces}
 use Rattle.rules.specs.Release.{withTables}
-use Rattle.rules.specs.Build.{fresh, taken, built, builtLink}
+use Rattle.rules.specs.Build.{built, builtLink}
 use Rattle.rules.specs.Append.{ownOf, notOwn, joined}
 use Rattle.rules.specs.Step.{stateIn}
-use Rattle.rules.proofs.Moves.{SoundNow, reorder, slip-move}
+use Rattle.rules.proofs.Append.{ready, readyLink, join-ready}
 use Rattle.rules.proofs.Audit.{tables-now}
-use Rattle.rules.proofs.Build.{OwnList, own-pieces, own-list-still, built-kept, built-sound}
-use Rattle.rules.proofs.Chain.{spans-good, good-drop, built-own}
 use Rattle.rules.proofs.Codes.{named}
-use Rattle.rules.proofs.Room.{free-pieces}
 use Rattle.tables.specs.declared.Shape.{Shape}
 use Rattle.tables.specs.Shape.{Holds}
 use Rattle.tables.proofs.Laws.{whole, total-pieces}
@@ -31,7 +26,7 @@ use Rattle.chain.specs.Opened.{Opened}
 use Rattle.chain.specs.Length.{stretchesFrom}
 use Rattle.chain.specs.Own.{lastLink, ownRun}
 use Rattle.chain.specs.Part.{partOf}
-use Rattle.chain.proofs.Links.{link-leads}
+use Rattle.chain.proofs.Links.{link-leads, link-below, stretches-none}
 use Rattle.chain.proofs.Own.{OwnLaws, own-laws}
 use Rattle.chain.proofs.Parts.{part-all}
 use Rattle.release.specs.Hang.{Hangable, hungTo}
@@ -41,33 +36,10 @@ use Rattle.answer.proofs.New.{new-link}
 use Rattle.append.specs.Join.{Joinable}
 use Rattle.build.proofs.Forward.{built-slip}
 
--- ---- over the tables
-
-module _ (T : Tables) (a b : ℕ) where
-  -- the tables before the hanging: b is vacant, and its head stands behind new pieces for those of a that are not own
-  abbrev ready : Tables
-  ready = built (setSlip T b vacant) (freePieces T) (notOwn T a) (headOf T b)
-
-  abbrev readyLink : ℕ
-  readyLink = builtLink (freePieces T) (notOwn T a) (headOf T b)
-
-  -- the link to the first new piece is held, and a's own pieces are own still
-  module _ (apart : a ≡ b → ⊥) (a-below : a < slipTotal T) (b-below : b < slipTotal T) (sound : SoundNow T) where
-    ready-hangable : Hangable ready (lastLink (ownOf T a)) readyLink
-    ready-hangable =
-        let own = ownOf T a in
-        let xs = notOwn T a in
-        let m = headOf T b in
-        let fs = freePieces T in
-        let T₁ : Tables = setSlip T b vacant in
-        let k = built-kept T₁ fs xs m .slips-kept in
-        let same : slip ready a ≡ slip T a = ap (λ (l : List ℕ). getD l a 0) k ∙ getD-set-other (T .slips) b a 0 0 apart in
-        let held = built-sound T₁ fs xs m {fl = []} (free-pieces T₁) (good-drop (bufferTotal T) (length own) (spans T a) (spans-good T a sound))
-        (sound .0, slip-move {fl = []} b 0 b-below (reorder (λ x. omega arith) (sound .1))) in
-        let still = own-list-still T ready (headOf T a) own (λ d c. built-own T₁ fs xs m (free-pieces T₁) d c) (own-pieces (pieceTotal T) (headOf T a) T) in
-        hangable ready a readyLink own (omega (arith, ap length k, length-set (T .slips) b 0)) (subst (λ (v : ℕ). OwnList ready (pred v) own) (sym same) still) held
-
--- ---- over what the code has
+-- the tables of r are those before the hanging, and first is the link held there
+pub record IsReady (T : Tables) (a b : ℕ) (r : List ℕ) (first : ℕ) : Type 0 where
+  pub is : decode r ≡ ready T a b
+  pub link : first ≡ readyLink T a b
 
 -- more bytes than any chain has
 abbrev most : ℕ
@@ -93,28 +65,25 @@ module _ {p : List ℕ} {h : Shape} {a b head tail : ℕ} (o : Opened p h) (j : 
   pub head-ok : Is (linkOk T head)
   head-ok = subst (λ (x : ℕ). Is (linkOk T x)) (sym (j .head-is)) a-ok
 
-  module _ {own : OwnRun} (is : own ≡ ownRun (h .pieces) T head) where
-    -- what the code counts as own is what the rule does
-    run-is : own ≡ ownRun (pieceTotal T) T (headOf T a)
-    run-is = is ∙ (λ i. ownRun (sym (total-pieces (whole (o .shaped))) i) T (j .head-is i))
-
-    laws : OwnLaws T (headOf T a) (ownOf T a) own
-    laws = subst (OwnLaws T (headOf T a) (ownOf T a)) (sym run-is) (own-laws (pieceTotal T) (headOf T a) T (o .sound) a-ok)
+  module _ {own : OwnRun} (is : own ≡ ownRun T head) where
+    -- what the code has as own is what the rule has
+    run-is : own ≡ ownRun T (headOf T a)
+    run-is = is ∙ ap (ownRun T) (j .head-is)
 
     last-is : own .last ≡ lastLink (ownOf T a)
     unfolding ownRun
     last-is = ap (λ (r : OwnRun). r .last) run-is
 
-    count-is : own .count ≡ length (ownOf T a)
+    next-is : own .next ≡ follow T (length (ownOf T a)) (headOf T a)
     unfolding ownRun
-    count-is = ap (λ (r : OwnRun). r .count) run-is
+    next-is = ap (λ (r : OwnRun). r .next) run-is
+
+    laws : OwnLaws T (headOf T a) (ownOf T a) (own .next)
+    laws = subst (OwnLaws T (headOf T a) (ownOf T a)) (sym next-is) (own-laws (pieceTotal T) (headOf T a) T (o .sound) a-ok)
 
     -- the links to the last own piece and after it are good
     pub last-below : own .last ≤ h .pieces
-    last-below = elim (ℕ-discrete (own .last) 0) [
-      | yes z ↦ omega arith
-      | no z ↦ omega (arith, link-leads T (own .last) (o .sound) (laws .last-ok) z .below, total-pieces (whole (o .shaped)))
-    ]
+    last-below = omega (arith, last-is, link-below T (lastLink (ownOf T a)) (o .sound) (laws .last-ok), total-pieces (whole (o .shaped)))
 
     pub next-ok : Is (linkOk T (own .next))
     next-ok = laws .next-ok
@@ -124,7 +93,11 @@ module _ {p : List ℕ} {h : Shape} {a b head tail : ℕ} (o : Opened p h) (j : 
 
     -- what stands behind the own pieces: all of it is replaced
     rest : cutOut (stretchesFrom T (own .next)) 0 most ≡ notOwn T a
-    rest = part-all T (o .sound) (own .next) most next-ok (omega (arith, few)) ∙ sym (laws .rest) ∙ ap (λ (k : ℕ). drop k (spans T a)) count-is
+    rest = part-all T (o .sound) (own .next) most next-ok (omega (arith, few)) ∙ sym (laws .rest)
+
+    -- nothing, where no piece does
+    pub no-others : own .next ≡ 0 → notOwn T a ≡ []
+    no-others z = laws .rest ∙ ap (stretchesFrom T) z ∙ stretches-none T
 
     -- how many pieces it has
     pub others-part : {part : Part} → part ≡ partOf T (own .next) most → part .pieces ≡ length (cutOut (stretchesFrom T (own .next)) 0 most)
@@ -134,25 +107,35 @@ module _ {p : List ℕ} {h : Shape} {a b head tail : ℕ} (o : Opened p h) (j : 
     pub others-count : {part : Part} → part ≡ partOf T (own .next) most → part .pieces ≡ length (notOwn T a)
     others-count e = others-part e ∙ ap length rest
 
-    -- the new pieces are built, and then b is made vacant
-    module _ {q r : List ℕ} {first : ℕ} (was : Holds q h (built T (freePieces T) (cutOut (stretchesFrom T (own .next)) 0 most) tail))
-        (link : first ≡ builtLink (freePieces T) (cutOut (stretchesFrom T (own .next)) 0 most) tail) (now : Holds r h (setSlip (decode q) b vacant)) where
-      -- these are the tables before the hanging, and the link held there
-      is-ready : decode r ≡ ready T a b
-      is-ready =
-          now .is ∙ ap (λ (U : Tables). setSlip U b vacant) (was .is ∙ (λ i. built T (freePieces T) (rest i) (j .tail-is i)))
-          ∙ sym (built-slip T b vacant (freePieces T) (notOwn T a) (headOf T b))
+    -- all pieces are own, and b is made vacant: so it is ready
+    pub own-ready : {r : List ℕ} → own .next ≡ 0 → Holds r h (setSlip T b vacant) → IsReady T a b r tail
+    unfolding built builtLink
+    own-ready z now =
+        let e = sym (no-others z) in
+        record {
+          is = now .is ∙ ap (λ (xs : List Stretch). built (setSlip T b vacant) (freePieces T) xs (headOf T b)) e;
+          link = j .tail-is ∙ ap (λ (xs : List Stretch). builtLink (freePieces T) xs (headOf T b)) e;
+        }
 
-      is-link : first ≡ readyLink T a b
-      is-link = link ∙ (λ i. builtLink (freePieces T) (rest i) (j .tail-is i))
+    -- the new pieces are built, and then b is made vacant: so it is ready
+    pub new-ready : {q r : List ℕ} {first : ℕ} → Holds q h (built T (freePieces T) (cutOut (stretchesFrom T (own .next)) 0 most) tail)
+        → first ≡ builtLink (freePieces T) (cutOut (stretchesFrom T (own .next)) 0 most) tail → Holds r h (setSlip (decode q) b vacant) → IsReady T a b r first
+    new-ready was link now =
+        record {
+          is = now .is ∙ ap (λ (U : Tables). setSlip U b vacant) (was .is ∙ (λ i. built T (freePieces T) (rest i) (j .tail-is i)))
+              ∙ sym (built-slip T b vacant (freePieces T) (notOwn T a) (headOf T b));
+          link = link ∙ (λ i. builtLink (freePieces T) (rest i) (j .tail-is i));
+        }
 
-      -- so it can be hung
+    module _ {r : List ℕ} {first : ℕ} (it : IsReady T a b r first) where
+      -- the link can be hung
       pub first-small : first < 65535
-      first-small = omega (arith, new-link T (notOwn T a) (headOf T b) is-link tail-most, few)
+      first-small = omega (arith, new-link T (notOwn T a) (headOf T b) (it .link) tail-most, few)
 
       pub join-hangable : Hangable (decode r) (own .last) first
       join-hangable =
-          rw (is-ready, last-is, is-link) (ready-hangable T a b (j .apart) (named T a (j .a-named) .0) (named T b (j .b-named) .0) (tables-now T (o .sound)))
+          let y = join-ready T a b (j .apart) (named T a (j .a-named) .0) (named T b (j .b-named) .0) (tables-now T (o .sound)) in
+          rw (it .is, last-is, it .link) (hangable (ready T a b) a (readyLink T a b) (ownOf T a) (y .below) (y .own) (y .held))
 
       -- what the hanging leaves is the rule's
       pub join-after : (st : List ℕ) {x : List ℕ} → Holds x h (hungTo (decode r) a (own .last) first) → Holds x h (joined a b (stateIn (lent p st)) .tables)
@@ -160,5 +143,5 @@ module _ {p : List ℕ} {h : Shape} {a b head tail : ℕ} (o : Opened p h) (j : 
       join-after st is =
           let S = stateIn (lent p st) in
           let e : hungTo (decode r) a (own .last) first ≡ joined a b S .tables =
-          (λ i. hungTo (is-ready i) a (last-is i) (is-link i)) ∙ sym (behind-tables (withTables S (ready T a b)) a (readyLink T a b) (ownOf T a)) in
+          (λ i. hungTo (it .is i) a (last-is i) (it .link i)) ∙ sym (behind-tables (withTables S (ready T a b)) a (readyLink T a b) (ownOf T a)) in
           record { shaped = is .shaped; is = is .is ∙ e }

@@ -28,16 +28,21 @@ fn join(
     ensures { λ r. ⌜ ((st : List ℕ) → resultOf r (now (pool .exit)) st [] noView ≡ perform (Append (a .0) (b .0)) (lent (now (pool .entry)) st)) ⌝ }
     ensures { λ r. ⌜ Leaves r (stateOf (slip (decode (now (pool .exit))) (a .0))) ⌝ }
 {
-    let own = chain::own_run(pool, shape, head, shape.pieces);
+    let own = chain::own_run(pool, shape, head);
     let last = own.last;
     let next = own.next;
+    if next == 0 {
+        tables::set_slip(pool, shape, b, 0);
+        release::hang(pool, shape, a, last, tail);
+        return answer::done(pool, shape, a, 0);
+    }
     let part = chain::part_of(pool, shape, next, u32::MAX as u64);
     let pieces = part.pieces;
-    let lowest = chain::lowest_piece(pool, shape, pieces as usize);
-    if !chain::has_pieces(pool, shape, lowest, pieces as usize) {
+    let room = chain::piece_room(pool, shape, pieces as usize);
+    if !room.enough {
         return Outcome::Refused(Refusal::Pieces);
     }
-    let first = build::copy_pieces(pool, shape, next, 0, u32::MAX, pieces, lowest, tail);
+    let first = build::copy_pieces(pool, shape, next, 0, u32::MAX, pieces, room.lowest, tail);
     tables::set_slip(pool, shape, b, 0);
     release::hang(pool, shape, a, last, first);
     answer::done(pool, shape, a, 0)

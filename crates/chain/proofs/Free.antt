@@ -15,7 +15,8 @@ use Rattle.rules.specs.Room.{isVacant, isFree, isUnheld, vacantSlips, freePiece
 use Rattle.rules.proofs.Logic.{if-T, if-F, if-either, bit-one, is-true}
 use Rattle.rules.proofs.Sums.{sumTo-ones}
 use Rattle.rules.proofs.Room.{places-count-0}
-use Rattle.chain.specs.Free.{firstOr, firstFrom, lowestFor}
+use Rattle.chain.specs.declared.Room.{Room}
+use Rattle.chain.specs.Free.{firstOr, firstFrom, lowestFor, enoughFrom, roomFor}
 
 -- ---- tests against zero
 
@@ -185,28 +186,53 @@ count-most f i = rw places-count-0 (sumTo-ones i (λ j. bit (f j)) (λ j. bit-on
 
 -- ---- whether there are enough
 
--- at least k of the numbers from i on and below n pass
-abbrev pub enough : (ℕ → Bool) → ℕ → ℕ → ℕ → Bool
-enough f k i n = leb k (length (places f i (n - i)))
-
--- before any is looked at, from the lowest wanted on
-pub enough-all : (f : ℕ → Bool) (k n : ℕ) {r : ℕ} → r ≡ lowestFor f k n → enough f k r n ≡ leb k (length (places f 0 n))
-enough-all f k n e = ap (λ (l : List ℕ). leb k (length l)) (lowest-all f k n e)
-
 module _ (f : ℕ → Bool) (k i n : ℕ) where
-  -- none is asked for
-  pub enough-found : k ≡ 0 → true ≡ enough f k i n
-  enough-found z = sym (le-leb k (length (places f i (n - i))) (omega arith))
-
   -- one is asked for, and none is left
-  pub enough-none : {r : ℕ} → 0 < k → r ≡ firstFrom f i n → r ≡ n → false ≡ enough f k i n
-  enough-none h e z = sym (ap (λ (l : List ℕ). leb k (length l)) (free-none f i n e z) ∙ lt-leb k 0 h)
+  pub enough-none : 0 < k → n ≤ i → false ≡ enoughFrom f k i n
+  enough-none h b =
+      let z : n - i ≡ 0 = omega arith in
+      sym (ap (λ (l : List ℕ). leb k (length l)) (ap (places f i) z ∙ none-of f i) ∙ lt-leb k 0 h)
 
-  -- one is found, and the rest is asked for after it
-  pub enough-more : {r : ℕ} → 0 < k → r ≡ firstFrom f i n → r < n → enough f (k - 1) (r + 1) n ≡ enough f k i n
-  enough-more {r} h e b =
-      let x : r + 1 ≡ suc r = add-one r in
+  -- i passes, and the rest is asked for after it
+  pub enough-here : 0 < k → i < n → f i ≡ true → enoughFrom f (k - 1) (i + 1) n ≡ enoughFrom f k i n
+  enough-here h b t =
       let y : k ≡ suc (k - 1) = omega arith in
-      ap (λ (j : ℕ). enough f (k - 1) j n) x
-      ∙ sym (leb·suc-suc (k - 1) (length (places f (suc r) (n - suc r))))
-      ∙ (λ j. leb (sym y j) (length (sym (free-first f i n e b) j)))
+      ap (λ (j : ℕ). enoughFrom f (k - 1) j n) (add-one i)
+      ∙ sym (leb·suc-suc (k - 1) (length (places f (suc i) (n - suc i))))
+      ∙ (λ j. leb (sym y j) (length (sym (here f i n b t) j)))
+
+  -- it was the last that is asked for
+  pub enough-last : 0 < k → k - 1 ≡ 0 → i < n → f i ≡ true → true ≡ enoughFrom f k i n
+  enough-last h z b t = sym (le-leb (k - 1) (length (places f (i + 1) (n - (i + 1)))) (omega arith)) ∙ enough-here h b t
+
+  -- i does not pass, and as many are asked for after it
+  pub enough-past : i < n → f i ≡ false → enoughFrom f k (i + 1) n ≡ enoughFrom f k i n
+  enough-past b t = ap (λ (j : ℕ). enoughFrom f k j n) (add-one i) ∙ ap (λ (l : List ℕ). leb k (length l)) (sym (past f i n b t))
+
+-- ---- the lowest, and whether there are enough
+
+module _ (f : ℕ → Bool) (k n : ℕ) where
+  -- none is wanted
+  pub room-none : k ≡ 0 → record { lowest = 0; enough = true } ≡ roomFor f k n
+  unfolding roomFor
+  room-none z =
+      let e : lowestFor f k n ≡ 0 = ap (λ (j : ℕ). lowestFor f j n) z in
+      λ i. record { lowest = sym e i; enough = sym (le-leb k (length (places f 0 n)) (omega arith)) i }
+
+  -- some are: none that passes is below the lowest
+  pub room-some : {r : ℕ} {b : Bool} → (k ≡ 0 → ⊥) → r ≡ firstFrom f 0 n → b ≡ enoughFrom f k r n → record { lowest = r; enough = b } ≡ roomFor f k n
+  unfolding roomFor
+  room-some h e w =
+      let low = e ∙ sym (lowest-some f k n h) in
+      let all = w ∙ ap (λ (l : List ℕ). leb k (length l)) (places-skip f n e) in
+      λ i. record { lowest = low i; enough = all i }
+
+module _ (f : ℕ → Bool) (k n : ℕ) {r : Room} (e : r ≡ roomFor f k n) where
+  -- the two answers of a room test
+  pub room-lowest : r .lowest ≡ lowestFor f k n
+  unfolding roomFor
+  room-lowest = ap (λ (x : Room). x .lowest) e
+
+  pub room-enough : r .enough ≡ leb k (length (places f 0 n))
+  unfolding roomFor
+  room-enough = ap (λ (x : Room). x .enough) e

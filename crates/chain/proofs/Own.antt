@@ -19,7 +19,7 @@ use Rattle.chain.specs.declared.OwnRun.{OwnRun}
 use Rattle.chain.specs.declared.OwnPart.{OwnPart}
 use Rattle.chain.specs.Length.{stretchesFrom}
 use Rattle.chain.specs.Own.{single, lastLink, ownRun, ownPart}
-use Rattle.chain.proofs.Links.{follow-good, walk-meets}
+use Rattle.chain.proofs.Links.{walk-on, follow-good, walk-meets}
 use Rattle.chain.proofs.Spots.{cutOut-none}
 use Rattle.chain.proofs.Parts.{part-first}
 
@@ -28,13 +28,13 @@ abbrev pub lastOr : ℕ → List ℕ → ℕ
 lastOr l [] = l
 lastOr l (d ∷ ds) = suc (lastOf d ds)
 
--- c own pieces, the link l to the last of them, and then the pieces ds, from the link n on
-abbrev runOf : ℕ → ℕ → Tables → ℕ → List ℕ → OwnRun
-runOf c l T n ds = record { count = c + length ds; last = lastOr l ds; next = follow T (length ds) n }
+-- own pieces, the link l to the last of them, and then the pieces ds, from the link n on
+abbrev runOf : ℕ → Tables → ℕ → List ℕ → OwnRun
+runOf l T n ds = record { last = lastOr l ds; next = follow T (length ds) n }
 
--- c own pieces, the link l to the last of them, and then those from the link n on, at most k
-abbrev pub ownFrom : ℕ → ℕ → ℕ → Tables → ℕ → OwnRun
-ownFrom c l k T n = runOf c l T n (ownPieces k T n)
+-- own pieces, the link l to the last of them, and then those from the link n on
+abbrev pub ownFrom : ℕ → Tables → ℕ → OwnRun
+ownFrom l T n = runOf l T n (ownPieces (pieceTotal T) T n)
 
 -- the last of none, and of one more in front
 last-none : (ds : List ℕ) → lastOr 0 ds ≡ lastLink ds
@@ -46,17 +46,9 @@ last-more l d [] = refl
 last-more l d (x ∷ ds) = refl
 
 -- before any own piece is passed
-pub own-start : (k n : ℕ) (T : Tables) → ownFrom 0 0 k T n ≡ ownRun k T n
+pub own-start : (n : ℕ) (T : Tables) → ownFrom 0 T n ≡ ownRun T n
 unfolding ownRun
-own-start k n T =
-    let own = ownPieces k T n in
-    let e : 0 + length own ≡ length own = omega arith in
-    λ i. record { count = e i; last = last-none own i; next = follow T (length own) n }
-
--- none is left
-run-none : (c l : ℕ) (T : Tables) (n : ℕ) → runOf c l T n [] ≡ record { count = c; last = l; next = n }
-unfolding follow
-run-none c l T n = let e : c + 0 ≡ c = omega arith in λ i. record { count = e i; last = l; next = n }
+own-start n T = let own = ownPieces (pieceTotal T) T n in λ i. record { last = last-none own i; next = follow T (length own) n }
 
 -- no piece is own where the first has another count
 none-own : (k n : ℕ) (T : Tables) → single T n ≡ false → ownPieces k T n ≡ []
@@ -65,31 +57,10 @@ none-own zero n T e = refl
 none-own (suc k) zero T e = refl
 none-own (suc k) (suc d) T e = rw e
 
--- the piece that n leads to is not own, or no more are asked for
-pub own-stop : (c l k n : ℕ) (T : Tables) → single T n ≡ false → ownFrom c l k T n ≡ record { count = c; last = l; next = n }
-own-stop c l k n T e = ap (runOf c l T n) (none-own k n T e) ∙ run-none c l T n
-
-pub own-full : (c l k n : ℕ) (T : Tables) → k ≡ 0 → ownFrom c l k T n ≡ record { count = c; last = l; next = n }
-unfolding ownPieces
-own-full c l zero n T e = run-none c l T n
-own-full c l (suc k) n T e = absurd (omega arith)
-
--- one own piece more is passed
-run-more : (c l d : ℕ) (T : Tables) (ds : List ℕ) → runOf c l T (suc d) (d ∷ ds) ≡ runOf (c + 1) (suc d) T (piece T d .next) ds
+-- the piece that n leads to is not own
+pub own-stop : (l n : ℕ) (T : Tables) → single T n ≡ false → ownFrom l T n ≡ record { last = l; next = n }
 unfolding follow
-run-more c l d T ds =
-    let e : c + suc (length ds) ≡ c + 1 + length ds = omega arith in
-    λ i. record { count = e i; last = last-more l d ds i; next = follow T (length ds) (piece T d .next) }
-
--- the piece that n leads to is own
-pub own-more : (c l k n : ℕ) (T : Tables) → (k ≡ 0 → ⊥) → single T n ≡ true → ownFrom c l k T n ≡ ownFrom (c + 1) n (k - 1) T (piece T (n - 1) .next)
-unfolding ownPieces if_then_else_
-own-more c l zero n T h e = absurd (h refl)
-own-more c l (suc k) zero T h e = absurd (subst Is (sym e) tt)
-own-more c l (suc k) (suc d) T h e =
-    let a : suc k - 1 ≡ k = omega arith in
-    let b : suc d - 1 ≡ d = omega arith in
-    rw (a, b, e) (run-more c l d T (ownPieces k T (piece T d .next)))
+own-stop l n T e = ap (runOf l T n) (none-own (pieceTotal T) n T e)
 
 -- only a link to a piece is single
 pub single-link : (n : ℕ) (T : Tables) → single T n ≡ true → n ≡ 0 → ⊥
@@ -102,6 +73,40 @@ single-is zero v T h e = absurd (h refl)
 single-is (suc d) v T h e =
     let b : suc d - 1 ≡ d = omega arith in
     ap (λ (x : ℕ). eqb x 1) (e ∙ ap (λ (x : ℕ). piece T x .count) b)
+
+-- the own pieces of a list: those before the first of another count
+abbrev ownIn : Tables → List ℕ → List ℕ
+ownIn T [] = []
+ownIn T (d ∷ ds) = if eqb (piece T d .count) 1 then d ∷ ownIn T ds else []
+
+-- the own pieces among those allowed are those of the pieces met
+own-walk : (k n : ℕ) (T : Tables) → ownPieces k T n ≡ ownIn T (walk k T n)
+unfolding ownPieces walk
+own-walk zero n T = refl
+own-walk (suc k) zero T = refl
+own-walk (suc k) (suc d) T = ap (λ (ds : List ℕ). if eqb (piece T d .count) 1 then d ∷ ds else []) (own-walk k (piece T d .next) T)
+
+-- the piece that n leads to is own, and those after it are, with P allowed from each
+own-on : (n : ℕ) (T : Tables) → SoundTables T → Is (linkOk T n) → single T n ≡ true
+    → ownPieces (pieceTotal T) T n ≡ (n - 1) ∷ ownPieces (pieceTotal T) T (piece T (n - 1) .next)
+unfolding if_then_else_
+own-on n T S t e =
+    let P = pieceTotal T in
+    let m = piece T (n - 1) .next in
+    own-walk P n T ∙ ap (ownIn T) (walk-on T n S t (single-link n T e))
+    ∙ ap (λ (b : Bool). if b then (n - 1) ∷ ownIn T (walk P T m) else []) (single-is n _ T (single-link n T e) refl ∙ e)
+    ∙ ap (λ (ds : List ℕ). (n - 1) ∷ ds) (sym (own-walk P m T))
+
+-- so one own piece more is passed
+run-more : (l n : ℕ) (T : Tables) (ds : List ℕ) → (n ≡ 0 → ⊥) → runOf l T n ((n - 1) ∷ ds) ≡ runOf n T (piece T (n - 1) .next) ds
+unfolding follow
+run-more l zero T ds i = absurd (i refl)
+run-more l (suc d) T ds i =
+    let b : suc d - 1 ≡ d = omega arith in
+    rw b (λ i. record { last = last-more l d ds i; next = follow T (length ds) (piece T d .next) })
+
+pub own-more : (l n : ℕ) (T : Tables) → SoundTables T → Is (linkOk T n) → single T n ≡ true → ownFrom l T n ≡ ownFrom n T (piece T (n - 1) .next)
+own-more l n T S t e = ap (runOf l T n) (own-on n T S t e) ∙ run-more l n T (ownPieces (pieceTotal T) T (piece T (n - 1) .next)) (single-link n T e)
 
 -- ---- the own pieces that the first bytes overlap
 
@@ -191,17 +196,14 @@ own-follow (suc k) (suc d) T =
     if-either (λ (ds : List ℕ). Run T (suc d) ds (follow T (length ds) (suc d))) (eqb (piece T d .count) 1) (d ∷ ownPieces k T (piece T d .next)) []
     (λ _. (refl, own-follow k (piece T d .next) T)) (λ _. refl)
 
--- Both links are good, and what is met from the one after the own pieces is the rest of what is met from n.
-pub record OwnLaws (T : Tables) (n : ℕ) (own : List ℕ) (r : OwnRun) : Type 0 where
-  pub last-ok : Is (linkOk T (r .last))
-  pub next-ok : Is (linkOk T (r .next))
-  pub run : Run T n own (r .next)
-  pub pieces : walk (pieceTotal T) T n ≡ own ++ walk (pieceTotal T) T (r .next)
-  pub rest : drop (r .count) (stretches T (walk (pieceTotal T) T n)) ≡ stretches T (walk (pieceTotal T) T (r .next))
+-- Of the pieces own from the link n: the link to the last of them is good, as the link m after them is, and what is met from m is the rest of what is met from n.
+pub record OwnLaws (T : Tables) (n : ℕ) (own : List ℕ) (m : ℕ) : Type 0 where
+  pub last-ok : Is (linkOk T (lastLink own))
+  pub next-ok : Is (linkOk T m)
+  pub rest : drop (length own) (stretches T (walk (pieceTotal T) T n)) ≡ stretches T (walk (pieceTotal T) T m)
 
 -- they hold of the own pieces from a good link
-pub own-laws : (k n : ℕ) (T : Tables) → SoundTables T → Is (linkOk T n) → OwnLaws T n (ownPieces k T n) (ownRun k T n)
-unfolding ownRun
+pub own-laws : (k n : ℕ) (T : Tables) → SoundTables T → Is (linkOk T n) → OwnLaws T n (ownPieces k T n) (follow T (length (ownPieces k T n)) n)
 own-laws k n T S t =
     let P = pieceTotal T in
     let own = ownPieces k T n in
@@ -212,8 +214,6 @@ own-laws k n T S t =
     record {
       last-ok = subst (λ (x : ℕ). Is (linkOk T x)) (last-none own) (last-good k n 0 T S t tt);
       next-ok = good;
-      run = own-follow k n T;
-      pieces = all;
       rest = ap (λ (x : List ℕ). drop (length own) (stretches T x)) all ∙ ap (drop (length own)) (stretches-append T own (walk P T m))
           ∙ drop-at (stretches T own) (stretches T (walk P T m)) (length own) (stretches-length T own);
     }

@@ -4,7 +4,7 @@ use mathlib.Core.Bool.{true, false}
 use mathlib.Core.List.{List, [], _∷_}
 use Prim.Native.Nat.{ℕ, zero, suc, _+_, _-_, _*_, _≤_, _<_}
 use native.Mathlib.Omega.{arith}
-use borrow.Author.Tests.{le-leb, lt-leb}
+use borrow.Author.Tests.{le-leb, lt-leb, leb-true, leb-false}
 use lib.ListN.{length}
 use lib.Dec.{leb, leb→le, le→leb}
 use Rattle.kinds.specs.Limits.{bufferSize}
@@ -118,6 +118,26 @@ pub part-range : (T : Tables) (h off : ℕ) (s : Spot) → Found T h off s → (
     → leb (s .into + n) (total (stretchesFrom T (s .link))) ≡ leb (off + n) (total (stretchesFrom T h))
 part-range T h off s f n =
     same-most (s .into + n) (total (stretchesFrom T (s .link))) (off + n) (total (stretchesFrom T h)) (λ l. omega (arith, f .lengths)) (λ l. omega (arith, f .lengths))
+
+module _ (T : Tables) (h off n : ℕ) {at : Spot} {part : Part} (f : Found T h off at) (e : part ≡ partOf T (at .link) (at .into + n)) where
+  -- so what the bytes from the place found take tells whether the range goes past the end of the chain
+  pub range-short : part .enough ≡ false → total (stretchesFrom T h) < off + n
+  unfolding partOf
+  range-short z = leb-false (off + n) (total (stretchesFrom T h)) (sym (part-range T h off at f n) ∙ sym (ap (λ (x : Part). x .enough) e) ∙ z)
+
+  pub range-there : part .enough ≡ true → off + n ≤ total (stretchesFrom T h)
+  unfolding partOf
+  range-there z = leb-true (off + n) (total (stretchesFrom T h)) (sym (part-range T h off at f n) ∙ sym (ap (λ (x : Part). x .enough) e) ∙ z)
+
+-- and the same of the first m bytes from a link
+module _ (T : Tables) (n m : ℕ) {part : Part} (e : part ≡ partOf T n m) where
+  pub first-short : part .enough ≡ false → total (stretchesFrom T n) < m
+  unfolding partOf
+  first-short z = leb-false m (total (stretchesFrom T n)) (sym (ap (λ (x : Part). x .enough) e) ∙ z)
+
+  pub first-there : part .enough ≡ true → m ≤ total (stretchesFrom T n)
+  unfolding partOf
+  first-there z = leb-true m (total (stretchesFrom T n)) (sym (ap (λ (x : Part). x .enough) e) ∙ z)
 
 -- ---- all bytes
 

@@ -5,21 +5,21 @@ use mathlib.Core.List.{List, [], _∷_}
 use Prim.Native.Nat.{ℕ, zero, suc, _+_, _-_, _≤_, _<_}
 use native.Mathlib.Decide.{ℕ-discrete, decLe}
 use native.Mathlib.Omega.{arith}
-use lib.ListN.{length}
+use lib.ListN.{length, drop}
 use lib.Dec.{eqb, eqb→eq, ltb, ltb→lt, lt→ltb, leb, leb→le, le→leb}
 use Rattle.rules.specs.Basics.{Is, if_then_else_}
-use Rattle.rules.specs.Tables.{Tables, piece, headOf, slipTotal, pieceTotal}
-use Rattle.rules.specs.Chain.{Stretch, walk, stretch, total, lengthOf, cutOut}
+use Rattle.rules.specs.Tables.{Tables, piece, headOf, slipTotal, pieceTotal, bufferTotal}
+use Rattle.rules.specs.Chain.{Stretch, walk, stretch, total, lengthOf, cutOut, contents}
 use Rattle.rules.specs.Sound.{linkOk, SoundTables}
 use Rattle.rules.specs.Build.{Plan}
 use Rattle.rules.specs.Drop.{ownAt, dropPlan, dropped}
 use Rattle.rules.proofs.Logic.{if-T, if-F, not-less, same-test, and-intro, and-parts, eq→eqb}
-use Rattle.rules.proofs.Contents.{dropOut}
+use Rattle.rules.proofs.Contents.{Fit, dropOut, dropOut-contents}
 use Rattle.chain.specs.declared.Spot.{Spot}
 use Rattle.chain.specs.Length.{stretchesFrom}
 use Rattle.chain.specs.Find.{spotOf, pastEnd}
 use Rattle.chain.specs.Rest.{restFrom}
-use Rattle.chain.proofs.Links.{link-leads, walk-none, walk-on, walk-less, stretches-on, length-empty}
+use Rattle.chain.proofs.Links.{link-leads, walk-none, walk-on, walk-less, stretches-on, stretches-in, length-empty}
 
 -- ---- the place, over the pieces met
 
@@ -170,6 +170,14 @@ module _ (T : Tables) (S : SoundTables T) where
   -- the place lies inside a piece in use, or past the end; what is cut out from there is the same
   pub found : (own : Bool) (n off : ℕ) → Is (linkOk T n) → Found T n off (spotOf (pieceTotal T) T own n off)
   found own n off t = found-by (length (walk (pieceTotal T) T n)) own n off t (omega arith)
+
+-- the bytes of a chain from off on are those from the place found, whatever the storage holds
+pub found-bytes : (T : Tables) (S : SoundTables T) (n off : ℕ) (s : Spot) → Is (linkOk T n) → Found T n off s → (st : List ℕ) → Fit (bufferTotal T) st
+    → drop (s .into) (contents st (stretchesFrom T (s .link))) ≡ drop off (contents st (stretchesFrom T n))
+found-bytes T S n off s t f st w =
+    let B = bufferTotal T in
+    sym (dropOut-contents B st (stretchesFrom T (s .link)) (s .into) w (stretches-in T (s .link) S (f .good))) ∙ ap (contents st) (sym (f .stays))
+    ∙ dropOut-contents B st (stretchesFrom T n) off w (stretches-in T n S t)
 
 -- ---- what drop leaves, from the place found
 

@@ -2,7 +2,10 @@
 use mathlib.Core.Bool.{Bool}
 use mathlib.Core.List.{List, [], _∷_}
 use Prim.Native.Nat.{ℕ, zero, suc, _-_}
+use lib.ListN.{length}
+use lib.Dec.{leb}
 use Rattle.rules.specs.Basics.{places}
+use Rattle.chain.specs.declared.Room.{Room}
 
 -- the first of a list, or n where it has none
 abbrev pub firstOr : ℕ → List ℕ → ℕ
@@ -17,3 +20,11 @@ firstFrom f i n = firstOr n (places f i (n - i))
 abbrev pub lowestFor : (ℕ → Bool) → ℕ → ℕ → ℕ
 lowestFor f zero n = 0
 lowestFor f (suc k) n = firstFrom f 0 n
+
+-- at least k of the numbers from i on and below n pass
+abbrev pub enoughFrom : (ℕ → Bool) → ℕ → ℕ → ℕ → Bool
+enoughFrom f k i n = leb k (length (places f i (n - i)))
+
+-- the lowest below n that passes, and whether k pass
+unfoldable pub roomFor : (ℕ → Bool) → ℕ → ℕ → Room
+roomFor f k n = record { lowest = lowestFor f k n; enough = leb k (length (places f 0 n)) }

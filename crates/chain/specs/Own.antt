@@ -5,7 +5,7 @@ use Prim.Native.Nat.{ℕ, zero, suc}
 use lib.ListN.{length}
 use lib.Dec.{eqb}
 use Rattle.rules.specs.Basics.{lastOf}
-use Rattle.rules.specs.Tables.{Tables, piece}
+use Rattle.rules.specs.Tables.{Tables, piece, pieceTotal}
 use Rattle.rules.specs.Chain.{follow, ownPieces, stretches, total, cutOut}
 use Rattle.chain.specs.declared.OwnRun.{OwnRun}
 use Rattle.chain.specs.declared.OwnPart.{OwnPart}
@@ -21,11 +21,11 @@ abbrev pub lastLink : List ℕ → ℕ
 lastLink [] = 0
 lastLink (d ∷ ds) = suc (lastOf d ds)
 
--- the own pieces from the link n, at most k: how many, the link to the last, and the link after them
-unfoldable pub ownRun : ℕ → Tables → ℕ → OwnRun
-ownRun k T n =
-    let own = ownPieces k T n in
-    record { count = length own; last = lastLink own; next = follow T (length own) n }
+-- the own pieces from the link n: the link to the last, and the link after them
+unfoldable pub ownRun : Tables → ℕ → OwnRun
+ownRun T n =
+    let own = ownPieces (pieceTotal T) T n in
+    record { last = lastLink own; next = follow T (length own) n }
 
 -- the own pieces that the first m bytes from the link n overlap: their bytes, the link to the last, and the link after them
 unfoldable pub ownPart : Tables → ℕ → ℕ → OwnPart

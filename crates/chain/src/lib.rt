@@ -6,23 +6,22 @@ use tables::Shape;
 ghost use mathlib.Core.Path.{_≡_};
 ghost use mathlib.Core.Bool.{true, not};
 ghost use Prim.Native.Nat.{_-_, _<_};
-ghost use lib.ListN.{length};
 ghost use lib.Dec.{leb};
 ghost use Rattle.rules.specs.Basics.{Is};
 ghost use Rattle.rules.specs.Tables.{piece, headOf, slipTotal, pieceTotal, bufferTotal};
 ghost use Rattle.rules.specs.Bytes.{decode};
-ghost use Rattle.rules.specs.Chain.{lengthOf};
+ghost use Rattle.rules.specs.Chain.{total, firstLength, lengthOf};
 ghost use Rattle.rules.specs.Sound.{linkOk};
-ghost use Rattle.rules.specs.Room.{isVacant, isFree, isUnheld, freePieces, freeBuffers};
+ghost use Rattle.rules.specs.Room.{isVacant, isFree, isUnheld};
 ghost use Rattle.rules.specs.Rule.{unnamed};
 ghost use Rattle.rules.specs.Drop.{ownAt};
 ghost use Rattle.tables.specs.Shape.{Shaped};
 ghost use Rattle.chain.specs.Opened.{Opened};
-ghost use Rattle.chain.specs.Length.{LengthIs};
+ghost use Rattle.chain.specs.Length.{stretchesFrom, LengthIs};
 ghost use Rattle.chain.specs.Find.{spotOf, pastEnd};
 ghost use Rattle.chain.specs.Part.{partOf};
 ghost use Rattle.chain.specs.Own.{single, ownRun, ownPart};
-ghost use Rattle.chain.specs.Free.{firstFrom, lowestFor};
+ghost use Rattle.chain.specs.Free.{firstFrom, enoughFrom, roomFor};
 
 // A place in a chain, the link to a piece, the bytes of it before the place, and whether that piece is own: a cursor.
 pub struct Spot {
@@ -31,9 +30,8 @@ pub struct Spot {
     pub own: bool,
 }
 
-// The own pieces of a chain: how many, the link to the last (0 none), and the link after it.
+// The own pieces of a chain: the link to the last (0 none), and the link after it.
 pub struct OwnRun {
-    pub count: u16,
     pub last: u16,
     pub next: u16,
 }
@@ -48,6 +46,12 @@ pub struct OwnPart {
 // What the first bytes of a chain take: how many pieces, and whether it has them (an extent).
 pub struct Part {
     pub pieces: u16,
+    pub enough: bool,
+}
+
+// The lowest free number where any is wanted, 0 where none is, and whether as many are free as are wanted: what a free-list probe finds.
+pub struct Room {
+    pub lowest: u16,
     pub enough: bool,
 }
 
@@ -108,6 +112,32 @@ pub fn chain_length(pool: &[u8], shape: Shape, s: SlipNumber) -> u32
 {
     let link = head_link(pool, shape, s);
     length_from(pool, shape, link, shape.pieces)
+}
+
+// The bytes of the chain that starts at `link`, summed in a loop, for what copies them all: a packet length.
+pub fn bytes_from(pool: &[u8], shape: Shape, link: u16) -> u32
+    requires { ⌜ Opened (now pool) shape × Is (linkOk (decode (now pool)) link) ⌝ }
+    ensures { λ r. ⌜ r ≡ total (stretchesFrom (decode (now (pool .entry))) link) ⌝ }
+{
+    let mut bytes = 0;
+    let mut at = link;
+    while at != 0 {
+        let d = PieceNumber(at - 1);
+        bytes += piece_bytes(pool, shape, d);
+        at = tables::piece_next(pool, shape, d);
+    }
+    bytes
+}
+
+// Whether the first piece of the chain from `link` has `n` bytes, as any chain has none: a contiguity test.
+pub fn in_first(pool: &[u8], shape: Shape, link: u16, n: u32) -> bool
+    requires { ⌜ Opened (now pool) shape × Is (linkOk (decode (now pool)) link) ⌝ }
+    ensures { λ r. ⌜ r ≡ leb n (firstLength (stretchesFrom (decode (now (pool .entry))) link)) ⌝ }
+{
+    if link == 0 {
+        return n == 0;
+    }
+    n <= piece_bytes(pool, shape, PieceNumber(link - 1))
 }
 
 // Whether piece `d` is own, where `own` says so of all before it: none has a second reference.
@@ -205,24 +235,18 @@ fn single(pool: &[u8], shape: Shape, link: u16) -> bool
     tables::piece_count(pool, shape, PieceNumber(link - 1)) == 1
 }
 
-// The own pieces of the chain that starts at `link`, at most `most`: those of a single reference.
-pub fn own_run(pool: &[u8], shape: Shape, link: u16, most: u16) -> OwnRun
+// The own pieces of the chain that starts at `link`: those of a single reference.
+pub fn own_run(pool: &[u8], shape: Shape, link: u16) -> OwnRun
     requires { ⌜ Opened (now pool) shape × Is (linkOk (decode (now pool)) link) ⌝ }
-    ensures { λ r. ⌜ r ≡ ownRun most (decode (now (pool .entry))) link ⌝ }
+    ensures { λ r. ⌜ r ≡ ownRun (decode (now (pool .entry))) link ⌝ }
 {
-    let mut count = 0;
     let mut last = 0;
     let mut next = link;
-    while count < most {
-        if !single(pool, shape, next) {
-            break;
-        }
+    while single(pool, shape, next) {
         last = next;
         next = tables::piece_next(pool, shape, PieceNumber(next - 1));
-        count += 1;
     }
     OwnRun {
-        count: count,
         last: last,
         next: next,
     }
@@ -282,33 +306,42 @@ pub fn next_free_piece(pool: &[u8], shape: Shape, from: u16) -> u16
     shape.pieces
 }
 
-// The lowest free piece where any is wanted, 0 where `k` is: a scan for a free descriptor.
-pub fn lowest_piece(pool: &[u8], shape: Shape, k: usize) -> u16
-    requires { ⌜ Shaped (now pool) shape ⌝ }
-    ensures { λ r. ⌜ r ≡ lowestFor (isFree (decode (now (pool .entry)))) k (pieceTotal (decode (now (pool .entry)))) ⌝ }
-{
-    if k == 0 {
-        return 0;
-    }
-    next_free_piece(pool, shape, 0)
-}
-
-// Whether at least `k` pieces are free, by a scan from the lowest that stops at the k-th: a room test.
-pub fn has_pieces(pool: &[u8], shape: Shape, lowest: u16, k: usize) -> bool
-    requires { ⌜ Shaped (now pool) shape × (lowest ≡ lowestFor (isFree (decode (now pool))) k (pieceTotal (decode (now pool)))) ⌝ }
-    ensures { λ r. ⌜ r ≡ leb k (length (freePieces (decode (now (pool .entry))))) ⌝ }
+// Whether at least `k` pieces are free from `lowest` on, by a scan that stops at the k-th: a count of free descriptors.
+fn enough_pieces(pool: &[u8], shape: Shape, lowest: u16, k: usize) -> bool
+    requires { ⌜ Shaped (now pool) shape × (0 < k) ⌝ }
+    ensures { λ r. ⌜ r ≡ enoughFrom (isFree (decode (now (pool .entry)))) k lowest (pieceTotal (decode (now (pool .entry)))) ⌝ }
 {
     let mut pieces_left = k;
-    let mut from = lowest;
-    while 0 < pieces_left {
-        let d = next_free_piece(pool, shape, from);
-        if d == shape.pieces {
-            return false;
+    let mut d = lowest;
+    while d < shape.pieces {
+        if tables::piece_count(pool, shape, PieceNumber(d)) == 0 {
+            pieces_left -= 1;
+            if pieces_left == 0 {
+                return true;
+            }
         }
-        from = d + 1;
-        pieces_left -= 1;
+        d += 1;
     }
-    true
+    false
+}
+
+// Where the lowest free piece is, and whether `k` are free: a room test.
+pub fn piece_room(pool: &[u8], shape: Shape, k: usize) -> Room
+    requires { ⌜ Shaped (now pool) shape ⌝ }
+    ensures { λ r. ⌜ r ≡ roomFor (isFree (decode (now (pool .entry)))) k (pieceTotal (decode (now (pool .entry)))) ⌝ }
+{
+    if k == 0 {
+        return Room {
+            lowest: 0,
+            enough: true,
+        };
+    }
+    let lowest = next_free_piece(pool, shape, 0);
+    let enough = enough_pieces(pool, shape, lowest, k);
+    Room {
+        lowest: lowest,
+        enough: enough,
+    }
 }
 
 // The lowest free buffer from `from` on, or the count of buffers: a scan for a free cluster.
@@ -326,31 +359,40 @@ pub fn next_free_buffer(pool: &[u8], shape: Shape, from: u16) -> u16
     shape.buffers
 }
 
-// The lowest free buffer where any is wanted, 0 where `k` is: a scan for a free cluster.
-pub fn lowest_buffer(pool: &[u8], shape: Shape, k: usize) -> u16
-    requires { ⌜ Shaped (now pool) shape ⌝ }
-    ensures { λ r. ⌜ r ≡ lowestFor (isUnheld (decode (now (pool .entry)))) k (bufferTotal (decode (now (pool .entry)))) ⌝ }
-{
-    if k == 0 {
-        return 0;
-    }
-    next_free_buffer(pool, shape, 0)
-}
-
-// Whether at least `k` buffers are free, by a scan from the lowest that stops at the k-th: a room test.
-pub fn has_buffers(pool: &[u8], shape: Shape, lowest: u16, k: usize) -> bool
-    requires { ⌜ Shaped (now pool) shape × (lowest ≡ lowestFor (isUnheld (decode (now pool))) k (bufferTotal (decode (now pool)))) ⌝ }
-    ensures { λ r. ⌜ r ≡ leb k (length (freeBuffers (decode (now (pool .entry))))) ⌝ }
+// Whether at least `k` buffers are free from `lowest` on, by a scan that stops at the k-th: a count of free clusters.
+fn enough_buffers(pool: &[u8], shape: Shape, lowest: u16, k: usize) -> bool
+    requires { ⌜ Shaped (now pool) shape × (0 < k) ⌝ }
+    ensures { λ r. ⌜ r ≡ enoughFrom (isUnheld (decode (now (pool .entry)))) k lowest (bufferTotal (decode (now (pool .entry)))) ⌝ }
 {
     let mut buffers_left = k;
-    let mut from = lowest;
-    while 0 < buffers_left {
-        let b = next_free_buffer(pool, shape, from);
-        if b == shape.buffers {
-            return false;
+    let mut b = lowest;
+    while b < shape.buffers {
+        if tables::buffer_count(pool, shape, BufferNumber(b)) == 0 {
+            buffers_left -= 1;
+            if buffers_left == 0 {
+                return true;
+            }
         }
-        from = b + 1;
-        buffers_left -= 1;
+        b += 1;
     }
-    true
+    false
+}
+
+// Where the lowest free buffer is, and whether `k` are free: a room test.
+pub fn buffer_room(pool: &[u8], shape: Shape, k: usize) -> Room
+    requires { ⌜ Shaped (now pool) shape ⌝ }
+    ensures { λ r. ⌜ r ≡ roomFor (isUnheld (decode (now (pool .entry)))) k (bufferTotal (decode (now (pool .entry)))) ⌝ }
+{
+    if k == 0 {
+        return Room {
+            lowest: 0,
+            enough: true,
+        };
+    }
+    let lowest = next_free_buffer(pool, shape, 0);
+    let enough = enough_buffers(pool, shape, lowest, k);
+    Room {
+        lowest: lowest,
+        enough: enough,
+    }
 }

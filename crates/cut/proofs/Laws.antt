@@ -1,13 +1,12 @@
 -- What cut answers and leaves: the rule's result. Assumes nothing.
 use mathlib.Core.Path.{_≡_, refl, sym, ap, subst, _∙_}
-use mathlib.Core.Bool.{true, false}
+use mathlib.Core.Bool.{true}
 use mathlib.Core.List.{List, []}
 use Prim.Native.Nat.{ℕ, _+_, _≤_, _<_}
 use native.Mathlib.Decide.{ℕ-discrete}
 use native.Mathlib.Omega.{arith}
 use lib.ListN.{length}
 use lib.Dec.{ltb, ltb→lt, lt→ltb}
-use borrow.Author.Tests.{leb-true, leb-false}
 use Rattle.kinds.specs.declared.SlipState.{SlipState}
 use Rattle.kinds.specs.declared.Refusal.the-variants.{Slip, Range, Slips, Pieces}
 use Rattle.kinds.specs.declared.Outcome.{Outcome}
@@ -15,7 +14,7 @@ use Rattle.kinds.specs.declared.Outcome.the-variants.{Done, Refused}
 use Rattle.rules.specs.Basics.{Is}
 use Rattle.rules.specs.Tables.{Tables, pieceTotal}
 use Rattle.rules.specs.Bytes.{decode}
-use Rattle.rules.specs.Chain.{Stretch, total, spans, lengthOf, cutOut}
+use Rattle.rules.specs.Chain.{Stretch, spans, lengthOf, cutOut}
 use Rattle.rules.specs.Sound.{linkOk, SoundTables}
 use Rattle.rules.specs.Room.{vacantSlips, freePieces, newSlip}
 use Rattle.rules.specs.Build.{plain, underNew}
@@ -32,7 +31,7 @@ use Rattle.chain.specs.Find.{spotOf}
 use Rattle.chain.specs.Length.{stretchesFrom}
 use Rattle.chain.specs.Part.{partOf}
 use Rattle.chain.proofs.Spots.{Found, found, cutOut-none}
-use Rattle.chain.proofs.Parts.{part-from, part-range}
+use Rattle.chain.proofs.Parts.{part-from}
 use Rattle.answer.specs.Result.{lent, resultOf}
 use Rattle.answer.proofs.Perform.{perform-first, perform-slips, perform-pieces, perform-all, changed}
 
@@ -43,15 +42,6 @@ pub place-found : (T : Tables) (off : ℕ) {n h : ℕ} {at : Spot} → SoundTabl
 place-found T off {n} {h} {at} S t e is = subst (λ (x : ℕ). Found T x off at) e (subst (Found T n off) (sym is) (found T S true n off t))
 
 module _ (T : Tables) (h off n : ℕ) {at : Spot} {part : Part} (f : Found T h off at) (e : part ≡ partOf T (at .link) (at .into + n)) where
-  -- it goes past the end of the chain, or not
-  pub range-short : part .enough ≡ false → total (stretchesFrom T h) < off + n
-  unfolding partOf
-  range-short z = leb-false (off + n) (total (stretchesFrom T h)) (sym (part-range T h off at f n) ∙ sym (ap (λ (x : Part). x .enough) e) ∙ z)
-
-  pub range-there : part .enough ≡ true → off + n ≤ total (stretchesFrom T h)
-  unfolding partOf
-  range-there z = leb-true (off + n) (total (stretchesFrom T h)) (sym (part-range T h off at f n) ∙ sym (ap (λ (x : Part). x .enough) e) ∙ z)
-
   -- the pieces that it overlaps: none where it is empty
   pub range-pieces : {k : ℕ} → (n ≡ 0 → k ≡ 0) × ((n ≡ 0 → ⊥) → k ≡ part .pieces) → k ≡ length (cutOut (stretchesFrom T h) off n)
   unfolding partOf

@@ -44,10 +44,10 @@ pub fn cut(pool: &mut [u8], shape: Shape, s: SlipNumber, off: u32, n: u32) -> Ou
         return Outcome::Refused(Refusal::Slips);
     }
     let pieces = overlapped(n, part.pieces);
-    let lowest = chain::lowest_piece(pool, shape, pieces as usize);
-    if !chain::has_pieces(pool, shape, lowest, pieces as usize) {
+    let room = chain::piece_room(pool, shape, pieces as usize);
+    if !room.enough {
         return Outcome::Refused(Refusal::Pieces);
     }
-    let first = build::copy_pieces(pool, shape, link, into, n, pieces, lowest, 0);
+    let first = build::copy_pieces(pool, shape, link, into, n, pieces, room.lowest, 0);
     answer::under_new(pool, shape, SlipNumber(t), first)
 }

@@ -2,7 +2,7 @@
 use mathlib.Core.Path.{_≡_, refl, sym, ap, _∙_}
 use mathlib.Core.Bool.{true}
 use mathlib.Core.List.{List, []}
-use Prim.Native.Nat.{ℕ, _-_, _≤_, _<_}
+use Prim.Native.Nat.{ℕ, _≤_, _<_}
 use native.Mathlib.Omega.{arith}
 use lib.ListN.{length}
 use lib.Dec.{eqb, eqb→eq, ltb}
@@ -10,11 +10,11 @@ use Rattle.kinds.specs.declared.SlipState.{SlipState}
 use Rattle.kinds.specs.declared.Refusal.the-variants.{Slip, Range, Pieces}
 use Rattle.kinds.specs.declared.Outcome.{Outcome}
 use Rattle.kinds.specs.declared.Outcome.the-variants.{Done, Refused}
-use Rattle.rules.specs.Basics.{Is, places}
-use Rattle.rules.specs.Tables.{Tables, pieceTotal}
+use Rattle.rules.specs.Basics.{Is}
+use Rattle.rules.specs.Tables.{Tables}
 use Rattle.rules.specs.Bytes.{decode}
 use Rattle.rules.specs.Chain.{State, chain, lengthOf}
-use Rattle.rules.specs.Room.{isFree, freePieces}
+use Rattle.rules.specs.Room.{freePieces}
 use Rattle.rules.specs.Build.{Plan, made, madeLink, underOld}
 use Rattle.rules.specs.Rule.{_⇐_, firstCode, unnamed, want, noView}
 use Rattle.rules.specs.Drop.{dropped, dropAfter}

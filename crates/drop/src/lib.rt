@@ -32,11 +32,11 @@ pub fn drop_first(pool: &mut [u8], shape: Shape, s: SlipNumber, n: u32) -> Outco
         return answer::done(pool, shape, s, 0);
     }
     let wanted = build::wanted(at.link, at.into, at.own) as usize;
-    let lowest = chain::lowest_piece(pool, shape, wanted);
-    if !chain::has_pieces(pool, shape, lowest, wanted) {
+    let room = chain::piece_room(pool, shape, wanted);
+    if !room.enough {
         return Outcome::Refused(Refusal::Pieces);
     }
-    let rest = build::settle(pool, shape, at.link, at.into, at.own, lowest);
+    let rest = build::settle(pool, shape, at.link, at.into, at.own, room.lowest);
     release::turn(pool, shape, s, rest + 1);
     answer::done(pool, shape, s, 0)
 }

@@ -12,7 +12,7 @@ use Rattle.kinds.specs.declared.Outcome.the-variants.{Done, Refused}
 use Rattle.rules.specs.Basics.{Is, if_then_else_}
 use Rattle.rules.specs.Tables.{Tables, piece, headOf, slipTotal, bufferTotal}
 use Rattle.rules.specs.Bytes.{decode}
-use Rattle.rules.specs.Chain.{State, Stretch, spans, lengthOf, stretches, total, cutOut}
+use Rattle.rules.specs.Chain.{State, Stretch, follow, spans, lengthOf, stretches, total, cutOut}
 use Rattle.rules.specs.Sound.{linkOk}
 use Rattle.rules.specs.Room.{freePieces}
 use Rattle.rules.specs.Release.{withTables}
@@ -38,7 +38,7 @@ use Rattle.chain.specs.declared.OwnPart.{OwnPart}
 use Rattle.chain.specs.declared.Part.{Part}
 use Rattle.chain.specs.Opened.{Opened}
 use Rattle.chain.specs.Length.{stretchesFrom}
-use Rattle.chain.specs.Own.{lastLink, ownRun, ownPart}
+use Rattle.chain.specs.Own.{lastLink, ownPart}
 use Rattle.chain.specs.Part.{partOf}
 use Rattle.chain.proofs.Links.{link-leads, link-below}
 use Rattle.chain.proofs.Own.{OwnLaws, own-laws}
@@ -79,7 +79,7 @@ module _ {p : List ℕ} {h : Shape} {s n : ℕ} {own : OwnPart} (w : Seen p h s 
   good : Good (bufferTotal T) (spans T s)
   good = spans-good T s sound
 
-  laws : OwnLaws T (headOf T s) mine (ownRun (length (kept T s n)) T (headOf T s))
+  laws : OwnLaws T (headOf T s) mine (follow T (length mine) (headOf T s))
   laws = own-laws (length (kept T s n)) (headOf T s) T (w .opened .sound) (w .opened .sound .slips-ok s (w .below))
 
   -- their bytes, the link to the last, and the link after it
@@ -91,12 +91,11 @@ module _ {p : List ℕ} {h : Shape} {s n : ℕ} {own : OwnPart} (w : Seen p h s 
   unfolding ownPart
   own-last = ap (λ (r : OwnPart). r .last) (w .run)
 
-  own-next : own .next ≡ ownRun (length (kept T s n)) T (headOf T s) .next
-  unfolding ownPart ownRun
+  own-next : own .next ≡ follow T (length mine) (headOf T s)
+  unfolding ownPart
   own-next = ap (λ (r : OwnPart). r .next) (w .run)
 
   pub last-below : own .last ≤ h .pieces
-  unfolding ownRun
   last-below = omega (arith, own-last, link-below T (lastLink mine) (w .opened .sound) (laws .last-ok), total-pieces (whole (w .opened .shaped)))
 
   pub next-ok : Is (linkOk T (own .next))
@@ -111,7 +110,6 @@ module _ {p : List ℕ} {h : Shape} {s n : ℕ} {own : OwnPart} (w : Seen p h s 
 
   -- what stays behind them
   behind : drop (length mine) (spans T s) ≡ stretchesFrom T (own .next)
-  unfolding ownRun
   behind = laws .rest ∙ ap (stretchesFrom T) (sym own-next)
 
   rest : keptNotOwn T s n ≡ cutOut (stretchesFrom T (own .next)) 0 (n - own .bytes)

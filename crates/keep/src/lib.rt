@@ -56,11 +56,11 @@ pub fn keep(pool: &mut [u8], shape: Shape, s: SlipNumber, n: u32) -> Outcome
     }
     let left = n - own.bytes;
     let others = chain::part_of(pool, shape, own.next, left as u64).pieces;
-    let lowest = chain::lowest_piece(pool, shape, others as usize);
-    if !chain::has_pieces(pool, shape, lowest, others as usize) {
+    let room = chain::piece_room(pool, shape, others as usize);
+    if !room.enough {
         return Outcome::Refused(Refusal::Pieces);
     }
-    let first = build::copy_pieces(pool, shape, own.next, 0, left, others, lowest, 0);
+    let first = build::copy_pieces(pool, shape, own.next, 0, left, others, room.lowest, 0);
     release::hang(pool, shape, s, own.last, first);
     answer::done(pool, shape, s, 0)
 }

@@ -10,14 +10,12 @@ use Rattle.kinds.specs.declared.Refusal.the-variants.{Slip, Range, Narrow}
 use Rattle.kinds.specs.declared.Outcome.{Outcome}
 use Rattle.kinds.specs.declared.Outcome.the-variants.{Done, Refused}
 use Rattle.rules.specs.Basics.{Is}
-use Rattle.rules.specs.Tables.{headOf}
 use Rattle.rules.specs.Bytes.{decode, encode}
-use Rattle.rules.specs.Chain.{contents, lengthOf, reads}
+use Rattle.rules.specs.Chain.{lengthOf, reads}
 use Rattle.rules.specs.Rule.{_⇐_, unnamed, noView}
 use Rattle.rules.specs.Read.{copied}
 use Rattle.rules.specs.Step.{Length, Read, rule, stateIn, done, perform}
 use Rattle.rules.proofs.Codes.{first-yes, first-no, first-none}
-use Rattle.chain.specs.Length.{stretchesFrom}
 use Rattle.answer.specs.Result.{lent, resultOf}
 use Rattle.answer.proofs.Perform.{perform-first, perform-none}
 
@@ -61,13 +59,12 @@ module _ (p st out : List ℕ) (s off n : ℕ) where
           (first-no (Slip ⇐ unnamed (decode p) s) _ u ∙ first-no (Range ⇐ ltb (lengthOf (decode p) s) (off + n)) _ range-ok
           ∙ first-yes (Narrow ⇐ ltb (length out) n) [] (lt→ltb _ _ k))
 
-      pub read-done : {o : Outcome} {x : SlipState} {l : ℕ} {after : List ℕ} → o ≡ Done (record { state = x; number = n }) → n ≤ length out → encode (decode p) ≡ p → l ≡ headOf (decode p) s
-          → after ≡ copied (take n (drop off (contents st (stretchesFrom (decode p) l)))) out → resultOf o p st after noView ≡ perform (Read s off n out) (lent p st)
+      pub read-done : {o : Outcome} {x : SlipState} {after : List ℕ} → o ≡ Done (record { state = x; number = n }) → n ≤ length out → encode (decode p) ≡ p
+          → after ≡ copied (take n (drop off (reads (stateIn (lent p st)) s))) out → resultOf o p st after noView ≡ perform (Read s off n out) (lent p st)
       unfolding rule done
-      read-done {o} {x} {l} {after} a k b f e =
-          let got : after ≡ copied (take n (drop off (reads (stateIn (lent p st)) s))) out = rw f at e in
+      read-done {after = after} a k b e =
           ap (λ (o : Outcome). resultOf o p st after noView) a
-          ∙ (λ i. record { code = 0; number = n; pool = sym b i; storage = st; output = got i; view = noView })
+          ∙ (λ i. record { code = 0; number = n; pool = sym b i; storage = st; output = e i; view = noView })
           ∙ perform-none (Read s off n out) (lent p st) refl
           (first-no (Slip ⇐ unnamed (decode p) s) _ u ∙ first-no (Range ⇐ ltb (lengthOf (decode p) s) (off + n)) _ range-ok
           ∙ first-no (Narrow ⇐ ltb (length out) n) [] (λ t. omega (arith, ltb→lt (length out) n t)) ∙ first-none)

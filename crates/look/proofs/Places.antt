@@ -16,23 +16,23 @@ use Rattle.kinds.specs.declared.Outcome.{Outcome}
 use Rattle.kinds.specs.declared.Outcome.the-variants.{Done, Refused}
 use Rattle.rules.specs.Layout.{storageLength}
 use Rattle.rules.specs.Basics.{Is, if_then_else_}
-use Rattle.rules.specs.Tables.{Tables, slip, piece, headOf, pieceTotal, bufferTotal}
+use Rattle.rules.specs.Tables.{Tables, slip, piece, bufferTotal}
 use Rattle.rules.specs.Bytes.{decode, encode}
-use Rattle.rules.specs.Chain.{Stretch, walk, stretch, stretches, spans, total, firstLength, lengthOf, positionOf, contents, reads}
+use Rattle.rules.specs.Chain.{Stretch, stretch, spans, total, firstLength, lengthOf, positionOf, reads}
 use Rattle.rules.specs.Rule.{_⇐_, unnamed, View, noView, codeIn}
 use Rattle.rules.specs.Read.{copied}
 use Rattle.rules.specs.Show.{scattered, viewOf}
 use Rattle.rules.specs.Step.{Operation, Show, rule, Result, stateIn, done, perform}
 use Rattle.rules.specs.After.{seen}
-use Rattle.rules.specs.Sound.{SoundTables, Lent}
-use Rattle.rules.proofs.Logic.{if-T, if-F, if-either, and-intro, and-0, and-1, eq→eqb, not-not}
+use Rattle.rules.specs.Sound.{linkOk, SoundTables, Lent}
+use Rattle.rules.proofs.Logic.{if-T, if-F, if-either, and-intro, and-0, and-1, eq→eqb}
 use Rattle.rules.proofs.Build.{Good}
 use Rattle.rules.proofs.Contents.{Fit}
 use Rattle.rules.proofs.Codes.{first-yes, first-no, first-none, allowed}
 use Rattle.rules.proofs.Audit.{tables-now}
 use Rattle.rules.proofs.Step.{perform-done, perform-no}
 use Rattle.rules.proofs.Show.{show-seen}
-use Rattle.chain.proofs.Links.{walk-first, length-none, length-empty}
+use Rattle.chain.proofs.Links.{stretches-none, stretches-on}
 use Rattle.look.specs.declared.Place.{Place}
 use Rattle.look.specs.declared.Place.the-variants.{Storage, Scratch}
 use Rattle.look.specs.Place.{viewAt, partAt, Lies}
@@ -41,6 +41,21 @@ use Rattle.answer.specs.Result.{lent, resultOf}
 use Rattle.look.specs.declared.Shown.{Shown}
 use Rattle.look.specs.Show.{Seen}
 use Rattle.answer.proofs.Perform.{perform-first, perform-none}
+
+-- ---- whether the first piece has the bytes
+
+-- the first piece has no more bytes than the chain
+pub first-most : (xs : List Stretch) → firstLength xs ≤ total xs
+unfolding total
+first-most [] = omega arith
+first-most (x ∷ xs) = omega arith
+
+-- it has the n bytes, or they are scattered
+first-has : (xs : List Stretch) (n : ℕ) → n ≤ firstLength xs → Is (scattered xs n) → ⊥
+first-has xs n h t = T-not (leb n (firstLength xs)) t (le→leb n (firstLength xs) h)
+
+first-lacks : (xs : List Stretch) (n : ℕ) → firstLength xs < n → Is (scattered xs n)
+first-lacks xs n h = not-T (leb n (firstLength xs)) (λ t. omega (arith, leb→le n (firstLength xs) t))
 
 -- ---- where the bytes are seen
 
@@ -55,61 +70,37 @@ unfolding viewOf
 view-some x xs n h = if-F (eqb n 0) _ _ (λ t. h (eqb→eq n 0 t))
 
 -- the first piece has them, or has not
-pub view-piece : (x : Stretch) (xs : List Stretch) (n : ℕ) → (n ≡ 0 → ⊥) → n ≤ x .len → viewAt (Storage (positionOf x)) ≡ viewOf (x ∷ xs) n
-view-piece x xs n h l = sym (view-some x xs n h ∙ if-F (scattered (x ∷ xs) n) _ _ (λ t. T-not (leb n (x .len)) t (le→leb n (x .len) l)))
+view-piece : (x : Stretch) (xs : List Stretch) (n : ℕ) → (n ≡ 0 → ⊥) → n ≤ x .len → viewAt (Storage (positionOf x)) ≡ viewOf (x ∷ xs) n
+view-piece x xs n h l = sym (view-some x xs n h ∙ if-F (scattered (x ∷ xs) n) _ _ (first-has (x ∷ xs) n l))
 
-pub view-scratch : (x : Stretch) (xs : List Stretch) (n : ℕ) → (n ≡ 0 → ⊥) → x .len < n → viewAt Scratch ≡ viewOf (x ∷ xs) n
-view-scratch x xs n h l = sym (view-some x xs n h ∙ if-T (scattered (x ∷ xs) n) _ _ (not-T (leb n (x .len)) (λ t. omega (arith, leb→le n (x .len) t))))
+view-scratch : (xs : List Stretch) (n : ℕ) → firstLength xs < n → n ≤ total xs → viewAt Scratch ≡ viewOf xs n
+unfolding total
+view-scratch [] n h k = absurd (omega arith)
+view-scratch (x ∷ xs) n h k = sym (view-some x xs n (λ z. omega arith) ∙ if-T (scattered (x ∷ xs) n) _ _ (first-lacks (x ∷ xs) n h))
 
--- ---- the place that the code finds
+-- ---- the start that the code finds
 
-module _ (T : Tables) (l n : ℕ) (h : n ≡ 0 → ⊥) (k : n ≤ total (stretchesFrom T l)) where
+module _ (T : Tables) (l n : ℕ) (S : SoundTables T) (t : Is (linkOk T l)) (h : n ≡ 0 → ⊥) (k : n ≤ firstLength (stretchesFrom T l)) where
   -- a chain that has bytes has a link to its first piece
   pub link-some : l ≡ 0 → ⊥
-  link-some z = omega (arith, length-empty (pieceTotal T) l T z)
+  link-some z = h (omega (arith, k, ap (λ (m : ℕ). firstLength (stretchesFrom T m)) z, ap firstLength (stretches-none T)))
 
-  first-and-rest : stretchesFrom T l ≡ stretch (piece T (l - 1)) ∷ stretches T (walk (pieceTotal T - 1) T (piece T (l - 1) .next))
-  unfolding stretches
-  first-and-rest = ap (stretches T) (walk-first (pieceTotal T) l T (λ z. omega (arith, length-none (pieceTotal T) l T z)) link-some)
+  -- which has them
+  pub place-piece : {a : ℕ} → a ≡ positionOf (stretch (piece T (l - 1))) → viewAt (Storage a) ≡ viewOf (stretchesFrom T l) n
+  place-piece e =
+      let on = stretches-on T l S t link-some in
+      ap (λ (a : ℕ). viewAt (Storage a)) e ∙ view-piece (stretch (piece T (l - 1))) _ n h (omega (arith, k, ap firstLength on)) ∙ ap (λ (xs : List Stretch). viewOf xs n) (sym on)
 
-  pub place-piece : {a : ℕ} → a ≡ positionOf (stretch (piece T (l - 1))) → n ≤ piece T (l - 1) .len → viewAt (Storage a) ≡ viewOf (stretchesFrom T l) n
-  place-piece e m = ap (λ (a : ℕ). viewAt (Storage a)) e ∙ view-piece _ _ n h m ∙ ap (λ (xs : List Stretch). viewOf xs n) (sym first-and-rest)
+-- ---- the bytes seen in storage
 
-  pub place-scratch : piece T (l - 1) .len < n → viewAt Scratch ≡ viewOf (stretchesFrom T l) n
-  place-scratch m = view-scratch _ _ n h m ∙ ap (λ (xs : List Stretch). viewOf xs n) (sym first-and-rest)
-
--- ---- what the place says
-
--- in the scratch: the bytes are scattered
-pub scratch-scattered : (xs : List Stretch) (n : ℕ) → viewAt Scratch ≡ viewOf xs n → Is (scattered xs n)
+-- they are there
+storage-inside : (B : ℕ) (xs : List Stretch) (a n : ℕ) → Good B xs → n ≤ firstLength xs → viewAt (Storage a) ≡ viewOf xs n → a + n ≤ storageLength B
 unfolding viewOf
-scratch-scattered [] n e = absurd (let z = ap (λ (v : View). v .inScratch) e in omega arith)
-scratch-scattered (x ∷ xs) n e =
-    if-either (λ (v : View). viewAt Scratch ≡ v → Is (scattered (x ∷ xs) n)) (eqb n 0) _ _
-    (λ _ q. absurd (let z = ap (λ (v : View). v .inScratch) q in omega arith))
-    (λ _. if-either (λ (v : View). viewAt Scratch ≡ v → Is (scattered (x ∷ xs) n)) (scattered (x ∷ xs) n) _ _
-    (λ t _. t) (λ _ q. absurd (let z = ap (λ (v : View). v .inScratch) q in omega arith))) e
-
--- in storage: the first piece has them, and they are there
-pub record Whole (B : ℕ) (xs : List Stretch) (a n : ℕ) : Type 0 where
-  pub not-scattered : Is (scattered xs n) → ⊥
-  pub inside : a + n ≤ storageLength B
-
-none-whole : (B : ℕ) (xs : List Stretch) (a n : ℕ) → n ≡ 0 → a ≡ 0 → Whole B xs a n
-none-whole B xs a n e f = record { not-scattered = λ t. T-not (leb n (firstLength xs)) t (le→leb n (firstLength xs) (omega arith)); inside = omega arith }
-
-pub storage-whole : (B : ℕ) (xs : List Stretch) (a n : ℕ) → Good B xs → n ≤ total xs → viewAt (Storage a) ≡ viewOf xs n → Whole B xs a n
-unfolding viewOf total
-storage-whole B [] a n g k e = none-whole B [] a n (omega arith) (ap (λ (v : View). v .start) e)
-storage-whole B (x ∷ xs) a n g k e =
-    if-either (λ (v : View). viewAt (Storage a) ≡ v → Whole B (x ∷ xs) a n) (eqb n 0) _ _
-    (λ t q. none-whole B (x ∷ xs) a n (eqb→eq n 0 t) (ap (λ (v : View). v .start) q))
-    (λ _. if-either (λ (v : View). viewAt (Storage a) ≡ v → Whole B (x ∷ xs) a n) (scattered (x ∷ xs) n) _ _
-    (λ _ q. absurd (let z = ap (λ (v : View). v .inScratch) q in omega arith))
-    (λ t q. (
-    let m = leb→le n (x .len) (not-not (leb n (x .len)) t) in
-    let f = ap (λ (v : View). v .start) q in
-    record { not-scattered = t; inside = omega (arith, g .0, g .2) }))) e
+storage-inside B [] a n g k e = omega (arith, ap (λ (v : View). v .start) e)
+storage-inside B (x ∷ xs) a n g k e =
+    if-either (λ (v : View). viewAt (Storage a) ≡ v → a + n ≤ storageLength B) (eqb n 0) _ _
+    (λ t q. omega (arith, eqb→eq n 0 t, ap (λ (v : View). v .start) q))
+    (λ _ q. omega (arith, g .0, g .2, ap (λ (v : View). v .start) (q ∙ if-F (scattered (x ∷ xs) n) _ _ (first-has (x ∷ xs) n k)))) e
 
 -- ---- show
 
@@ -145,14 +136,14 @@ module _ (p st sc : List ℕ) (s n : ℕ) where
         not-range : Is (ltb (lengthOf (decode p) s) n) → ⊥
         not-range t = omega (arith, ltb→lt (lengthOf (decode p) s) n t)
 
-        pub show-narrow : {r : Shown} → r ≡ record { outcome = Refused Narrow; place = Storage 0 } → viewAt Scratch ≡ viewOf (spans (decode p) s) n → length sc < n → Seen r p st s n sc sc
+        pub show-narrow : {r : Shown} → r ≡ record { outcome = Refused Narrow; place = Storage 0 } → firstLength (spans (decode p) s) < n → length sc < n → Seen r p st s n sc sc
         unfolding rule
         show-narrow e v h =
             refused-seen e (perform-first (Show s n sc) (lent p st) Narrow
             (first-no (Slip ⇐ unnamed (decode p) s) _ u ∙ first-no (Long ⇐ ltb bufferSize n) _ not-long
             ∙ first-no (Range ⇐ ltb (lengthOf (decode p) s) n) _ not-range
             ∙ first-yes (Narrow ⇐ (scattered (spans (decode p) s) n && ltb (length sc) n)) []
-            (and-intro (scattered (spans (decode p) s) n) _ (scratch-scattered (spans (decode p) s) n v) (lt→ltb (length sc) n h))))
+            (and-intro (scattered (spans (decode p) s) n) _ (first-lacks (spans (decode p) s) n v) (lt→ltb (length sc) n h))))
 
         module _ {o : Outcome} (a : o ≡ Done (record { state = stateOf (slip (decode p) s); number = n })) (b : encode (decode p) ≡ p) where
           -- a show that is done, at a place and with the scratch as they are found
@@ -170,17 +161,21 @@ module _ (p st sc : List ℕ) (s n : ℕ) where
             leaves = refl;
           })
 
-          pub show-storage : (B c : ℕ) → Fit B st → Good B (spans (decode p) s) → viewAt (Storage c) ≡ viewOf (spans (decode p) s) n → Seen (record { outcome = o; place = Storage c }) p st s n sc sc
-          show-storage B c f g v =
-              let w = storage-whole B (spans (decode p) s) c n g k v in
-              done-seen (Storage c) sc (λ t. w .not-scattered (and-0 (scattered (spans (decode p) s) n) _ t)) (sym (if-F (scattered (spans (decode p) s) n) _ _ (w .not-scattered))) v (omega (arith, w .inside))
+          -- the first piece has the bytes
+          pub show-storage : (B c : ℕ) → Fit B st → Good B (spans (decode p) s) → n ≤ firstLength (spans (decode p) s) → viewAt (Storage c) ≡ viewOf (spans (decode p) s) n
+              → Seen (record { outcome = o; place = Storage c }) p st s n sc sc
+          show-storage B c f g i v =
+              let xs = spans (decode p) s in
+              done-seen (Storage c) sc (λ t. first-has xs n i (and-0 (scattered xs n) _ t)) (sym (if-F (scattered xs n) _ _ (first-has xs n i))) v
+              (omega (arith, storage-inside B xs c n g i v))
 
-          pub show-scratch : {l : ℕ} (after : List ℕ) → viewAt Scratch ≡ viewOf (spans (decode p) s) n → n ≤ length sc → length after ≡ length sc → l ≡ headOf (decode p) s
-              → after ≡ copied (take n (contents st (stretchesFrom (decode p) l))) sc → Seen (record { outcome = o; place = Scratch }) p st s n sc after
-          show-scratch after v m j h f =
-              let e : after ≡ copied (take n (reads (stateIn (lent p st)) s)) sc = rw h at f in
-              let t = scratch-scattered (spans (decode p) s) n v in
-              done-seen Scratch after (λ q. omega (arith, ltb→lt (length sc) n (and-1 (scattered (spans (decode p) s) n) _ q))) (e ∙ sym (if-T (scattered (spans (decode p) s) n) _ _ t)) v (omega arith)
+          -- or has not, and they are copied
+          pub show-scratch : (after : List ℕ) → firstLength (spans (decode p) s) < n → n ≤ length sc → length after ≡ length sc
+              → after ≡ copied (take n (reads (stateIn (lent p st)) s)) sc → Seen (record { outcome = o; place = Scratch }) p st s n sc after
+          show-scratch after v m j e =
+              let xs = spans (decode p) s in
+              done-seen Scratch after (λ q. omega (arith, ltb→lt (length sc) n (and-1 (scattered xs n) _ q))) (e ∙ sym (if-T (scattered xs n) _ _ (first-lacks xs n v)))
+              (view-scratch xs n v k) (omega arith)
 
 -- ---- the view
 

@@ -5,20 +5,19 @@ use kinds::PieceNumber;
 use kinds::Refusal;
 use kinds::SlipNumber;
 use tables::Shape;
+use transfer::Cursor;
 ghost use mathlib.Core.Path.{_≡_};
-ghost use mathlib.Core.Bool.{not};
 ghost use mathlib.Core.List.{List, []};
 ghost use Prim.Native.Nat.{ℕ, _≤_};
 ghost use lib.ListN.{length};
-ghost use Rattle.kinds.specs.Limits.{bufferSize};
 ghost use Rattle.kinds.specs.SlipState.{stateOf};
 ghost use Rattle.rules.specs.Basics.{Is};
 ghost use Rattle.rules.specs.Layout.{storageLength};
 ghost use Rattle.rules.specs.Tables.{slip};
 ghost use Rattle.rules.specs.Bytes.{decode};
-ghost use Rattle.rules.specs.Chain.{total, lengthOf};
+ghost use Rattle.rules.specs.Chain.{firstLength};
 ghost use Rattle.rules.specs.Sound.{linkOk};
-ghost use Rattle.rules.specs.Rule.{unnamed, noView};
+ghost use Rattle.rules.specs.Rule.{noView};
 ghost use Rattle.rules.specs.Show.{viewOf};
 ghost use Rattle.rules.specs.Step.{Length, Read, perform};
 ghost use Rattle.chain.specs.Opened.{Opened};
@@ -79,16 +78,21 @@ pub fn read(
     if !chain::held(pool, shape, s) {
         return Outcome::Refused(Refusal::Slip);
     }
-    let length = chain::chain_length(pool, shape, s) as u64;
-    let end = off as u64 + n as u64;
-    if length < end {
+    let head = chain::head_link(pool, shape, s);
+    let at = chain::find(pool, shape, head, off);
+    let link = at.link;
+    let into = at.into;
+    if !chain::part_of(pool, shape, link, into as u64 + n as u64).enough {
         return Outcome::Refused(Refusal::Range);
     }
     if output.len() < n as usize {
         return Outcome::Refused(Refusal::Narrow);
     }
-    let link = chain::head_link(pool, shape, s);
-    transfer::copy_out(pool, shape, storage, link, off, n, output);
+    let from = Cursor {
+        link: link,
+        into: into,
+    };
+    transfer::gather(pool, shape, storage, from, n, output);
     answer::done(pool, shape, s, n)
 }
 
@@ -102,53 +106,16 @@ pub fn unseen(why: Refusal) -> Shown
     }
 }
 
-// Where the first `n` bytes of the chain from `link` are seen: in storage if the first piece has them.
-fn place_of(pool: &[u8], shape: Shape, link: u16, n: u32) -> Place
+// Where the first `n` bytes of the chain from `link` start in storage, which its first piece has; none start at 0: a data pointer.
+fn start_of(pool: &[u8], shape: Shape, link: u16, n: u32) -> usize
     requires { ⌜ Opened (now pool) shape × Is (linkOk (decode (now pool)) link) ⌝ }
-    requires { ⌜ n ≤ total (stretchesFrom (decode (now pool)) link) ⌝ }
-    ensures { λ r. ⌜ viewAt r ≡ viewOf (stretchesFrom (decode (now (pool .entry))) link) n ⌝ }
+    requires { ⌜ n ≤ firstLength (stretchesFrom (decode (now pool)) link) ⌝ }
+    ensures { λ r. ⌜ viewAt (Place.Storage r) ≡ viewOf (stretchesFrom (decode (now (pool .entry))) link) n ⌝ }
 {
     if n == 0 {
-        return Place::Storage(0);
+        return 0;
     }
-    let d = PieceNumber(link - 1);
-    if n <= tables::piece_length(pool, shape, d) as u32 {
-        return Place::Storage(transfer::position(pool, shape, d));
-    }
-    Place::Scratch
-}
-
-// Shows the first `n` bytes of the chain of slip `s`, which has them: they are copied only where they are scattered.
-fn show_first(
-    pool: &[u8],
-    shape: Shape,
-    storage: &[u8],
-    s: SlipNumber,
-    n: u32,
-    scratch: &mut [u8],
-) -> Shown
-    requires { ⌜ Opened (now pool) shape × (length (now storage) ≡ storageLength (shape .buffers)) ⌝ }
-    requires { ⌜ Is (not (unnamed (decode (now pool)) (s .0))) × (n ≤ bufferSize) × (n ≤ lengthOf (decode (now pool)) (s .0)) ⌝ }
-    ensures { λ r. ⌜ Seen r (now (pool .entry)) (now (storage .entry)) (s .0) n (now (scratch .entry)) (now (scratch .exit)) ⌝ }
-{
-    let link = chain::head_link(pool, shape, s);
-    let place = place_of(pool, shape, link, n);
-    match place {
-        Place::Storage(start) => Shown {
-            outcome: answer::done(pool, shape, s, n),
-            place: Place::Storage(start),
-        },
-        Place::Scratch => {
-            if scratch.len() < n as usize {
-                return unseen(Refusal::Narrow);
-            }
-            transfer::copy_out(pool, shape, storage, link, 0, n, scratch);
-            Shown {
-                outcome: answer::done(pool, shape, s, n),
-                place: Place::Scratch,
-            }
-        }
-    }
+    transfer::position(pool, shape, PieceNumber(link - 1))
 }
 
 // Shows the first `n` bytes of the chain of slip `s` in one stretch, of storage or of the scratch.
@@ -169,8 +136,26 @@ pub fn show(
     if !BufferNumber::fits(n) {
         return unseen(Refusal::Long);
     }
-    if chain::chain_length(pool, shape, s) < n {
+    let link = chain::head_link(pool, shape, s);
+    if chain::in_first(pool, shape, link, n) {
+        return Shown {
+            outcome: answer::done(pool, shape, s, n),
+            place: Place::Storage(start_of(pool, shape, link, n)),
+        };
+    }
+    if !chain::part_of(pool, shape, link, n as u64).enough {
         return unseen(Refusal::Range);
     }
-    show_first(pool, shape, storage, s, n, scratch)
+    if scratch.len() < n as usize {
+        return unseen(Refusal::Narrow);
+    }
+    let from = Cursor {
+        link: link,
+        into: 0,
+    };
+    transfer::gather(pool, shape, storage, from, n, scratch);
+    Shown {
+        outcome: answer::done(pool, shape, s, n),
+        place: Place::Scratch,
+    }
 }

@@ -45,18 +45,18 @@ pub fn pack(pool: &mut [u8], shape: Shape, storage: &mut [u8], s: SlipNumber) ->
     if !scattered(pool, shape, head) {
         return answer::done(pool, shape, s, 0);
     }
-    let n = chain::chain_length(pool, shape, s);
+    let n = chain::bytes_from(pool, shape, head);
     let count = transfer::buffers_for(n as usize);
-    let piece = chain::lowest_piece(pool, shape, count);
-    if !chain::has_pieces(pool, shape, piece, count) {
+    let pieces = chain::piece_room(pool, shape, count);
+    if !pieces.enough {
         return Outcome::Refused(Refusal::Pieces);
     }
-    let buffer = chain::lowest_buffer(pool, shape, count);
-    if !chain::has_buffers(pool, shape, buffer, count) {
+    let buffers = chain::buffer_room(pool, shape, count);
+    if !buffers.enough {
         return Outcome::Refused(Refusal::Buffers);
     }
-    transfer::refill(pool, shape, storage, head, n, buffer);
-    let first = build::lay(pool, shape, n, count as u16, piece, buffer);
+    transfer::refill(pool, shape, storage, head, n, buffers.lowest);
+    let first = build::lay(pool, shape, n, count as u16, pieces.lowest, buffers.lowest);
     release::turn(pool, shape, s, first + 1);
     answer::done(pool, shape, s, 0)
 }

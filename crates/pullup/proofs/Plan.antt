@@ -7,7 +7,7 @@ use native.Mathlib.Numerals.{add-one}
 use native.Mathlib.Decide.{decLt}
 use native.Mathlib.Omega.{arith}
 use lib.ListN.{length, take}
-use lib.Dec.{eqb, eqb→eq, leb, leb→le, le→leb}
+use lib.Dec.{leb, leb→le}
 use Rattle.kinds.specs.Limits.{bufferSize}
 use Rattle.rules.specs.Basics.{Is, places}
 use Rattle.rules.specs.Tables.{Tables, piece, pieceTotal, bufferTotal, bufferCount}
@@ -17,7 +17,7 @@ use Rattle.rules.specs.Sound.{linkOk, SoundTables}
 use Rattle.rules.specs.Room.{isFree, isUnheld, freePieces, freeBuffers, newBuffers}
 use Rattle.rules.specs.Build.{fresh, taken, built, builtLink, Plan, made, madeLink, underOld, buffersFor, laid, stored}
 use Rattle.rules.specs.Pullup.{pulled, pullupAfter}
-use Rattle.rules.proofs.Logic.{if-F, same-test, eq→eqb}
+use Rattle.rules.proofs.Logic.{if-F}
 use Rattle.rules.proofs.Audit.{tables-now}
 use Rattle.rules.proofs.Build.{Free, Planned, plain-planned, plan-built}
 use Rattle.rules.proofs.Drop.{drop-here}
@@ -31,24 +31,12 @@ use Rattle.chain.specs.Length.{stretchesFrom}
 use Rattle.chain.specs.Free.{firstFrom, lowestFor}
 use Rattle.chain.specs.Rest.{restFrom}
 use Rattle.chain.proofs.Free.{lowest-some, piece-first, no-piece, first-lies, buffer-first}
-use Rattle.chain.proofs.Links.{link-leads, stretches-none, stretches-on}
+use Rattle.chain.proofs.Links.{link-leads}
 use Rattle.chain.proofs.Spots.{dropped-at}
 use Rattle.build.proofs.Laws.{buffer-room}
 use Rattle.build.proofs.Line.{freeFrom}
 use Rattle.transfer.proofs.Fill.{for-one}
 use Rattle.pullup.specs.Pull.{pulledFrom, Pullable, Pulled}
-
--- ---- whether the first piece has the bytes
-
--- with no piece there are no bytes
-pub first-none : (T : Tables) (l n : ℕ) → l ≡ 0 → eqb n 0 ≡ leb n (firstLength (stretchesFrom T l))
-first-none T l n z =
-    let e : firstLength (stretchesFrom T l) ≡ 0 = ap (λ (m : ℕ). firstLength (stretchesFrom T m)) z ∙ ap firstLength (stretches-none T) in
-    same-test (eqb n 0) (leb n 0) (λ t. le→leb n 0 (omega (arith, eqb→eq n 0 t))) (λ t. eq→eqb n 0 (omega (arith, leb→le n 0 t))) ∙ ap (leb n) (sym e)
-
--- else the first piece has its own
-pub first-some : (T : Tables) (l n : ℕ) {k : ℕ} → SoundTables T → Is (linkOk T l) → (l ≡ 0 → ⊥) → k ≡ piece T (l - 1) .len → leb n k ≡ leb n (firstLength (stretchesFrom T l))
-first-some T l n S t i e = ap (leb n) (e ∙ sym (ap firstLength (stretches-on T l S t i)))
 
 -- ---- what stays from a place
 

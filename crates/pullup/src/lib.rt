@@ -10,13 +10,11 @@ ghost use mathlib.Core.Path.{_≡_};
 ghost use mathlib.Core.List.{[]};
 ghost use Prim.Native.Nat.{_-_, _<_};
 ghost use lib.ListN.{length};
-ghost use lib.Dec.{leb};
 ghost use Rattle.kinds.specs.SlipState.{stateOf};
 ghost use Rattle.rules.specs.Basics.{Is};
 ghost use Rattle.rules.specs.Layout.{storageLength};
 ghost use Rattle.rules.specs.Tables.{slip, piece, pieceTotal};
 ghost use Rattle.rules.specs.Bytes.{decode};
-ghost use Rattle.rules.specs.Chain.{firstLength};
 ghost use Rattle.rules.specs.Sound.{linkOk};
 ghost use Rattle.rules.specs.Room.{isFree, freePieces};
 ghost use Rattle.rules.specs.Build.{made, madeLink};
@@ -25,21 +23,9 @@ ghost use Rattle.rules.specs.Step.{Pullup, perform};
 ghost use Rattle.tables.specs.Shape.{Holds};
 ghost use Rattle.chain.specs.Opened.{Opened};
 ghost use Rattle.chain.specs.Free.{firstFrom};
-ghost use Rattle.chain.specs.Length.{stretchesFrom};
 ghost use Rattle.chain.specs.Rest.{restFrom};
 ghost use Rattle.answer.specs.Result.{lent, resultOf, Leaves};
 ghost use Rattle.pullup.specs.Pull.{pulledFrom, Pullable, Pulled};
-
-// Whether the first piece of the chain from `link` has `n` bytes, as any chain has none: a contiguity test.
-fn in_first(pool: &[u8], shape: Shape, link: u16, n: u32) -> bool
-    requires { ⌜ Opened (now pool) shape × Is (linkOk (decode (now pool)) link) ⌝ }
-    ensures { λ r. ⌜ r ≡ leb n (firstLength (stretchesFrom (decode (now (pool .entry))) link)) ⌝ }
-{
-    if link == 0 {
-        return n == 0;
-    }
-    n <= tables::piece_length(pool, shape, PieceNumber(link - 1)) as u32
-}
 
 // Makes a first piece for the `n` bytes of buffer `b`, before what stays from the place `at`; answers the link to it: a new head descriptor.
 fn make_first(pool: &mut [u8], shape: Shape, at: Spot, f: u16, b: BufferNumber, n: u16) -> u16
@@ -91,18 +77,28 @@ pub fn pullup(pool: &mut [u8], shape: Shape, storage: &mut [u8], s: SlipNumber, 
     if chain::past_end(at) {
         return Outcome::Refused(Refusal::Range);
     }
-    if in_first(pool, shape, head, n) {
+    if chain::in_first(pool, shape, head, n) {
         return answer::done(pool, shape, s, 0);
     }
     let wanted = build::wanted(at.link, at.into, at.own) as usize + 1;
-    let f = chain::lowest_piece(pool, shape, wanted);
-    if !chain::has_pieces(pool, shape, f, wanted) {
+    let pieces = chain::piece_room(pool, shape, wanted);
+    if !pieces.enough {
         return Outcome::Refused(Refusal::Pieces);
     }
     let b = chain::next_free_buffer(pool, shape, 0);
     if b == shape.buffers {
         return Outcome::Refused(Refusal::Buffers);
     }
-    pull(pool, shape, storage, s, n, head, at, f, BufferNumber(b));
+    pull(
+        pool,
+        shape,
+        storage,
+        s,
+        n,
+        head,
+        at,
+        pieces.lowest,
+        BufferNumber(b),
+    );
     answer::done(pool, shape, s, 0)
 }

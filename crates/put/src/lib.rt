@@ -27,15 +27,22 @@ pub fn put(pool: &mut [u8], shape: Shape, storage: &mut [u8], input: &[u8]) -> O
         return Outcome::Refused(Refusal::Slips);
     }
     let count = transfer::buffers_for(input.len());
-    let piece = chain::lowest_piece(pool, shape, count);
-    if !chain::has_pieces(pool, shape, piece, count) {
+    let pieces = chain::piece_room(pool, shape, count);
+    if !pieces.enough {
         return Outcome::Refused(Refusal::Pieces);
     }
-    let buffer = chain::lowest_buffer(pool, shape, count);
-    if !chain::has_buffers(pool, shape, buffer, count) {
+    let buffers = chain::buffer_room(pool, shape, count);
+    if !buffers.enough {
         return Outcome::Refused(Refusal::Buffers);
     }
-    transfer::fill_free(pool, shape, storage, input, buffer);
-    let first = build::lay(pool, shape, input.len() as u32, count as u16, piece, buffer);
+    transfer::fill_free(pool, shape, storage, input, buffers.lowest);
+    let first = build::lay(
+        pool,
+        shape,
+        input.len() as u32,
+        count as u16,
+        pieces.lowest,
+        buffers.lowest,
+    );
     answer::under_new(pool, shape, SlipNumber(t), first)
 }

@@ -74,3 +74,9 @@ front-rest p xs y z h e f =
     let n : length (xs ++ drop (length xs) p) ≡ length p = simp (length-append, length-drop) (omega arith) in
     let m : length xs ≤ length (y ++ drop (length xs) p) = rw (e, n) h in
     lent-zeroed (y ++ drop (length xs) p) z (length xs) m f ∙ rw (e, n, take-append-seam)
+
+-- the whole put back as y, which is xs of the same length
+pub whole-front : (p xs y : List ℕ) → length xs ≡ length p → y ≡ xs → y ≡ xs ++ replicate (length p - length xs) 0
+whole-front p xs y h e =
+    let n : length p - length xs ≡ 0 = omega arith in
+    e ∙ rw n (sym (append-nil xs))

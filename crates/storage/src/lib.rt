@@ -36,6 +36,10 @@ pub fn fill(part: &mut [u8], input: &[u8])
     ensures { λ _. ⌜ now (part .exit) ≡ now (input .entry) ++ replicate (length (now (part .entry)) - length (now (input .entry))) 0 ⌝ }
 {
     let n = input.len();
+    if n == part.len() {
+        copy(part, input);
+        return;
+    }
     copy(&mut part[..n], input);
     zero(&mut part[n..]);
 }

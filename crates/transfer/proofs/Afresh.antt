@@ -3,8 +3,8 @@ use mathlib.Core.Path.{_≡_, sym, ap, subst, _∙_}
 use mathlib.Core.List.{List, [], _∷_, List·Memᴰ·eq-of-singleton}
 use Prim.Native.Nat.{ℕ, _+_, _-_, _≤_, _<_, min}
 use native.Mathlib.Omega.{arith}
-use lib.ListN.{length, take, drop, length-drop}
-use lib.Seq.{length-take-le, take-all, take-take, drop-drop, take-at}
+use lib.ListN.{length, take, drop}
+use lib.Seq.{take-all, take-take, drop-drop, take-at}
 use lib.Dec.{eqb→eq}
 use Rattle.kinds.specs.Limits.{bufferSize}
 use Rattle.rules.specs.Basics.{Is}
@@ -22,8 +22,9 @@ use Rattle.chain.proofs.Links.{walk-in-use, stretches-in}
 use Rattle.chain.specs.Free.{firstFrom, lowestFor}
 use Rattle.chain.specs.Length.{stretchesFrom}
 use Rattle.transfer.specs.declared.Cursor.{Cursor}
-use Rattle.transfer.specs.Behind.{Behind}
-use Rattle.transfer.proofs.Copy.{drop-take, take-most, drop-most}
+use Rattle.transfer.specs.Behind.{InPiece, behind}
+use Rattle.transfer.proofs.Behind.{Behind, behind-found, start-inside}
+use Rattle.transfer.proofs.Copy.{drop-take, take-most, drop-most, bytesFrom, bytes-count}
 use Rattle.transfer.proofs.Fill.{Filling, filling-first, filling-done, filling-below, filling-passes, filling-on}
 
 -- ---- one buffer
@@ -47,16 +48,6 @@ chain-stays T n b st xs sound t s h f =
 
 -- ---- a refill under way
 
--- the n bytes of a chain from the place c on
-abbrev pub bytesFrom : Tables → List ℕ → Cursor → ℕ → List ℕ
-bytesFrom T st c n = take n (drop (c .into) (contents st (stretchesFrom T (c .link))))
-
--- there are n of them, where the chain has as many
-pub bytes-count : (T : Tables) (st : List ℕ) (c : Cursor) (n : ℕ) → SoundTables T → Fit (bufferTotal T) st → Is (linkOk T (c .link)) → c .into + n ≤ total (stretchesFrom T (c .link))
-    → length (bytesFrom T st c n) ≡ n
-bytes-count T st c n sound s t h =
-    length-take-le n _ (simp length-drop (omega (arith, contents-length (bufferTotal T) st (stretchesFrom T (c .link)) s (stretches-in T (c .link) sound t))))
-
 -- the first bytes of a chain, as many as it has, are all of them
 pub bytes-all : (T : Tables) (st : List ℕ) (l : ℕ) → SoundTables T → Fit (bufferTotal T) st → Is (linkOk T l) → take (total (stretchesFrom T l)) (contents st (stretchesFrom T l)) ≡ contents st (stretchesFrom T l)
 bytes-all T st l sound s t =
@@ -70,6 +61,7 @@ bytes-front T st c n out l e = ap (take n) e ∙ take-at (bytesFrom T st c n) _ 
 -- the chain has n bytes more from the place c on, which are still to go to the lowest free buffers from i on
 pub record Refilling (T : Tables) (goal : List ℕ) (i : ℕ) (st : List ℕ) (c : Cursor) (n : ℕ) : Type 0 where
   pub good : Is (linkOk T (c .link))
+  pub inside : InPiece T c
   pub enough : c .into + n ≤ total (stretchesFrom T (c .link))
   pub filling : Filling (isUnheld T) (bufferTotal T) goal i st (bytesFrom T st c n)
 
@@ -82,6 +74,7 @@ refilling-first T st l n {i} q sound s t h r =
     let e = bytes-count T st c n sound s t (omega arith) in
     record {
       good = t;
+      inside = start-inside T l sound t;
       enough = omega arith;
       filling = subst (λ k. Filling (isUnheld T) (bufferTotal T) (stored st (newBuffers T (buffersFor k)) xs) i st xs) e (filling-first (isUnheld T) (bufferTotal T) st xs (rw e q) s (rw e r));
     }
@@ -105,8 +98,9 @@ module _ {T : Tables} {goal : List ℕ} {i : ℕ} {st : List ℕ} {c : Cursor} {
     refilling-below = filling-below (w .filling) some eb
 
     -- and once it is filled the refill goes on behind the bytes that went there
-    pub refilling-on : {m : ℕ} {st′ : List ℕ} {c′ : Cursor} → m ≡ min n bufferSize → st′ ≡ filled st b (bytesFrom T st c m) → Behind T c m c′ → Refilling T goal (b + 1) st′ c′ (n - m)
-    refilling-on {m} {st′} {c′} em es r =
+    pub refilling-on : {m : ℕ} {st′ : List ℕ} {c′ : Cursor} → m ≡ min n bufferSize → st′ ≡ filled st b (bytesFrom T st c m) → c′ ≡ behind T c m → Refilling T goal (b + 1) st′ c′ (n - m)
+    refilling-on {m} {st′} {c′} em es ec =
+        let r = subst (Behind T c m) (sym ec) (behind-found T c m sound (w .good)) in
         let D = drop (c .into) (contents st (stretchesFrom T (c .link))) in
         let k : m ≡ min bufferSize (length (take n D)) = rw count (omega arith) in
         let below = refilling-below in
@@ -120,6 +114,7 @@ module _ {T : Tables} {goal : List ℕ} {i : ℕ} {st : List ℕ} {c : Cursor} {
         ∙ sym (drop-most bufferSize m (take n D) k ∙ drop-take m n D) in
         record {
           good = r .good;
+          inside = r .inside;
           enough = omega (arith, r .lengths, w .enough);
           filling = filling-on (w .filling) some eb part rest es;
         }

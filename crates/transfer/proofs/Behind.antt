@@ -1,58 +1,116 @@
--- The place behind the bytes that were copied. Assumes nothing.
-use mathlib.Core.Path.{_≡_, refl, ap, _∙_}
-use mathlib.Core.List.{List, _∷_, _++_}
-use Prim.Native.Nat.{ℕ, _+_, _-_, _≤_, _<_}
+-- Places in a chain: the place some bytes behind another, found at once, or one piece after another. Assumes nothing.
+use mathlib.Core.Path.{_≡_, refl, sym, ap, subst, _∙_}
+use mathlib.Core.Bool.{Bool, true, false}
+use mathlib.Core.List.{List}
+use Prim.Native.Nat.{ℕ, zero, suc, _+_, _-_, _≤_}
+use native.Mathlib.Nat.{add-zero}
+use native.Mathlib.Decide.{ℕ-discrete}
 use native.Mathlib.Omega.{arith}
 use lib.ListN.{length, drop}
-use lib.Seq.{drop-append-add}
-use Rattle.rules.specs.Basics.{Is}
-use Rattle.rules.specs.Tables.{Tables, piece, bufferTotal}
-use Rattle.rules.specs.Chain.{Stretch, stretch, total, bytesOf, contents}
+use lib.Dec.{ltb, ltb→lt}
+use Rattle.rules.specs.Basics.{Is, if_then_else_}
+use Rattle.rules.specs.Layout.{storageLength}
+use Rattle.rules.specs.Tables.{Tables, piece, pieceTotal, bufferTotal}
+use Rattle.rules.specs.Chain.{total, contents}
 use Rattle.rules.specs.Sound.{linkOk, SoundTables}
-use Rattle.rules.proofs.Contents.{bytes-length}
+use Rattle.rules.specs.Drop.{ownAt}
+use Rattle.rules.proofs.Logic.{if-either, not-less}
+use Rattle.rules.proofs.Contents.{dropOut-contents}
+use Rattle.chain.specs.declared.Spot.{Spot}
 use Rattle.chain.specs.Length.{stretchesFrom}
-use Rattle.chain.proofs.Links.{link-leads, stretches-on}
+use Rattle.chain.specs.Find.{spotOf}
+use Rattle.chain.proofs.Links.{link-leads, stretches-in}
+use Rattle.chain.proofs.Spots.{spot-end, spot-turn, spot-stop, found}
 use Rattle.transfer.specs.declared.Cursor.{Cursor}
-use Rattle.transfer.specs.declared.Copying.{Copying}
-use Rattle.transfer.specs.Copy.{past}
-use Rattle.transfer.specs.Behind.{Behind}
-use Rattle.transfer.proofs.Copy.{past-sum}
+use Rattle.transfer.specs.Behind.{InPiece, behind, advanced}
 
--- the place n bytes further, counted from the same link
-pub behind-here : (T : Tables) (c : Cursor) (n : ℕ) → Is (linkOk T (c .link)) → Behind T c n (record { link = c .link; into = c .into + n })
-behind-here T c n t = record { good = t; rest = λ st s. refl; lengths = refl }
+-- ---- the place behind
 
--- what comes i bytes into stretches of which the first is no longer
-drop-past : (st : List ℕ) (x : Stretch) (xs : List Stretch) (i : ℕ) → length (bytesOf st x) ≡ x .len → x .len ≤ i → drop i (contents st (x ∷ xs)) ≡ drop (i - x .len) (contents st xs)
-unfolding contents
-drop-past st x xs i l h =
-    let e : i ≡ length (bytesOf st x) + (i - x .len) = omega arith in
-    ap (λ j. drop j (bytesOf st x ++ contents st xs)) e ∙ drop-append-add (bytesOf st x) (contents st xs) (i - x .len)
+-- r lies n bytes behind the place c, inside its piece: what comes after them is the same, whatever the storage holds
+pub record Behind (T : Tables) (c : Cursor) (n : ℕ) (r : Cursor) : Type 0 where
+  pub good : Is (linkOk T (r .link))
+  pub inside : InPiece T r
+  pub rest : (st : List ℕ) → length st ≡ storageLength (bufferTotal T) → drop (c .into + n) (contents st (stretchesFrom T (c .link))) ≡ drop (r .into) (contents st (stretchesFrom T (r .link)))
+  pub lengths : total (stretchesFrom T (c .link)) + r .into ≡ total (stretchesFrom T (r .link)) + (c .into + n)
 
--- a place past the piece that its link leads to is a place from the next piece on
-pub behind-next : {T : Tables} {c r : Cursor} {n : ℕ} → SoundTables T → Behind T c n r → (r .link ≡ 0 → ⊥) → piece T (r .link - 1) .len ≤ r .into
-    → Behind T c n (record { link = piece T (r .link - 1) .next; into = r .into - piece T (r .link - 1) .len })
-unfolding total
-behind-next {T} {c} {r} {n} sound w some h =
-    let x = stretch (piece T (r .link - 1)) in
-    let xs = stretchesFrom T (piece T (r .link - 1) .next) in
-    let u = link-leads T (r .link) sound (w .good) some in
-    let e = stretches-on T (r .link) sound (w .good) some in
+-- the place that is found is one
+pub behind-found : (T : Tables) (c : Cursor) (n : ℕ) → SoundTables T → Is (linkOk T (c .link)) → Behind T c n (behind T c n)
+unfolding behind
+behind-found T c n S t =
+    let B = bufferTotal T in
+    let f = found T S true (c .link) (c .into + n) t in
     record {
-      good = u .onward;
-      rest = λ st s. (w .rest st s ∙ ap (λ (l : List Stretch). drop (r .into) (contents st l)) e ∙ drop-past st x xs (r .into) (bytes-length (bufferTotal T) st x s (u .in-store) (u .inside)) h);
-      lengths = omega (arith, w .lengths, ap total e);
+      good = f .good;
+      inside = f .inside;
+      rest = λ st s. (sym (dropOut-contents B st _ _ s (stretches-in T (c .link) S t)) ∙ ap (contents st) (f .stays) ∙ dropOut-contents B st _ _ s (stretches-in T _ S (f .good)));
+      lengths = f .lengths;
     }
 
--- as long as bytes are left, a copy that is at the link l ends as many bytes after it as it has to skip and to copy
-abbrev pub Ends : Tables → Cursor → ℕ → ℕ → Copying → Type 0
-Ends T c n l g = 0 < g .left → Behind T c n (record { link = l; into = g .skip + g .left })
+-- ---- one piece after another
 
--- and so it does once it has passed a piece
-pub ends-on : {T : Tables} {c : Cursor} {n l l′ : ℕ} (g : Copying) {g′ : Copying} → SoundTables T → Behind T c n (record { link = l; into = g .skip + g .left }) → (l ≡ 0 → ⊥)
-    → l′ ≡ piece T (l - 1) .next → g′ ≡ past (stretch (piece T (l - 1))) g → Ends T c n l′ g′
-ends-on {T} {c} {n} {l} g sound w some el eg h =
-    let x = stretch (piece T (l - 1)) in
-    let q : 0 < past x g .left = rw eg at h in
-    let i : x .len ≤ g .skip + g .left = omega arith in
-    rw (el, eg, past-sum x g) (behind-next sound w some i)
+-- the place of a spot
+abbrev placeOf : Spot → Cursor
+placeOf s = record { link = s .link; into = s .into }
+
+-- it goes by the test that chose the spot
+place-choice : (b : Bool) (x y u v : Spot) → placeOf x ≡ placeOf u → placeOf y ≡ placeOf v → placeOf (if b then x else y) ≡ placeOf (if b then u else v)
+unfolding if_then_else_
+place-choice true x y u v e f = e
+place-choice false x y u v e f = f
+
+-- and is the same whether the pieces before it are own or not
+place-own : (k : ℕ) (T : Tables) (a b : Bool) (n off : ℕ) → placeOf (spotOf k T a n off) ≡ placeOf (spotOf k T b n off)
+unfolding spotOf
+place-own zero T a b n off = refl
+place-own (suc k) T a b zero off = refl
+place-own (suc k) T a b (suc d) off = place-choice _ _ _ _ _ (place-own k T _ _ _ _) refl
+
+-- a place inside its piece is the place no byte behind it
+pub behind-none : (T : Tables) (c : Cursor) → SoundTables T → Is (linkOk T (c .link)) → InPiece T c → behind T c 0 ≡ c
+unfolding behind
+behind-none T c S t i =
+    let z : c .into + 0 ≡ c .into = omega arith in
+    elim (ℕ-discrete (c .link) 0) [
+      | yes e ↦ ap (λ l. placeOf (spotOf (pieceTotal T) T true l (c .into + 0))) e ∙ ap placeOf (spot-end (pieceTotal T) T true (c .into + 0)) ∙ (λ j. record { link = sym e j; into = z j })
+      | no e ↦ ap placeOf (sym (spot-stop T true (c .link) (c .into + 0) S t e refl refl (omega (arith, i e)))) ∙ (λ j. record { link = c .link; into = z j })
+    ]
+
+-- the start of a chain lies inside its first piece
+pub start-inside : (T : Tables) (l : ℕ) → SoundTables T → Is (linkOk T l) → InPiece T (record { link = l; into = 0 })
+start-inside T l S t i = omega (arith, link-leads T l S t i .some-bytes)
+
+module _ (T : Tables) (c : Cursor) (k : ℕ) (S : SoundTables T) (t : Is (linkOk T (c .link))) (some : c .link ≡ 0 → ⊥) (h : c .into + k ≤ piece T (c .link - 1) .len) where
+  -- the bytes of the piece, and the link after it
+  abbrev size : ℕ
+  size = piece T (c .link - 1) .len
+
+  abbrev after : ℕ
+  after = piece T (c .link - 1) .next
+
+  -- the place k bytes further has a good link, and lies inside its piece
+  advanced-good : Is (linkOk T (advanced T c k .link))
+  advanced-good = if-either (λ (r : Cursor). Is (linkOk T (r .link))) (ltb (c .into + k) size) _ _ (λ _. t) (λ _. link-leads T (c .link) S t some .onward)
+
+  advanced-inside : InPiece T (advanced T c k)
+  advanced-inside =
+      if-either (InPiece T) (ltb (c .into + k) size) (record { link = c .link; into = c .into + k }) (record { link = after; into = 0 }) (λ l _. ltb→lt (c .into + k) size l)
+      (λ _. start-inside T after S (link-leads T (c .link) S t some .onward))
+
+  -- what lies behind it lies as much further behind the place c
+  pub behind-advanced : (m : ℕ) → behind T (advanced T c k) m ≡ behind T c (k + m)
+  unfolding behind
+  behind-advanced m =
+      let spot : Bool → ℕ → ℕ → Cursor = λ own l i. placeOf (spotOf (pieceTotal T) T own l i) in
+      let still = ownAt T true (c .link - 1) in
+      let sum : c .into + k + m ≡ c .into + (k + m) = omega arith in
+      if-either (λ (r : Cursor). behind T r m ≡ behind T c (k + m)) (ltb (c .into + k) size) _ _ (λ _. ap (spot true (c .link)) sum)
+      (λ l. (
+      let e : 0 + m ≡ c .into + (k + m) - size = omega (arith, not-less (c .into + k) size l) in
+      place-own (pieceTotal T) T true still after (0 + m) ∙ ap (spot still after) e
+      ∙ ap placeOf (spot-turn T true (c .link) (c .into + (k + m)) S t some refl refl refl (omega (arith, not-less (c .into + k) size l)))))
+
+  -- so it lies k bytes behind c
+  pub advanced-behind : Behind T c k (advanced T c k)
+  advanced-behind =
+      subst (Behind T c k) (ap (behind T c) (sym (add-zero k)) ∙ sym (behind-advanced 0) ∙ behind-none T (advanced T c k) S advanced-good advanced-inside)
+      (behind-found T c k S t)

@@ -1,42 +1,25 @@
--- Copying a range of a chain, one stretch after another. Assumes nothing.
-use mathlib.Core.Path.{_≡_, sym, ap, ap₂, subst, _∙_}
+-- Copying a range of a chain, one piece after another. Assumes nothing.
+use mathlib.Core.Path.{_≡_, refl, sym, ap, ap₂, subst, _∙_}
 use mathlib.Core.List.{List, [], _∷_, _++_, append-assoc}
-use Prim.Native.Nat.{ℕ, zero, suc, _+_, _-_, _*_, _≤_, _<_, min}
+use Prim.Native.Nat.{ℕ, zero, suc, _+_, _-_, _≤_, _<_, min}
 use native.Mathlib.Nat.{sub-zero, zero-sub, suc-sub-suc}
 use native.Mathlib.Decide.{decLe}
 use native.Mathlib.Omega.{arith}
 use lib.ListN.{length, take, drop, length-append, length-take, length-drop, drop-of-length-le, take-append-drop}
-use lib.Seq.{length-take-le, take-nil, drop-nil, take-all, take-at, drop-at, take-take, drop-drop}
+use lib.Seq.{length-take-le, take-nil, take-all, take-at, drop-at, take-take, drop-drop, take-add, take-append-le, drop-append-le}
 use Rattle.rules.specs.Basics.{Is}
 use Rattle.rules.specs.Tables.{Tables, piece, pieceTotal, bufferTotal}
-use Rattle.rules.specs.Chain.{Stretch, walk, stretch, stretches, total, positionOf, bytesOf, contents}
+use Rattle.rules.specs.Chain.{Stretch, stretch, total, positionOf, bytesOf, contents}
 use Rattle.rules.specs.Sound.{linkOk, SoundTables}
 use Rattle.rules.specs.Read.{copied}
 use Rattle.rules.proofs.Contents.{Fit, bytes-length, contents-length}
 use Rattle.chain.specs.Length.{stretchesFrom}
 use Rattle.chain.proofs.Links.{InUse, link-leads, length-empty, stretches-on, stretches-in}
-use Rattle.transfer.specs.declared.Copying.{Copying}
-use Rattle.transfer.specs.Copy.{skipped, taken, past, written}
+use Rattle.transfer.specs.declared.Cursor.{Cursor}
+use Rattle.transfer.specs.Behind.{InPiece, behind, advanced}
+use Rattle.transfer.proofs.Behind.{Behind, behind-none, behind-advanced, advanced-behind}
 
--- ---- one stretch
-
--- what copying the stretch x leaves, from the numbers that the code has
-pub piece-step : (st out : List ℕ) (x : Stretch) (g : Copying) {after : List ℕ} {l s n f : ℕ} → l ≡ x .len → s ≡ min (g .skip) l → n ≡ min (g .left) (l - s) → f ≡ positionOf x
-    → after ≡ take (g .at) out ++ (take n (drop (f + s) st) ++ drop (g .at + n) out)
-    → (_≡_ {A = Copying} (record { skip = g .skip - s; left = g .left - n; at = g .at + n }) (past x g)) × (after ≡ written st x g out)
-piece-step st out x g el es en ef e = (rw (en, es, el), e ∙ rw (en, es, el, ef))
-
--- ---- parts of two lists in a row
-
-take-both : (n : ℕ) (xs ys : List ℕ) → take n (xs ++ ys) ≡ take n xs ++ take (n - length xs) ys
-take-both n [] ys = rw (sub-zero, take-nil)
-take-both zero (x ∷ xs) ys = rw zero-sub
-take-both (suc n) (x ∷ xs) ys = rw suc-sub-suc (ap (λ (q : List ℕ). x ∷ q) (take-both n xs ys))
-
-drop-both : (n : ℕ) (xs ys : List ℕ) → drop n (xs ++ ys) ≡ drop n xs ++ drop (n - length xs) ys
-drop-both n [] ys = rw (sub-zero, drop-nil)
-drop-both zero (x ∷ xs) ys = rw zero-sub
-drop-both (suc n) (x ∷ xs) ys = rw suc-sub-suc (drop-both n xs ys)
+-- ---- parts of lists
 
 pub drop-take : (m n : ℕ) (l : List ℕ) → drop m (take n l) ≡ take (n - m) (drop m l)
 drop-take zero n l = rw sub-zero
@@ -59,20 +42,6 @@ drop-most n k xs e =
       | no h ↦ drop-of-length-le xs {i = n} (omega arith) ∙ sym (drop-of-length-le xs {i = k} (omega arith))
     ]
 
--- what is left of a number once the lesser of it and another is gone
-left-over : (m n k : ℕ) → k ≡ min m n → m - n ≡ m - k
-left-over m n k e = omega arith
-
--- the m elements from s on of two lists in a row: n of the first, from k on, and the rest of the second
-range-both : (xs ys : List ℕ) (s m k n : ℕ) → k ≡ min s (length xs) → n ≡ min m (length xs - k) → take m (drop s (xs ++ ys)) ≡ take n (drop k xs) ++ take (m - n) (drop (s - k) ys)
-range-both xs ys s m k n ek en =
-    let e : n ≡ min m (length (drop k xs)) = rw length-drop en in
-    ap (take m) (drop-both s xs ys ∙ ap₂ _++_ (drop-most s k xs ek) (ap (λ i. drop i ys) (left-over s (length xs) k ek)))
-    ∙ take-both m (drop k xs) (drop (s - k) ys)
-    ∙ ap₂ _++_ (take-most m n (drop k xs) e) (ap (λ i. take i (drop (s - k) ys)) (left-over m (length (drop k xs)) n e))
-
--- ---- the output
-
 -- w goes to the place t, and v behind it: at once, or w first
 two-writes : (out w v : List ℕ) (t n m : ℕ) → length w ≡ n → n ≤ m → t + m ≤ length out
     → take t out ++ ((w ++ v) ++ drop (t + m) out)
@@ -86,100 +55,98 @@ two-writes out w v t n m e h b =
     sym (drop-drop (m - n) (t + n) (front ++ back)) ∙ ap (drop (m - n)) (drop-at front back (t + n) l) ∙ drop-drop (m - n) (t + n) out ∙ ap (λ j. drop j out) i in
     rw (← append-assoc (take t out) w back, take-at front back (t + n) l, rest) (simp append-assoc)
 
--- the output once the rest of the range is copied from the stretches xs
-abbrev pub ahead : List ℕ → List Stretch → Copying → List ℕ → List ℕ
-ahead st xs g out = take (g .at) out ++ (take (g .left) (drop (g .skip) (contents st xs)) ++ drop (g .at + g .left) out)
+-- ---- the bytes of a chain
 
-module _ (st out : List ℕ) (x : Stretch) (g : Copying) (l : length (bytesOf st x) ≡ x .len) where
-  -- what is copied of the stretch x
-  copied-part : take (taken x g) (drop (skipped x g) (bytesOf st x)) ≡ take (taken x g) (drop (positionOf x + skipped x g) st)
-  copied-part =
-      ap (take (taken x g)) (drop-take (skipped x g) (x .len) (drop (positionOf x) st))
-      ∙ take-take (taken x g) (x .len - skipped x g) _ (omega arith) ∙ ap (take (taken x g)) (drop-drop (skipped x g) (positionOf x) st)
+-- the n bytes of a chain from the place c on
+abbrev pub bytesFrom : Tables → List ℕ → Cursor → ℕ → List ℕ
+bytesFrom T st c n = take n (drop (c .into) (contents st (stretchesFrom T (c .link))))
 
-  copied-length : length (take (taken x g) (drop (positionOf x + skipped x g) st)) ≡ taken x g
-  copied-length = sym (ap length copied-part) ∙ length-take-le (taken x g) (drop (skipped x g) (bytesOf st x)) (rw (length-drop, l) (omega arith))
+-- there are n of them, where the chain has as many
+pub bytes-count : (T : Tables) (st : List ℕ) (c : Cursor) (n : ℕ) → SoundTables T → Fit (bufferTotal T) st → Is (linkOk T (c .link)) → c .into + n ≤ total (stretchesFrom T (c .link))
+    → length (bytesFrom T st c n) ≡ n
+bytes-count T st c n sound s t h =
+    length-take-le n _ (simp length-drop (omega (arith, contents-length (bufferTotal T) st (stretchesFrom T (c .link)) s (stretches-in T (c .link) sound t))))
 
-  module _ (room : g .at + g .left ≤ length out) where
-    -- the output keeps its length
-    written-length : length (written st x g out) ≡ length out
-    written-length = let e = copied-length in let f = length-take-le (g .at) out (omega arith) in simp (length-append, length-drop) (omega arith)
+-- the k bytes from i on of stretches of which the first has them all
+first-bytes : (st : List ℕ) (x : Stretch) (xs : List Stretch) (i k : ℕ) → length (bytesOf st x) ≡ x .len → i + k ≤ x .len → take k (drop i (contents st (x ∷ xs))) ≡ take k (drop (positionOf x + i) st)
+unfolding contents
+first-bytes st x xs i k l h =
+    let a = bytesOf st x in
+    ap (take k) (drop-append-le i a (contents st xs) (omega arith)) ∙ take-append-le k (drop i a) (contents st xs) (simp length-drop (omega arith))
+    ∙ ap (take k) (drop-take i (x .len) (drop (positionOf x) st)) ∙ take-take k (x .len - i) _ (omega arith) ∙ ap (take k) (drop-drop i (positionOf x) st)
 
-    -- to copy from the first stretch, and then from the others
-    ahead-past : (xs : List Stretch) → ahead st (x ∷ xs) g out ≡ ahead st xs (past x g) (written st x g out)
-    unfolding contents
-    ahead-past xs =
-        let v = take (g .left - taken x g) (drop (g .skip - skipped x g) (contents st xs)) in
-        ap (λ (q : List ℕ). take (g .at) out ++ (q ++ drop (g .at + g .left) out))
-        (range-both (bytesOf st x) (contents st xs) (g .skip) (g .left) (skipped x g) (taken x g) (omega arith) (omega arith) ∙ ap (λ (q : List ℕ). q ++ v) copied-part)
-        ∙ two-writes out (take (taken x g) (drop (positionOf x + skipped x g) st)) v (g .at) (taken x g) (g .left) copied-length (omega arith) room
+-- ---- a copy under way
 
--- ---- the chain
+-- the n bytes from the place g on go to the place t of the output, which is then `goal`, and the copy is then at `end`
+pub record Going (T : Tables) (st goal : List ℕ) (end g : Cursor) (n t : ℕ) (out : List ℕ) : Type 0 where
+  pub good : Is (linkOk T (g .link))
+  pub inside : InPiece T g
+  pub enough : g .into + n ≤ total (stretchesFrom T (g .link))
+  pub room : t + n ≤ length out
+  pub ends : behind T g n ≡ end
+  pub same : take t out ++ (bytesFrom T st g n ++ drop (t + n) out) ≡ goal
 
--- a copy under way at the link n: the chain has what is still to copy, and then the output is `goal`
-pub record Going (T : Tables) (st goal : List ℕ) (n : ℕ) (g : Copying) (out : List ℕ) : Type 0 where
-  pub good-link : Is (linkOk T n)
-  pub enough : g .skip + g .left ≤ total (stretchesFrom T n)
-  pub room : g .at + g .left ≤ length out
-  pub same : ahead st (stretchesFrom T n) g out ≡ goal
+-- all of them go to the front
+pub going-first : (T : Tables) (st : List ℕ) (c : Cursor) (n : ℕ) (out : List ℕ) → SoundTables T → Fit (bufferTotal T) st → Is (linkOk T (c .link)) → InPiece T c → c .into + n ≤ total (stretchesFrom T (c .link)) → n ≤ length out
+    → Going T st (copied (bytesFrom T st c n) out) (behind T c n) c n 0 out
+going-first T st c n out sound s t i h r =
+    let e : 0 + n ≡ n = omega arith in
+    record { good = t; inside = i; enough = h; room = omega arith; ends = refl; same = rw (bytes-count T st c n sound s t h, e) }
 
--- passing a stretch of at least a byte
-pub past-sum : (x : Stretch) (g : Copying) → past x g .skip + past x g .left ≡ g .skip + g .left - x .len
-past-sum x g = omega arith
-
-past-end : (x : Stretch) (g : Copying) → past x g .at + past x g .left ≡ g .at + g .left
-past-end x g = omega arith
-
-module _ {T : Tables} {st goal : List ℕ} {n : ℕ} {g : Copying} {out : List ℕ} (w : Going T st goal n g out) where
-  -- where none is left, the output is the goal
-  pub going-done : g .left ≤ 0 → out ≡ goal
+module _ {T : Tables} {st goal : List ℕ} {end g : Cursor} {n t : ℕ} {out : List ℕ} (sound : SoundTables T) (w : Going T st goal end g n t out) where
+  -- where none is left, the output is the goal, and the copy is at its end
+  pub going-done : n ≤ 0 → out ≡ goal
   going-done h =
-      let z : g .left ≡ 0 = omega arith in
-      let e : g .at + 0 ≡ g .at = omega arith in
-      sym (take-append-drop (g .at) out) ∙ (rw (z, e) at (w .same))
+      let z : n ≡ 0 = omega arith in
+      let e : t + 0 ≡ t = omega arith in
+      sym (take-append-drop t out) ∙ (rw (z, e) at (w .same))
 
-  module _ (h : 0 < g .left) where
+  pub going-end : n ≤ 0 → g ≡ end
+  going-end h =
+      let z : 0 ≡ n = omega arith in
+      sym (behind-none T g sound (w .good) (w .inside)) ∙ ap (behind T g) z ∙ w .ends
+
+  module _ (h : 0 < n) where
     -- where some are, there is a link
-    pub going-some : n ≡ 0 → ⊥
-    going-some z = omega (arith, w .enough, length-empty (pieceTotal T) n T z)
+    pub going-some : g .link ≡ 0 → ⊥
+    going-some z = omega (arith, w .enough, length-empty (pieceTotal T) (g .link) T z)
 
-    pub going-link : 1 ≤ n
-    going-link = omega (arith, going-some)
+    -- which leads to a piece in use
+    pub going-piece : InUse T (g .link - 1)
+    going-piece = link-leads T (g .link) sound (w .good) going-some
 
-    module _ (sound : SoundTables T) where
-      -- which leads to a piece in use
-      pub going-piece : InUse T (n - 1)
-      going-piece = link-leads T n sound (w .good-link) going-some
+    -- inside which the place lies
+    pub going-before : g .into < piece T (g .link - 1) .len
+    going-before = w .inside going-some
 
-      -- and the copy goes on behind that piece, with less to copy
-      pub going-less : {g′ : Copying} → g′ ≡ past (stretch (piece T (n - 1))) g → g′ .skip + g′ .left < g .skip + g .left
-      going-less e = rw e (omega (arith, past-sum (stretch (piece T (n - 1))) g, going-piece .some-bytes))
+    module _ (fit : Fit (bufferTotal T) st) where
+      -- and which lies in the storage
+      pub going-inside : positionOf (stretch (piece T (g .link - 1))) + piece T (g .link - 1) .len ≤ length st
+      going-inside = omega (arith, going-piece .in-store, going-piece .inside)
 
-      module _ (fit : Fit (bufferTotal T) st) where
-        pub going-inside : positionOf (stretch (piece T (n - 1))) + piece T (n - 1) .len ≤ length st
-        going-inside = omega (arith, going-piece .in-store, going-piece .inside)
-
-        pub going-on : {n′ : ℕ} {g′ : Copying} {out′ : List ℕ} → n′ ≡ piece T (n - 1) .next → g′ ≡ past (stretch (piece T (n - 1))) g → out′ ≡ written st (stretch (piece T (n - 1))) g out
-            → Going T st goal n′ g′ out′
-        unfolding total
-        going-on en eg eo =
-            let x = stretch (piece T (n - 1)) in
-            let u = going-piece in
-            let l = bytes-length (bufferTotal T) st x fit (u .in-store) (u .inside) in
-            let e = stretches-on T n sound (w .good-link) going-some in
-            let enough = rw e at (w .enough) in
-            rw (en, eg, eo) (record {
-              good-link = u .onward;
-              enough = omega (arith, past-sum x g);
-              room = omega (arith, past-end x g, written-length st out x g l (w .room), w .room);
-              same = sym (ahead-past st out x g l (w .room) _) ∙ (rw e at (w .same));
-            })
-
--- the range is copied to the front
-pub going-first : (T : Tables) → SoundTables T → (st : List ℕ) → Fit (bufferTotal T) st → (n off m : ℕ) (out : List ℕ) → Is (linkOk T n) → off + m ≤ total (stretchesFrom T n) → m ≤ length out
-    → Going T st (copied (take m (drop off (contents st (stretchesFrom T n)))) out) n (record { skip = off; left = m; at = 0 }) out
-going-first T sound st fit n off m out t h r =
-    let c = contents-length (bufferTotal T) st (stretchesFrom T n) fit (stretches-in T n sound t) in
-    let e : 0 + m ≡ m = omega arith in
-    let l : length (take m (drop off (contents st (stretchesFrom T n)))) ≡ m = length-take-le m _ (rw length-drop (omega arith)) in
-    record { good-link = t; enough = h; room = omega arith; same = rw (l, e) }
+      -- once k bytes of it are copied, the copy goes on behind them
+      pub going-on : {k f : ℕ} {g′ : Cursor} {out′ : List ℕ} → k ≤ n → length out′ ≡ length out → g .into + k ≤ piece T (g .link - 1) .len → g′ ≡ advanced T g k → f ≡ positionOf (stretch (piece T (g .link - 1)))
+          → out′ ≡ take t out ++ (take k (drop (f + g .into) st) ++ drop (t + k) out) → Going T st goal end g′ (n - k) (t + k) out′
+      going-on {k} {f} {g′} {out′} l keeps i eg ef eo =
+          let x = stretch (piece T (g .link - 1)) in
+          let u = going-piece in
+          let b = subst (Behind T g k) (sym eg) (advanced-behind T g k sound (w .good) going-some i) in
+          let e : k + (n - k) ≡ n = omega arith in
+          let D = drop (g .into) (contents st (stretchesFrom T (g .link))) in
+          let part : take k D ≡ take k (drop (f + g .into) st) =
+          ap (λ (q : List Stretch). take k (drop (g .into) (contents st q))) (stretches-on T (g .link) sound (w .good) going-some)
+          ∙ first-bytes st x _ (g .into) k (bytes-length (bufferTotal T) st x fit (u .in-store) (u .inside)) i
+          ∙ ap (λ j. take k (drop (j + g .into) st)) (sym ef) in
+          let rest : drop k D ≡ drop (g′ .into) (contents st (stretchesFrom T (g′ .link))) = drop-drop k (g .into) _ ∙ b .rest st fit in
+          let w₀ = take k (drop (f + g .into) st) in
+          let all : bytesFrom T st g n ≡ w₀ ++ bytesFrom T st g′ (n - k) = ap (λ j. take j D) (sym e) ∙ take-add k (n - k) D ∙ ap₂ _++_ part (ap (take (n - k)) rest) in
+          let count : length w₀ ≡ k = sym (ap length part) ∙ bytes-count T st g k sound fit (w .good) (omega (arith, w .enough)) in
+          record {
+            good = b .good;
+            inside = b .inside;
+            enough = omega (arith, b .lengths, w .enough);
+            room = omega (arith, w .room);
+            ends = ap (λ (q : Cursor). behind T q (n - k)) eg ∙ behind-advanced T g k sound (w .good) going-some i (n - k) ∙ ap (behind T g) e ∙ w .ends;
+            same = ap (λ (q : List ℕ). take (t + k) q ++ (bytesFrom T st g′ (n - k) ++ drop (t + k + (n - k)) q)) eo
+                ∙ sym (two-writes out w₀ (bytesFrom T st g′ (n - k)) t k n count l (w .room)) ∙ ap (λ (q : List ℕ). take t out ++ (q ++ drop (t + n) out)) (sym all) ∙ w .same;
+          }

@@ -1,5 +1,5 @@
 -- The laws of transfer.
+pub mod Behind
 pub mod Copy
 pub mod Fill
-pub mod Behind
 pub mod Afresh

@@ -1,18 +1,26 @@
 -- Places in a chain, one behind the other.
 use mathlib.Core.Path.{_≡_}
-use mathlib.Core.List.{List}
-use Prim.Native.Nat.{ℕ, _+_}
-use lib.ListN.{length, drop}
-use Rattle.rules.specs.Basics.{Is}
-use Rattle.rules.specs.Layout.{storageLength}
-use Rattle.rules.specs.Tables.{Tables, bufferTotal}
-use Rattle.rules.specs.Chain.{total, contents}
-use Rattle.rules.specs.Sound.{linkOk}
-use Rattle.chain.specs.Length.{stretchesFrom}
+use mathlib.Core.Bool.{true}
+use Prim.Native.Nat.{ℕ, _+_, _-_, _<_}
+use lib.Dec.{ltb}
+use Rattle.rules.specs.Basics.{if_then_else_}
+use Rattle.rules.specs.Tables.{Tables, piece, pieceTotal}
+use Rattle.chain.specs.Find.{spotOf}
 use Rattle.transfer.specs.declared.Cursor.{Cursor}
 
--- the place r lies n bytes behind the place c: what comes after them is the same, whatever the storage holds
-pub record Behind (T : Tables) (c : Cursor) (n : ℕ) (r : Cursor) : Type 0 where
-  pub good : Is (linkOk T (r .link))
-  pub rest : (st : List ℕ) → length st ≡ storageLength (bufferTotal T) → drop (c .into + n) (contents st (stretchesFrom T (c .link))) ≡ drop (r .into) (contents st (stretchesFrom T (r .link)))
-  pub lengths : total (stretchesFrom T (c .link)) + r .into ≡ total (stretchesFrom T (r .link)) + (c .into + n)
+-- the place lies before the end of the piece that its link leads to
+abbrev pub InPiece : Tables → Cursor → Type 0
+InPiece T c = (c .link ≡ 0 → ⊥) → c .into < piece T (c .link - 1) .len
+
+-- the place n bytes behind the place c
+unfoldable pub behind : Tables → Cursor → ℕ → Cursor
+behind T c n =
+    let s = spotOf (pieceTotal T) T true (c .link) (c .into + n) in
+    record { link = s .link; into = s .into }
+
+-- the place k bytes behind the place c, which are of its piece; at its end, the start of the next
+abbrev pub advanced : Tables → Cursor → ℕ → Cursor
+advanced T c k =
+    if ltb (c .into + k) (piece T (c .link - 1) .len)
+    then record { link = c .link; into = c .into + k }
+    else record { link = piece T (c .link - 1) .next; into = 0 }

@@ -1,3 +1,2 @@
 -- What the contracts of transfer cite.
-pub mod Copy
 pub mod Behind

@@ -3,7 +3,7 @@ use kinds::BufferNumber;
 use kinds::PieceNumber;
 use tables::Shape;
 ghost use mathlib.Core.Path.{_≡_};
-ghost use Prim.Native.Nat.{_+_, _<_, _≤_, min};
+ghost use Prim.Native.Nat.{_+_, _-_, _<_, _≤_, min};
 ghost use lib.ListN.{length, take, drop};
 ghost use Rattle.kinds.specs.Limits.{bufferSize};
 ghost use Rattle.rules.specs.Basics.{Is};
@@ -19,23 +19,15 @@ ghost use Rattle.tables.specs.Shape.{Shaped};
 ghost use Rattle.chain.specs.Opened.{Opened};
 ghost use Rattle.chain.specs.Length.{stretchesFrom};
 ghost use Rattle.chain.specs.Free.{lowestFor};
-ghost use Rattle.transfer.specs.Copy.{past, written};
-ghost use Rattle.transfer.specs.Behind.{Behind};
+ghost use Rattle.transfer.specs.Behind.{InPiece, advanced, behind};
 
 // The bytes of a buffer, to count and to index by.
 const SIZE: usize = BufferNumber::SIZE as usize;
 
-// A place in a chain, the link to a piece and the bytes from there on before the place: a cursor.
+// A place in a chain, the link to a piece and the bytes of it before the place: a cursor.
 pub struct Cursor {
     pub link: u16,
     pub into: u32,
-}
-
-// How far a copy is: the bytes still to skip, those still to copy, and where the next one goes.
-pub struct Copying {
-    pub skip: u32,
-    pub left: u32,
-    pub at: usize,
 }
 
 // How many buffers `n` bytes need: a ceiling division.
@@ -57,84 +49,55 @@ pub fn position(pool: &[u8], shape: Shape, d: PieceNumber) -> usize
     start + tables::piece_offset(pool, shape, d) as usize
 }
 
-// Copies what the range has of piece `d` to `output`, and answers how far the copy is then: one step of a gather.
-fn copy_piece(
-    pool: &[u8],
-    shape: Shape,
-    storage: &[u8],
-    d: PieceNumber,
-    g: Copying,
-    output: &mut [u8],
-) -> Copying
-    requires { ⌜ Shaped (now pool) shape × (d .0 < shape .pieces) ⌝ }
-    requires { ⌜ positionOf (stretch (piece (decode (now pool)) (d .0))) + piece (decode (now pool)) (d .0) .len ≤ length (now storage) ⌝ }
-    requires { ⌜ g .at + g .left ≤ length (now output) ⌝ }
-    ensures { λ r. ⌜ r ≡ past (stretch (piece (decode (now (pool .entry))) (d .0))) g ⌝ }
-    ensures { λ _. ⌜ now (output .exit) ≡ written (now (storage .entry)) (stretch (piece (decode (now (pool .entry))) (d .0))) g (now (output .entry)) ⌝ }
+// The place `k` bytes behind the place `c`, at most at the end of its piece, which is the start of the next one: a cursor advanced.
+fn advance(pool: &[u8], shape: Shape, c: Cursor, k: u32) -> Cursor
+    requires { ⌜ Shaped (now pool) shape × (c .link ≤ shape .pieces) × (c .link ≡ 0 → ⊥) ⌝ }
+    requires { ⌜ c .into + k ≤ piece (decode (now pool)) (c .link - 1) .len ⌝ }
+    ensures { λ r. ⌜ r ≡ advanced (decode (now (pool .entry))) c k ⌝ }
 {
-    let length = tables::piece_length(pool, shape, d) as u32;
-    let skip = kinds::lesser(g.skip, length);
-    let n = kinds::lesser(g.left, length - skip);
-    let at = g.at;
-    let from = position(pool, shape, d) + skip as usize;
-    storage::copy_part(output, at, storage, from, n as usize);
-    Copying {
-        skip: g.skip - skip,
-        left: g.left - n,
-        at: at + n as usize,
+    let d = PieceNumber(c.link - 1);
+    let into = c.into + k;
+    if into < tables::piece_length(pool, shape, d) as u32 {
+        return Cursor {
+            link: c.link,
+            into: into,
+        };
+    }
+    Cursor {
+        link: tables::piece_next(pool, shape, d),
+        into: 0,
     }
 }
 
 // Copies the `n` bytes from the place `c` on to the front of `output`, one piece after another, and answers the place behind them: a gather.
-fn gather(pool: &[u8], shape: Shape, storage: &[u8], c: Cursor, n: u32, output: &mut [u8]) -> Cursor
-    requires { ⌜ Opened (now pool) shape × Is (linkOk (decode (now pool)) (c .link)) ⌝ }
-    requires { ⌜ length (now storage) ≡ storageLength (shape .buffers) ⌝ }
-    requires { ⌜ (c .into + n ≤ total (stretchesFrom (decode (now pool)) (c .link))) × (n ≤ length (now output)) ⌝ }
-    ensures { λ _. ⌜ now (output .exit) ≡ copied (take n (drop (c .into) (contents (now (storage .entry)) (stretchesFrom (decode (now (pool .entry))) (c .link))))) (now (output .entry)) ⌝ }
-    ensures { λ r. ⌜ Behind (decode (now (pool .entry))) c n r ⌝ }
-{
-    let mut g = Copying {
-        skip: c.into,
-        left: n,
-        at: 0,
-    };
-    let mut from = c.link;
-    let mut end = Cursor {
-        link: c.link,
-        into: c.into + n,
-    };
-    while 0 < g.left {
-        let d = PieceNumber(from - 1);
-        end = Cursor {
-            link: from,
-            into: g.skip + g.left,
-        };
-        g = copy_piece(pool, shape, storage, d, g, output);
-        from = tables::piece_next(pool, shape, d);
-    }
-    end
-}
-
-// Copies the `n` bytes from `off` on of the chain from `link` to the front of `output`: a gather to a lent slice.
-pub fn copy_out(
+pub fn gather(
     pool: &[u8],
     shape: Shape,
     storage: &[u8],
-    link: u16,
-    off: u32,
+    c: Cursor,
     n: u32,
     output: &mut [u8],
-)
-    requires { ⌜ Opened (now pool) shape × Is (linkOk (decode (now pool)) link) ⌝ }
+) -> Cursor
+    requires { ⌜ Opened (now pool) shape × Is (linkOk (decode (now pool)) (c .link)) × InPiece (decode (now pool)) c ⌝ }
     requires { ⌜ length (now storage) ≡ storageLength (shape .buffers) ⌝ }
-    requires { ⌜ (off + n ≤ total (stretchesFrom (decode (now pool)) link)) × (n ≤ length (now output)) ⌝ }
-    ensures { λ _. ⌜ now (output .exit) ≡ copied (take n (drop off (contents (now (storage .entry)) (stretchesFrom (decode (now (pool .entry))) link)))) (now (output .entry)) ⌝ }
+    requires { ⌜ (c .into + n ≤ total (stretchesFrom (decode (now pool)) (c .link))) × (n ≤ length (now output)) ⌝ }
+    ensures { λ _. ⌜ now (output .exit) ≡ copied (take n (drop (c .into) (contents (now (storage .entry)) (stretchesFrom (decode (now (pool .entry))) (c .link))))) (now (output .entry)) ⌝ }
+    ensures { λ r. ⌜ r ≡ behind (decode (now (pool .entry))) c n ⌝ }
 {
-    let c = Cursor {
-        link: link,
-        into: off,
-    };
-    gather(pool, shape, storage, c, n, output);
+    let mut g = c;
+    let mut left = n;
+    let mut at = 0;
+    while 0 < left {
+        let d = PieceNumber(g.link - 1);
+        let length = tables::piece_length(pool, shape, d) as u32;
+        let k = kinds::lesser(left, length - g.into);
+        let from = position(pool, shape, d) + g.into as usize;
+        storage::copy_part(output, at, storage, from, k as usize);
+        left -= k;
+        at += k as usize;
+        g = advance(pool, shape, g, k);
+    }
+    g
 }
 
 // Where the part of at most a buffer's bytes from `at` on ends, of `length` bytes: a chunk's end.
@@ -166,7 +129,7 @@ pub fn fill_free(pool: &[u8], shape: Shape, storage: &mut [u8], input: &[u8], bu
     }
 }
 
-// Fills buffer `b` with the `n` bytes of a chain from the place `c` on and then zeros, and answers the place behind them: one cluster of a gather.
+// Fills buffer `b` with the `n` bytes of a chain from the place `c` on and then zeros, by way of `part`, and answers the place behind them: one cluster of a gather.
 fn refill_buffer(
     pool: &[u8],
     shape: Shape,
@@ -174,15 +137,15 @@ fn refill_buffer(
     c: Cursor,
     n: u32,
     b: BufferNumber,
+    part: &mut [u8],
 ) -> Cursor
-    requires { ⌜ Opened (now pool) shape × Is (linkOk (decode (now pool)) (c .link)) ⌝ }
+    requires { ⌜ Opened (now pool) shape × Is (linkOk (decode (now pool)) (c .link)) × InPiece (decode (now pool)) c ⌝ }
     requires { ⌜ (length (now storage) ≡ storageLength (shape .buffers)) × (b .0 < shape .buffers) ⌝ }
-    requires { ⌜ (c .into + n ≤ total (stretchesFrom (decode (now pool)) (c .link))) × (n ≤ bufferSize) ⌝ }
+    requires { ⌜ (c .into + n ≤ total (stretchesFrom (decode (now pool)) (c .link))) × (n ≤ bufferSize) × (length (now part) ≡ bufferSize) ⌝ }
     ensures { λ _. ⌜ now (storage .exit) ≡ filled (now (storage .entry)) (b .0) (take n (drop (c .into) (contents (now (storage .entry)) (stretchesFrom (decode (now (pool .entry))) (c .link))))) ⌝ }
-    ensures { λ r. ⌜ Behind (decode (now (pool .entry))) c n r ⌝ }
+    ensures { λ r. ⌜ r ≡ behind (decode (now (pool .entry))) c n ⌝ }
 {
-    let mut part = [0u8; SIZE];
-    let next = gather(pool, shape, storage, c, n, &mut part);
+    let next = gather(pool, shape, storage, c, n, part);
     let m = n as usize;
     storage::fill_buffer(storage, b, &part[..m]);
     next
@@ -202,10 +165,11 @@ pub fn refill(pool: &[u8], shape: Shape, storage: &mut [u8], link: u16, n: u32, 
     };
     let mut left = n;
     let mut from = buffer;
+    let mut part = [0u8; SIZE];
     while 0 < left {
         let b = BufferNumber(chain::next_free_buffer(pool, shape, from));
         let m = kinds::lesser(left, BufferNumber::SIZE as u32);
-        c = refill_buffer(pool, shape, storage, c, m, b);
+        c = refill_buffer(pool, shape, storage, c, m, b, &mut part);
         left = left - m;
         from = b.0 + 1;
     }

@@ -1,15 +1,19 @@
 -- `append::join` meets its contract. Assumes nothing.
-use mathlib.Core.Path.{_≡_, sym, _∙_}
+use mathlib.Core.Path.{_≡_, sym, ap, _∙_}
 use Prim.Native.Nat.{_≤_, _<_}
 use native.Mathlib.Omega.{arith}
 use lib.ListN.{length}
+use lib.Dec.{leb}
 use borrow.Author.Needs.{needs}
 use borrow.Author.Tests.{not-true, not-false, leb-true, leb-false}
-use Rattle.rules.specs.Tables.{Tables, headOf}
+use Rattle.rules.specs.Tables.{Tables, headOf, pieceTotal}
 use Rattle.rules.specs.Bytes.{decode}
-use Rattle.rules.specs.Room.{freePieces}
+use Rattle.rules.specs.Room.{isFree, freePieces}
+use Rattle.rules.specs.Append.{notOwn}
+use Rattle.chain.specs.Free.{lowestFor}
+use Rattle.chain.proofs.Free.{room-lowest, room-enough}
 use Rattle.answer.proofs.Perform.{named-below}
-use Rattle.append.proofs.Ready.{head-ok, last-below, next-ok, next-long, others-part, others-count, first-small, join-hangable, join-after}
+use Rattle.append.proofs.Ready.{IsReady, head-ok, last-below, next-ok, next-long, no-others, others-part, others-count, own-ready, new-ready, first-small, join-hangable, join-after}
 use Rattle.append.proofs.Laws.{append-pieces, append-joined}
 use Rattle.append.proofs.join.Statement.{statement}
 use Rattle.append.proofs.join.Tie as tie
@@ -38,109 +42,176 @@ module _ (r : tie.After-own-run) where
   b-some : headOf (tables r) (start r .args .b .0) ≡ 0 → ⊥
   b-some z = start r .pre .1 .tail-some (start r .pre .1 .tail-is ∙ z)
 
-cast-part-of : tie.Need-cast-part-of
-cast-part-of c = search needs
+-- ---- all pieces of a are own
 
-part-of-requires : tie.Need-part-of-requires
-part-of-requires c κs = let r = c .before in (start r .pre .0, next-ok (start r .pre .0) (start r .pre .1) (r .own-run .ensures))
+set-slip-requires : tie.Need-set-slip-requires
+set-slip-requires c κs = let r = c .before .before in (start r .pre .0 .shaped, b-below r)
 
-cast-lowest-piece : tie.Need-cast-lowest-piece
-cast-lowest-piece c = search needs
+-- b is vacant
+module _ (v : tie.After-set-slip) where
+  abbrev all-own : tie.Then1
+  all-own = v .before .before
 
-lowest-piece-requires : tie.Need-lowest-piece-requires
-lowest-piece-requires c κs = start (c .before .before .before) .pre .0 .shaped
+  abbrev begun : tie.After-own-run
+  begun = all-own .before
 
-cast-has-pieces : tie.Need-cast-has-pieces
-cast-has-pieces c = search needs
+  -- so it is ready, with b's head to hang
+  kept : IsReady (tables begun) (start begun .args .a .0) (start begun .args .b .0) (v .set-slip .last .0) (start begun .args .tail)
+  kept = own-ready (start begun .pre .0) (start begun .pre .1) (begun .own-run .ensures) (all-own .if1 .taken) (v .set-slip .ensures)
 
-has-pieces-requires : tie.Need-has-pieces-requires
-has-pieces-requires c κs =
-    let q = c .before in
-    (start (q .before .before .before .before) .pre .0 .shaped, q .lowest-piece .ensures)
+hang-requires : tie.Need-hang-requires
+hang-requires c κs =
+    let v = c .before .before .before in
+    let r = begun v in
+    let z = start r in
+    let is = r .own-run .ensures in (
+      v .set-slip .ensures .shaped,
+      a-below r,
+      last-below (z .pre .0) (z .pre .1) is,
+      first-small (z .pre .0) (z .pre .1) is (kept v),
+      join-hangable (z .pre .0) (z .pre .1) is (kept v),
+    )
+
+done-requires : tie.Need-done-requires
+done-requires c κs =
+    let g = c .before .before .before in
+    (g .hang .ensures .shaped, a-below (begun (g .before .before .before .before)))
 
 same-length : tie.Need-same-length
 same-length c = search needs
 
 returns : tie.Need-returns
 returns c =
-    let k = c .before .before .before .before .before in
-    let r = k .before .before in
-    let z = start r in
-    let few = leb-false (k .part-of .result .pieces) (length (freePieces (tables r))) (sym (c .before .has-pieces .ensures) ∙ not-true _ (c .if1 .taken)) in
-    let count = others-count (z .pre .0) (z .pre .1) (r .own-run .ensures) (k .part-of .ensures) in (
-      λ st. append-pieces (z .args .pool .now) st (z .args .a .0) (z .args .b .0) (z .pre .1 .a-named) (z .pre .1 .b-named) (z .pre .1 .apart) (a-some r) (b-some r) (omega (arith, few, count)),
-      tt,
-    )
-
--- there are as many free pieces
-abbrev lowest-at : tie.Else1 → tie.After-lowest-piece
-lowest-at e = e .before .before .before
-
-abbrev counted : tie.Else1 → tie.After-part-of
-counted e = lowest-at e .before .before
-
-abbrev from : tie.Else1 → tie.After-own-run
-from e = counted e .before .before
-
-room : (e : tie.Else1) → counted e .part-of .result .pieces ≤ length (freePieces (tables (from e)))
-room e = leb-true (counted e .part-of .result .pieces) (length (freePieces (tables (from e)))) (sym (e .before .has-pieces .ensures) ∙ not-false _ (e .if1 .left))
-
-copy-pieces-requires : tie.Need-copy-pieces-requires
-copy-pieces-requires c κs =
-    let e = c .before in
-    let r = from e in
-    let z = start r in
-    let is = r .own-run .ensures in (
-      (z .pre .0, next-ok (z .pre .0) (z .pre .1) is),
-      ((others-part (z .pre .0) (z .pre .1) is (counted e .part-of .ensures), room e), (next-long (z .pre .0) (z .pre .1) is, lowest-at e .lowest-piece .ensures)),
-    )
-
-set-slip-requires : tie.Need-set-slip-requires
-set-slip-requires c κs =
-    let w = c .before .before .before in
-    (w .copy-pieces .ensures .0 .shaped, b-below (from (w .before .before)))
-
-hang-requires : tie.Need-hang-requires
-hang-requires c κs =
-    let v = c .before .before .before in
-    let w = v .before .before .before .before in
-    let r = from (w .before .before) in
+    let k = c .before .before in
+    let g = k .before .before in
+    let v = g .before .before .before .before in
+    let r = begun v in
     let z = start r in
     let is = r .own-run .ensures in
-    let new = w .copy-pieces .ensures in
-    let now = v .set-slip .ensures in (
-      now .shaped,
-      a-below r,
-      last-below (z .pre .0) (z .pre .1) is,
-      first-small (z .pre .0) (z .pre .1) is (new .0) (new .1) now,
-      join-hangable (z .pre .0) (z .pre .1) is (new .0) (new .1) now,
+    let none = ap length (no-others (z .pre .0) (z .pre .1) is (all-own v .if1 .taken)) in (
+      λ st. append-joined (z .args .pool .now) st (z .args .a .0) (z .args .b .0) (z .pre .1 .a-named) (z .pre .1 .b-named) (z .pre .1 .apart) (a-some r) (b-some r)
+          (omega (arith, none)) (c .done .ensures) (λ i. omega (arith, k .slice-known3 .given i)) (join-after (z .pre .0) (z .pre .1) is (kept v) st (g .hang .ensures)),
+      rw (c .done .ensures),
     )
 
-done-requires : tie.Need-done-requires
-done-requires c κs =
-    let g = c .before .before .before in
-    let w = g .before .before .before .before .before .before .before .before in
-    (g .hang .ensures .shaped, a-below (from (w .before .before)))
+-- ---- some are not
+
+cast-part-of : tie.Need-cast-part-of
+cast-part-of c = search needs
+
+part-of-requires : tie.Need-part-of-requires
+part-of-requires c κs = let r = c .before .before in (start r .pre .0, next-ok (start r .pre .0) (start r .pre .1) (r .own-run .ensures))
+
+cast-piece-room : tie.Need-cast-piece-room
+cast-piece-room c = search needs
+
+piece-room-requires : tie.Need-piece-room-requires
+piece-room-requires c κs = start (c .before .before .before .before) .pre .0 .shaped
+
+-- the lowest free piece for them, and whether there are as many
+module _ (q : tie.After-piece-room) where
+  abbrev counted : tie.After-part-of
+  counted = q .before .before
+
+  abbrev from : tie.After-own-run
+  from = counted .before .before .before
+
+  low : q .piece-room .result .lowest ≡ lowestFor (isFree (tables from)) (counted .part-of .result .pieces) (pieceTotal (tables from))
+  low = room-lowest (isFree (tables from)) (counted .part-of .result .pieces) (pieceTotal (tables from)) (q .piece-room .ensures)
+
+  enough : q .piece-room .result .enough ≡ leb (counted .part-of .result .pieces) (length (freePieces (tables from)))
+  enough = room-enough (isFree (tables from)) (counted .part-of .result .pieces) (pieceTotal (tables from)) (q .piece-room .ensures)
+
+  count : counted .part-of .result .pieces ≡ length (notOwn (tables from) (start from .args .a .0))
+  count = others-count (start from .pre .0) (start from .pre .1) (from .own-run .ensures) (counted .part-of .ensures)
 
 same-length-2 : tie.Need-same-length-2
 same-length-2 c = search needs
 
 returns-2 : tie.Need-returns-2
 returns-2 c =
+    let q = c .before .before in
+    let r = from q in
+    let z = start r in
+    let few = leb-false (counted q .part-of .result .pieces) (length (freePieces (tables r))) (sym (enough q) ∙ not-true _ (c .if2 .taken)) in (
+      λ st. append-pieces (z .args .pool .now) st (z .args .a .0) (z .args .b .0) (z .pre .1 .a-named) (z .pre .1 .b-named) (z .pre .1 .apart) (a-some r) (b-some r) (omega (arith, few, count q)),
+      tt,
+    )
+
+-- there are as many free pieces
+module _ (e : tie.Else2) where
+  abbrev asked : tie.After-piece-room
+  asked = e .before .before
+
+  room : counted asked .part-of .result .pieces ≤ length (freePieces (tables (from asked)))
+  room = leb-true (counted asked .part-of .result .pieces) (length (freePieces (tables (from asked)))) (sym (enough asked) ∙ not-false _ (e .if2 .left))
+
+copy-pieces-requires : tie.Need-copy-pieces-requires
+copy-pieces-requires c κs =
+    let e = c .before in
+    let q = asked e in
+    let r = from q in
+    let z = start r in
+    let is = r .own-run .ensures in (
+      (z .pre .0, next-ok (z .pre .0) (z .pre .1) is),
+      ((others-part (z .pre .0) (z .pre .1) is (counted q .part-of .ensures), room e), (next-long (z .pre .0) (z .pre .1) is, low q)),
+    )
+
+set-slip-requires-2 : tie.Need-set-slip-requires-2
+set-slip-requires-2 c κs =
+    let w = c .before .before .before in
+    (w .copy-pieces .ensures .0 .shaped, b-below (from (asked (w .before .before))))
+
+-- b is vacant
+module _ (v : tie.After-set-slip2) where
+  abbrev copied : tie.After-copy-pieces
+  copied = v .before .before .before .before
+
+  abbrev roomed : tie.Else2
+  roomed = copied .before .before
+
+  abbrev first-read : tie.After-own-run
+  first-read = from (asked roomed)
+
+  -- so it is ready, with the first new piece to hang
+  built-now : IsReady (tables first-read) (start first-read .args .a .0) (start first-read .args .b .0) (v .set-slip2 .last .0) (copied .copy-pieces .result)
+  built-now =
+      new-ready (start first-read .pre .0) (start first-read .pre .1) (first-read .own-run .ensures) (copied .copy-pieces .ensures .0) (copied .copy-pieces .ensures .1) (v .set-slip2 .ensures)
+
+hang-requires-2 : tie.Need-hang-requires-2
+hang-requires-2 c κs =
+    let v = c .before .before .before in
+    let r = first-read v in
+    let z = start r in
+    let is = r .own-run .ensures in (
+      v .set-slip2 .ensures .shaped,
+      a-below r,
+      last-below (z .pre .0) (z .pre .1) is,
+      first-small (z .pre .0) (z .pre .1) is (built-now v),
+      join-hangable (z .pre .0) (z .pre .1) is (built-now v),
+    )
+
+done-requires-2 : tie.Need-done-requires-2
+done-requires-2 c κs =
+    let g = c .before .before .before in
+    (g .hang2 .ensures .shaped, a-below (first-read (g .before .before .before .before)))
+
+same-length-3 : tie.Need-same-length-3
+same-length-3 c = search needs
+
+returns-3 : tie.Need-returns-3
+returns-3 c =
     let k = c .before .before in
     let g = k .before .before in
     let v = g .before .before .before .before in
-    let w = v .before .before .before .before in
-    let e = w .before .before in
-    let r = from e in
+    let e = roomed v in
+    let r = first-read v in
     let z = start r in
-    let is = r .own-run .ensures in
-    let new = w .copy-pieces .ensures in
-    let count = others-count (z .pre .0) (z .pre .1) is (counted e .part-of .ensures) in (
+    let is = r .own-run .ensures in (
       λ st. append-joined (z .args .pool .now) st (z .args .a .0) (z .args .b .0) (z .pre .1 .a-named) (z .pre .1 .b-named) (z .pre .1 .apart) (a-some r) (b-some r)
-          (omega (arith, count, room e)) (c .done .ensures) (λ i. omega (arith, k .slice-known4 .given i))
-          (join-after (z .pre .0) (z .pre .1) is (new .0) (new .1) (v .set-slip .ensures) st (g .hang .ensures)),
-      rw (c .done .ensures),
+          (omega (arith, count (asked e), room e)) (c .done2 .ensures) (λ i. omega (arith, k .slice-known6 .given i))
+          (join-after (z .pre .0) (z .pre .1) is (built-now v) st (g .hang2 .ensures)),
+      rw (c .done2 .ensures),
     )
 
 pub join-spec : {M : Type 1} → statement M
@@ -148,17 +219,20 @@ join-spec =
     tie.close
     (tie.spec
     own-run-requires
-    cast-part-of
-    part-of-requires
-    cast-lowest-piece
-    lowest-piece-requires
-    cast-has-pieces
-    has-pieces-requires
-    same-length
-    returns
-    copy-pieces-requires
     set-slip-requires
     hang-requires
     done-requires
+    same-length
+    returns
+    cast-part-of
+    part-of-requires
+    cast-piece-room
+    piece-room-requires
     same-length-2
-    returns-2)
+    returns-2
+    copy-pieces-requires
+    set-slip-requires-2
+    hang-requires-2
+    done-requires-2
+    same-length-3
+    returns-3)

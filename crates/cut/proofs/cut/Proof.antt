@@ -4,23 +4,25 @@ use mathlib.Core.List.{List}
 use Prim.Native.Nat.{ℕ, _+_, _≤_, _<_}
 use native.Mathlib.Omega.{arith}
 use lib.ListN.{length}
+use lib.Dec.{leb}
 use borrow.Author.Needs.{needs}
 use borrow.Author.Tests.{not-true, not-false, leb-true, leb-false}
 use Rattle.rules.specs.Basics.{Is}
-use Rattle.rules.specs.Tables.{Tables, headOf, slipTotal}
+use Rattle.rules.specs.Tables.{Tables, headOf, slipTotal, pieceTotal}
 use Rattle.rules.specs.Bytes.{decode}
 use Rattle.rules.specs.Chain.{Stretch, spans, lengthOf, cutOut}
 use Rattle.rules.specs.Sound.{linkOk}
-use Rattle.rules.specs.Room.{isVacant, vacantSlips, freePieces, newSlip}
+use Rattle.rules.specs.Room.{isVacant, isFree, vacantSlips, freePieces, newSlip}
 use Rattle.rules.specs.Build.{plain}
 use Rattle.rules.specs.Rule.{unnamed}
 use Rattle.tables.proofs.Laws.{whole, total-slips, total-pieces}
 use Rattle.chain.specs.Length.{stretchesFrom}
-use Rattle.chain.proofs.Free.{first-lies, new-slip, no-slip}
+use Rattle.chain.proofs.Free.{first-lies, new-slip, no-slip, room-lowest, room-enough}
 use Rattle.chain.proofs.Spots.{Found}
+use Rattle.chain.proofs.Parts.{range-short, range-there}
 use Rattle.answer.proofs.Perform.{is-unnamed, is-named, named-below}
 use Rattle.answer.proofs.New.{under-made, new-link}
-use Rattle.cut.proofs.Laws.{place-found, range-short, range-there, range-pieces, cut-slip, cut-range, cut-slips, cut-pieces, cut-done}
+use Rattle.cut.proofs.Laws.{place-found, range-pieces, cut-slip, cut-range, cut-slips, cut-pieces, cut-done}
 use Rattle.cut.proofs.cut.Statement.{statement}
 use Rattle.cut.proofs.cut.Tie as tie
 
@@ -148,41 +150,37 @@ overlaps k =
     let T = tables (from f) in
     range-pieces T (headOf T (a .s .0)) (a .off) (a .n) (place f) (e2 .before .before .part-of .ensures) (k .overlapped .ensures)
 
-cast-lowest-piece : tie.Need-cast-lowest-piece
-cast-lowest-piece c = search needs
+cast-piece-room : tie.Need-cast-piece-room
+cast-piece-room c = search needs
 
-lowest-piece-requires : tie.Need-lowest-piece-requires
-lowest-piece-requires c κs = search needs
+piece-room-requires : tie.Need-piece-room-requires
+piece-room-requires c κs = search needs
 
-cast-has-pieces : tie.Need-cast-has-pieces
-cast-has-pieces c = search needs
-
-has-pieces-requires : tie.Need-has-pieces-requires
-has-pieces-requires c κs =
-    let q = c .before in
-    (start (entered (q .before .before .before)) .pre .shaped, q .lowest-piece .ensures)
+-- whether there are as many free pieces
+enough : (q : tie.After-piece-room) → let k = q .before .before in q .piece-room .result .enough ≡ leb (k .overlapped .result) (length (freePieces (tables (entered (k .before)))))
+enough q =
+    let k = q .before .before in
+    let T = tables (entered (k .before)) in
+    room-enough (isFree T) (k .overlapped .result) (pieceTotal T) (q .piece-room .ensures)
 
 same-length-4 : tie.Need-same-length-4
 same-length-4 c = search needs
 
 returns-4 : tie.Need-returns-4
 returns-4 c =
-    let k = c .before .before .before .before .before in
+    let k = c .before .before .before .before in
     let e3 = k .before in
     let e = entered e3 in
     let a = start e .args in
-    let few = leb-false (k .overlapped .result) (length (freePieces (tables e))) (sym (c .before .has-pieces .ensures) ∙ not-true _ (c .if4 .taken)) in
+    let few = leb-false (k .overlapped .result) (length (freePieces (tables e))) (sym (enough (c .before .before)) ∙ not-true _ (c .if4 .taken)) in
     (λ st. cut-pieces (a .pool .now) st (a .s .0) (a .off) (a .n) (named-here e) (in-range (ranged e3)) (new e3 .2) (omega (arith, overlaps k)), tt)
 
 -- there are as many free pieces
-abbrev lowest-at : tie.Else4 → tie.After-lowest-piece
-lowest-at c = c .before .before .before
-
 abbrev counted : tie.Else4 → tie.After-overlapped
-counted c = lowest-at c .before .before
+counted c = c .before .before .before .before
 
 room : (c : tie.Else4) → counted c .overlapped .result ≤ length (freePieces (tables (entered (counted c .before))))
-room c = leb-true (counted c .overlapped .result) (length (freePieces (tables (entered (counted c .before))))) (sym (c .before .has-pieces .ensures) ∙ not-false _ (c .if4 .left))
+room c = leb-true (counted c .overlapped .result) (length (freePieces (tables (entered (counted c .before))))) (sym (enough (c .before .before)) ∙ not-false _ (c .if4 .left))
 
 -- the stretches of the range, from the place found
 abbrev copied : tie.After-find → List Stretch
@@ -194,7 +192,9 @@ copy-pieces-requires c κs =
     let k = counted e4 in
     let f = found-at (ranged (k .before)) in
     let z = start (from f) in
-    ((z .pre, place f .good), ((overlaps k ∙ ap length (place f .cut (z .args .n)), room e4), (place f .inside, lowest-at e4 .lowest-piece .ensures)))
+    let T = tables (from f) in
+    let low = room-lowest (isFree T) (k .overlapped .result) (pieceTotal T) (e4 .before .before .piece-room .ensures) in
+    ((z .pre, place f .good), ((overlaps k ∙ ap length (place f .cut (z .args .n)), room e4), (place f .inside, low)))
 
 under-new-requires : tie.Need-under-new-requires
 under-new-requires c κs =
@@ -247,10 +247,8 @@ cut-spec =
     same-length-3
     returns-3
     overlapped-requires
-    cast-lowest-piece
-    lowest-piece-requires
-    cast-has-pieces
-    has-pieces-requires
+    cast-piece-room
+    piece-room-requires
     same-length-4
     returns-4
     copy-pieces-requires

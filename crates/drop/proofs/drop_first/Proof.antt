@@ -24,7 +24,7 @@ use Rattle.tables.specs.Shape.{Holds}
 use Rattle.tables.proofs.Laws.{whole, total-slips}
 use Rattle.chain.specs.Find.{pastEnd}
 use Rattle.chain.specs.Rest.{restFrom}
-use Rattle.chain.proofs.Free.{lowest-all}
+use Rattle.chain.proofs.Free.{lowest-all, room-lowest, room-enough}
 use Rattle.chain.proofs.Spots.{Found, dropped-at, found-at, past-range}
 use Rattle.release.proofs.Under.{under-asks, under-small, under-done}
 use Rattle.answer.proofs.Perform.{is-unnamed, is-named, named-below}
@@ -149,11 +149,8 @@ wanted-requires c κs = search needs
 cast-wanted : tie.Need-cast-wanted
 cast-wanted c = search needs
 
-lowest-piece-requires : tie.Need-lowest-piece-requires
-lowest-piece-requires c κs = search needs
-
-has-pieces-requires : tie.Need-has-pieces-requires
-has-pieces-requires c κs = search needs
+piece-room-requires : tie.Need-piece-room-requires
+piece-room-requires c κs = search needs
 
 module _ (w : tie.After-wanted) where
   abbrev found-there : tie.After-find
@@ -168,32 +165,35 @@ same-length-4 c = search needs
 
 returns-4 : tie.Need-returns-4
 returns-4 c =
-    let k = c .before in
-    let w = k .before .before .before .before in
+    let k = c .before .before in
+    let w = k .before .before in
     let f = found-there w in
     let e = from f in
     let z = start e in
     let r = w .before .before in
-    let few = leb-false _ (length (free e)) (sym (k .has-pieces .ensures) ∙ not-true _ (c .if4 .taken)) in
+    let few = leb-false _ (length (free e)) (sym (room-enough (isFree (tables e)) (w .wanted .result) (pieceTotal (tables e)) (k .piece-room .ensures)) ∙ not-true _ (c .if4 .taken)) in
     (λ st. drop-pieces (z .args .pool .now) st (slip e) (z .args .n) (named-here e) (in-range r) (omega (arith, few, wants w)), tt)
 
 -- ---- there is room
 
 module _ (c : tie.Else4) where
   abbrev asked : tie.After-wanted
-  asked = c .before .before .before .before .before
+  asked = c .before .before .before .before
 
   abbrev origin : tie.Else1
   origin = from (found-there asked)
 
   -- the free pieces from the lowest wanted on are all
-  all-free : let f = c .before .before .before .lowest-piece .result in places (isFree (tables origin)) f (pieceTotal (tables origin) - f) ≡ free origin
-  all-free = lowest-all (isFree (tables origin)) (asked .wanted .result) (pieceTotal (tables origin)) (c .before .before .before .lowest-piece .ensures)
+  all-free : let f = c .before .before .piece-room .result .lowest in places (isFree (tables origin)) f (pieceTotal (tables origin) - f) ≡ free origin
+  all-free =
+      let T = tables origin in
+      lowest-all (isFree T) (asked .wanted .result) (pieceTotal T) (room-lowest (isFree T) (asked .wanted .result) (pieceTotal T) (c .before .before .piece-room .ensures))
 
   -- for the pieces wanted
   enough : length (rest origin .more) ≤ length (free origin)
   enough =
-      let most = leb-true _ (length (free origin)) (sym (c .before .has-pieces .ensures) ∙ not-false _ (c .if4 .left)) in
+      let T = tables origin in
+      let most = leb-true _ (length (free origin)) (sym (room-enough (isFree T) (asked .wanted .result) (pieceTotal T) (c .before .before .piece-room .ensures)) ∙ not-false _ (c .if4 .left)) in
       omega (arith, most, wants asked)
 
 settle-requires : tie.Need-settle-requires
@@ -267,8 +267,7 @@ drop-first-spec =
     returns-3
     wanted-requires
     cast-wanted
-    lowest-piece-requires
-    has-pieces-requires
+    piece-room-requires
     same-length-4
     returns-4
     settle-requires

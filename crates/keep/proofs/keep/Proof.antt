@@ -1,22 +1,24 @@
 -- `keep::keep` meets its contract. Assumes nothing.
 use mathlib.Core.Path.{_≡_, sym, ap, subst, _∙_}
-use Prim.Native.Nat.{ℕ, _-_, _≤_, _<_}
+use Prim.Native.Nat.{ℕ, _≤_, _<_}
 use native.Mathlib.Omega.{arith}
 use lib.ListN.{length}
-use lib.Dec.{ltb, ltb→lt}
+use lib.Dec.{leb, ltb, ltb→lt}
 use borrow.Author.Needs.{needs}
 use borrow.Author.Tests.{not-true, not-false, leb-true, leb-false}
 use Rattle.rules.specs.Basics.{Is}
-use Rattle.rules.specs.Tables.{Tables, slipTotal}
+use Rattle.rules.specs.Tables.{Tables, slipTotal, pieceTotal}
 use Rattle.rules.specs.Bytes.{decode}
 use Rattle.rules.specs.Chain.{lengthOf}
 use Rattle.rules.specs.Sound.{linkOk}
-use Rattle.rules.specs.Room.{freePieces}
+use Rattle.rules.specs.Room.{isFree, freePieces}
 use Rattle.rules.specs.Keep.{keptNotOwn}
 use Rattle.rules.specs.Rule.{unnamed}
 use Rattle.rules.proofs.Logic.{not-less}
 use Rattle.tables.proofs.Laws.{whole, total-slips}
 use Rattle.chain.specs.Own.{ownPart}
+use Rattle.chain.specs.Free.{lowestFor}
+use Rattle.chain.proofs.Free.{room-lowest, room-enough}
 use Rattle.chain.proofs.Spots.{past-range, at-end, before-end}
 use Rattle.answer.proofs.Perform.{is-unnamed, is-named, named-below}
 use Rattle.keep.proofs.Laws.{Seen, last-below, next-ok, no-others, last-long, short-hangable, short-after, others-count, others-cut, next-long, new-small, new-hangable, new-after, keep-slip, keep-range, keep-whole, keep-pieces, keep-done}
@@ -208,17 +210,11 @@ cast-part-of c = search needs
 part-of-requires : tie.Need-part-of-requires
 part-of-requires c κs = let w = seen (passed (c .before .before)) in (w .opened, next-ok w)
 
-cast-lowest-piece : tie.Need-cast-lowest-piece
-cast-lowest-piece c = search needs
+cast-piece-room : tie.Need-cast-piece-room
+cast-piece-room c = search needs
 
-lowest-piece-requires : tie.Need-lowest-piece-requires
-lowest-piece-requires c κs = start (at (here (passed (c .before .before .before .before)))) .pre .shaped
-
-cast-has-pieces : tie.Need-cast-has-pieces
-cast-has-pieces c = search needs
-
-has-pieces-requires : tie.Need-has-pieces-requires
-has-pieces-requires c κs = let q = c .before in (start (at (here (passed (q .before .before .before .before .before)))) .pre .shaped, q .lowest-piece .ensures)
+piece-room-requires : tie.Need-piece-room-requires
+piece-room-requires c κs = start (at (here (passed (c .before .before .before .before)))) .pre .shaped
 
 same-length-5 : tie.Need-same-length-5
 same-length-5 c = search needs
@@ -231,36 +227,44 @@ module _ (c : tie.After-part-of) where
   count : let z = start (at (here (passed other))) in length (keptNotOwn (decode (z .args .pool .now)) (z .args .s .0) (z .args .n)) ≡ c .part-of .result .pieces
   count = sym (others-count (seen (passed other)) (c .part-of .ensures))
 
+-- the lowest free piece for them, and whether there are as many
+module _ (c : tie.After-piece-room) where
+  abbrev counted : tie.After-part-of
+  counted = c .before .before
+
+  abbrev there : Tables
+  there = tables (at (here (passed (other counted))))
+
+  low : c .piece-room .result .lowest ≡ lowestFor (isFree there) (counted .part-of .result .pieces) (pieceTotal there)
+  low = room-lowest (isFree there) (counted .part-of .result .pieces) (pieceTotal there) (c .piece-room .ensures)
+
+  enough : c .piece-room .result .enough ≡ leb (counted .part-of .result .pieces) (length (freePieces there))
+  enough = room-enough (isFree there) (counted .part-of .result .pieces) (pieceTotal there) (c .piece-room .ensures)
+
 returns-5 : tie.Need-returns-5
 returns-5 c =
-    let q = c .before in
-    let g = q .before .before .before .before in
+    let g = counted (c .before .before) in
     let f = passed (other g) in
     let e = at (here f) in
     let z = start e in
-    let few = leb-false (g .part-of .result .pieces) (length (freePieces (tables e))) (sym (q .has-pieces .ensures) ∙ not-true _ (c .if5 .taken)) in
+    let few = leb-false (g .part-of .result .pieces) (length (freePieces (tables e))) (sym (enough (c .before .before)) ∙ not-true _ (c .if5 .taken)) in
     (λ st. keep-pieces (z .args .pool .now) st (z .args .s .0) (z .args .n) (named-here e) (has (ranged (here f))) (part-only (here f)) (omega (arith, few, count g)), tt)
 
 -- there is room for them
-module _ (c : tie.Else5) where
-  abbrev counted : tie.After-part-of
-  counted = c .before .before .before .before .before
-
-  room : counted .part-of .result .pieces ≤ length (freePieces (tables (at (here (passed (other counted))))))
-  room = leb-true (counted .part-of .result .pieces) (length (freePieces (tables (at (here (passed (other counted))))))) (sym (c .before .has-pieces .ensures) ∙ not-false _ (c .if5 .left))
+room : (c : tie.Else5) → counted (c .before .before) .part-of .result .pieces ≤ length (freePieces (there (c .before .before)))
+room c = leb-true (counted (c .before .before) .part-of .result .pieces) (length (freePieces (there (c .before .before)))) (sym (enough (c .before .before)) ∙ not-false _ (c .if5 .left))
 
 copy-pieces-requires : tie.Need-copy-pieces-requires
 copy-pieces-requires c κs =
-    let g = counted (c .before) in
+    let q = c .before .before .before in
+    let g = counted q in
     let w = seen (passed (other g)) in
-    ((w .opened, next-ok w), ((others-cut w (g .part-of .ensures), room (c .before)), (next-long w, c .before .before .before .before .lowest-piece .ensures)))
+    ((w .opened, next-ok w), ((others-cut w (g .part-of .ensures), room (c .before)), (next-long w, low q)))
 
 hang-requires-2 : tie.Need-hang-requires-2
 hang-requires-2 c κs =
     let d = c .before .before .before in
-    let e5 = d .before .before in
-    let e4 = other (counted e5) in
-    let f = passed e4 in
+    let f = passed (other (counted (d .before .before .before .before))) in
     let w = seen f in
     let k = d .copy-pieces .ensures in (
       k .0 .shaped,
@@ -273,8 +277,8 @@ hang-requires-2 c κs =
 done-requires-3 : tie.Need-done-requires-3
 done-requires-3 c κs =
     let g = c .before .before .before in
-    let e5 = g .before .before .before .before .before .before in
-    (g .hang2 .ensures .shaped, below (at (here (passed (other (counted e5))))))
+    let q = g .before .before .before .before .before .before .before .before in
+    (g .hang2 .ensures .shaped, below (at (here (passed (other (counted q))))))
 
 same-length-6 : tie.Need-same-length-6
 same-length-6 c = search needs
@@ -285,13 +289,13 @@ returns-6 c =
     let g = b .before .before in
     let d = g .before .before .before .before in
     let e5 = d .before .before in
-    let e4 = other (counted e5) in
+    let e4 = other (counted (e5 .before .before)) in
     let f = passed e4 in
     let w = seen f in
     let e = at (here f) in
     let z = start e in
     let k = d .copy-pieces .ensures in (
-      λ st. keep-done (z .args .pool .now) st (z .args .s .0) (z .args .n) (named-here e) (has (ranged (here f))) (part-only (here f)) (omega (arith, count (counted e5), room e5)) (c .done3 .ensures)
+      λ st. keep-done (z .args .pool .now) st (z .args .s .0) (z .args .n) (named-here e) (has (ranged (here f))) (part-only (here f)) (omega (arith, count (counted (e5 .before .before)), room e5)) (c .done3 .ensures)
           (λ i. omega (arith, b .slice-known5 .given i)) (new-after w (k .0) (k .1) (fewer e4) st (g .hang2 .ensures)),
       rw (c .done3 .ensures),
     )
@@ -320,10 +324,8 @@ keep-spec =
     sub-left
     cast-part-of
     part-of-requires
-    cast-lowest-piece
-    lowest-piece-requires
-    cast-has-pieces
-    has-pieces-requires
+    cast-piece-room
+    piece-room-requires
     same-length-5
     returns-5
     copy-pieces-requires

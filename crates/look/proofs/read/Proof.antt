@@ -1,16 +1,22 @@
--- `look::read` meets its contract. Assumes nothing.
-use mathlib.Core.Path.{sym, subst}
-use Prim.Native.Nat.{ℕ, _+_, _≤_}
+-- `look::read` meets its contract: the range is there where the chain from the place found has it, and its bytes are those from there on. Assumes nothing.
+use mathlib.Core.Path.{sym, ap, subst, _∙_}
+use mathlib.Core.List.{List}
+use Prim.Native.Nat.{ℕ, _+_, _≤_, _<_}
 use native.Mathlib.Omega.{arith}
+use lib.ListN.{take}
 use borrow.Author.Needs.{needs}
 use borrow.Author.Tests.{not-true, not-false}
 use Rattle.rules.specs.Basics.{Is}
+use Rattle.rules.specs.Layout.{storageLength}
+use Rattle.rules.specs.Tables.{Tables, headOf, slipTotal}
 use Rattle.rules.specs.Bytes.{decode}
-use Rattle.rules.specs.Chain.{total, lengthOf}
+use Rattle.rules.specs.Chain.{lengthOf}
 use Rattle.rules.specs.Rule.{unnamed}
+use Rattle.rules.specs.Read.{copied}
 use Rattle.rules.specs.Sound.{linkOk}
-use Rattle.tables.proofs.Laws.{whole, total-slips, fits-decode}
-use Rattle.chain.specs.Length.{stretchesFrom}
+use Rattle.tables.proofs.Laws.{whole, total-slips, total-buffers, fits-decode}
+use Rattle.chain.proofs.Spots.{Found, found-at, found-bytes}
+use Rattle.chain.proofs.Parts.{range-short, range-there, first-there}
 use Rattle.answer.proofs.Perform.{is-unnamed, is-named, named-below}
 use Rattle.look.proofs.Perform.{read-slip, read-range, read-narrow, read-done}
 use Rattle.look.proofs.read.Statement.{statement}
@@ -25,80 +31,112 @@ returns c =
     let p = a .pool .now in
     (read-slip p (a .storage .now) (a .output .now) (a .s .0) (a .off) (a .n) (is-unnamed (decode p) (a .s .0) (c .before .held .ensures) (not-true _ (c .if1 .taken))), tt)
 
--- the slip is named
-named-here : (c : tie.Else1) → Is (unnamed (decode (c .before .before .before .before .before .args .pool .now)) (c .before .before .before .before .before .args .s .0)) → ⊥
-named-here c = let a = c .before .before .before .before .before .args in is-named (decode (a .pool .now)) (a .s .0) (c .before .held .ensures) (not-false _ (c .if1 .left))
+-- where the call started, and the tables there
+abbrev start : tie.Else1 → tie.Start
+start e = e .before .before .before .before .before
 
-chain-length-requires : tie.Need-chain-length-requires
-chain-length-requires c κs =
-    let z = c .before .before .before .before .before in
-    (z .pre .0, named-below (z .pre .0 .shaped) (z .args .s .0) (named-here c))
+abbrev tables : tie.Else1 → Tables
+tables e = decode (start e .args .pool .now)
 
-cast-length : tie.Need-cast-length
-cast-length c = search needs
+module _ (e : tie.Else1) where
+  -- the slip is named
+  named-here : Is (unnamed (tables e) (start e .args .s .0)) → ⊥
+  named-here = is-named (tables e) (start e .args .s .0) (e .before .held .ensures) (not-false _ (e .if1 .left))
 
-add-end : tie.Need-add-end
-add-end c = search needs
+  -- so it is one of the pool's, and its head a good link
+  below : start e .args .s .0 < slipTotal (tables e)
+  below = let z = start e in omega (arith, named-below (z .pre .0 .shaped) (z .args .s .0) named-here, total-slips (whole (z .pre .0 .shaped)))
+
+  good : Is (linkOk (tables e) (headOf (tables e) (start e .args .s .0)))
+  good = start e .pre .0 .sound .slips-ok (start e .args .s .0) below
+
+head-link-requires : tie.Need-head-link-requires
+head-link-requires c κs = let z = start c in (z .pre .0 .shaped, named-below (z .pre .0 .shaped) (z .args .s .0) (named-here c))
+
+find-requires : tie.Need-find-requires
+find-requires c κs =
+    let e = c .before in
+    (start e .pre .0, subst (λ (n : ℕ). Is (linkOk (tables e) n)) (sym (c .head-link .ensures)) (good e))
+
+-- the place where the range starts
+abbrev from : tie.After-find → tie.Else1
+from f = f .before .before
+
+place : (f : tie.After-find) → let z = start (from f) in Found (tables (from f)) (headOf (tables (from f)) (z .args .s .0)) (z .args .off) (f .find .result)
+place f =
+    let e = from f in
+    let z = start e in
+    found-at (tables e) (z .args .s .0) (z .args .off) (f .before .head-link .ensures) (f .find .ensures) (z .pre .0 .sound) (below e)
+
+cast-part-of : tie.Need-cast-part-of
+cast-part-of c = search needs
+
+add-part-of : tie.Need-add-part-of
+add-part-of c = search needs
+
+part-of-requires : tie.Need-part-of-requires
+part-of-requires c κs = (start (from c) .pre .0, place c .good)
 
 returns-2 : tie.Need-returns-2
 returns-2 c =
-    let e = c .before .before in
-    let a = e .before .before .before .before .before .args in
-    (read-range (a .pool .now) (a .storage .now) (a .output .now) (a .s .0) (a .off) (a .n) (named-here e) (omega (arith, c .before .chain-length .ensures)), tt)
+    let k = c .before .before in
+    let f = k .before in
+    let a = start (from f) .args in
+    let T = tables (from f) in
+    let short = range-short T (headOf T (a .s .0)) (a .off) (a .n) (place f) (k .part-of .ensures) (not-true _ (c .if2 .taken)) in
+    (read-range (a .pool .now) (a .storage .now) (a .output .now) (a .s .0) (a .off) (a .n) (named-here (from f)) short, tt)
 
 -- the chain has the bytes
-in-range : (c : tie.Else2)
-    → c .before .before .before .before .before .before .before .args .off + c .before .before .before .before .before .before .before .args .n
-    ≤ lengthOf (decode (c .before .before .before .before .before .before .before .args .pool .now)) (c .before .before .before .before .before .before .before .args .s .0)
-in-range c = omega (arith, c .before .chain-length .ensures)
+abbrev counted : tie.Else2 → tie.After-part-of
+counted c = c .before .before
+
+in-range : (c : tie.Else2) → let e = from (counted c .before) in start e .args .off + start e .args .n ≤ lengthOf (tables e) (start e .args .s .0)
+in-range c =
+    let f = counted c .before in
+    let a = start (from f) .args in
+    let T = tables (from f) in
+    range-there T (headOf T (a .s .0)) (a .off) (a .n) (place f) (counted c .part-of .ensures) (not-false _ (c .if2 .left))
 
 returns-3 : tie.Need-returns-3
 returns-3 c =
-    let e = c .before .before .before in
-    let a = e .before .before .before .before .before .args in
+    let e = from (counted (c .before) .before) in
+    let a = start e .args in
     (read-narrow (a .pool .now) (a .storage .now) (a .output .now) (a .s .0) (a .off) (a .n) (named-here e) (in-range (c .before)) (omega arith), tt)
 
-head-link-requires : tie.Need-head-link-requires
-head-link-requires c κs =
-    let e = c .before .before .before in
-    let z = e .before .before .before .before .before in
-    (z .pre .0 .shaped, named-below (z .pre .0 .shaped) (z .args .s .0) (named-here e))
-
-copy-out-requires : tie.Need-copy-out-requires
-copy-out-requires c κs =
-    let l = c .before in
-    let e = l .before .before .before .before in
-    let z = e .before .before .before .before .before in
-    let T = decode (z .args .pool .now) in
-    let o = z .pre .0 in
-    let b = named-below (o .shaped) (z .args .s .0) (named-here e) in (
-      (o, subst (λ (n : ℕ). Is (linkOk T n)) (sym (l .head-link .ensures)) (o .sound .slips-ok (z .args .s .0) (omega (arith, total-slips (whole (o .shaped)))))),
-      (
-        z .pre .1,
-        (
-          subst (λ (n : ℕ). z .args .off + z .args .n ≤ total (stretchesFrom T n)) (sym (l .head-link .ensures)) (in-range (l .before .before)),
-          omega arith,
-        ),
-      ),
+gather-requires : tie.Need-gather-requires
+gather-requires c κs =
+    let r = c .before in
+    let k = counted (r .before) in
+    let f = k .before in
+    let z = start (from f) in
+    let at = f .find .result in (
+      (z .pre .0, place f .good, place f .inside),
+      (z .pre .1, (first-there (tables (from f)) (at .link) (at .into + z .args .n) (k .part-of .ensures) (not-false _ (r .before .if2 .left)), omega (arith, r .if3 .left))),
     )
 
 done-requires : tie.Need-done-requires
-done-requires c κs = head-link-requires (c .before .before .before .before .before) κs
+done-requires c κs = head-link-requires (from (counted (c .before .before .before .before .before) .before)) κs
 
 same-length : tie.Need-same-length
 same-length c = search needs
 
 returns-4 : tie.Need-returns-4
 returns-4 c =
-    let k = c .before .before .before in
-    let l = k .before .before in
-    let n = l .before in
-    let e = n .before .before .before in
+    let g = c .before .before .before in
+    let r = g .before .before in
+    let f = counted (r .before) .before in
+    let e = from f in
     let y = e .before .before .before .before in
-    let a = y .before .args in
+    let z = y .before in
+    let a = z .args in
     let p = a .pool .now in
-    let whole = fits-decode p (λ i. omega (arith, y .shared-slice-known .given i)) (y .before .pre .0 .shaped .fits) in (
-      read-done p (a .storage .now) (a .output .now) (a .s .0) (a .off) (a .n) (named-here e) (in-range (n .before)) (c .done .ensures) (n .if3 .left) whole (l .head-link .ensures) (k .copy-out .ensures),
+    let st = a .storage .now in
+    let T = tables e in
+    let fit = z .pre .1 ∙ ap storageLength (sym (total-buffers (whole (z .pre .0 .shaped)))) in
+    let bytes = found-bytes T (z .pre .0 .sound) (headOf T (a .s .0)) (a .off) (f .find .result) (good e) (place f) st fit in
+    let same = fits-decode p (λ i. omega (arith, y .shared-slice-known .given i)) (z .pre .0 .shaped .fits) in (
+      read-done p st (a .output .now) (a .s .0) (a .off) (a .n) (named-here e) (in-range (r .before)) (c .done .ensures) (omega (arith, r .if3 .left)) same
+          (g .gather .ensures .0 ∙ ap (λ (l : List ℕ). copied (take (a .n) l) (a .output .now)) bytes),
       rw (c .done .ensures),
     )
 
@@ -108,13 +146,14 @@ read-spec =
     (tie.spec
     held-requires
     returns
-    chain-length-requires
-    cast-length
-    add-end
+    head-link-requires
+    find-requires
+    cast-part-of
+    add-part-of
+    part-of-requires
     returns-2
     returns-3
-    head-link-requires
-    copy-out-requires
+    gather-requires
     done-requires
     same-length
     returns-4)

@@ -3,6 +3,7 @@ use mathlib.Core.Path.{_≡_, sym, ap, subst, _∙_}
 use Prim.Native.Nat.{ℕ, _≤_, _<_}
 use native.Mathlib.Omega.{arith}
 use lib.ListN.{length}
+use lib.Dec.{leb}
 use borrow.Author.Needs.{needs}
 use borrow.Author.Tests.{not-true, not-false, leb-true, leb-false}
 use Rattle.rules.specs.Basics.{Is}
@@ -10,13 +11,13 @@ use Rattle.rules.specs.Tables.{Tables, pieceTotal, bufferTotal}
 use Rattle.rules.specs.Bytes.{decode}
 use Rattle.rules.specs.Chain.{walk, chain, lengthOf, total}
 use Rattle.rules.specs.Sound.{linkOk}
-use Rattle.rules.specs.Room.{isUnheld, freePieces, freeBuffers}
+use Rattle.rules.specs.Room.{isFree, isUnheld, freePieces, freeBuffers}
 use Rattle.rules.specs.Build.{buffersFor}
 use Rattle.rules.specs.Rule.{unnamed}
 use Rattle.tables.proofs.Laws.{whole, total-slips, total-buffers}
 use Rattle.chain.specs.Length.{stretchesFrom}
 use Rattle.chain.specs.Free.{lowestFor}
-use Rattle.chain.proofs.Free.{count-most}
+use Rattle.chain.proofs.Free.{count-most, room-lowest, room-enough}
 use Rattle.answer.proofs.Perform.{is-unnamed, is-named, named-below}
 use Rattle.pack.proofs.Laws.{Found, new-small, new-held, new-after, new-bytes, pack-slip, pack-whole, pack-pieces, pack-buffers, pack-done}
 use Rattle.pack.proofs.pack.Statement.{statement}
@@ -102,8 +103,10 @@ many c =
     let T = tables (from a) in
     omega (arith, leb-false (length (walk (pieceTotal T) T (links a .head-link .result))) 1 (not-true _ (sym (a .scattered .ensures) ∙ not-false _ (c .if2 .left))), same-chain a)
 
-chain-length-requires : tie.Need-chain-length-requires
-chain-length-requires c κs = let e = from (c .before .before) in (start e .pre .0, below e)
+bytes-from-requires : tie.Need-bytes-from-requires
+bytes-from-requires c κs =
+    let a = c .before .before in
+    (start (from a) .pre .0, head-good (links a))
 
 cast-buffers-for : tie.Need-cast-buffers-for
 cast-buffers-for c = search needs
@@ -113,7 +116,7 @@ buffers-for-requires c κs = search needs
 
 -- the chain's length, and how many buffers it needs
 module _ (b : tie.After-buffers-for) where
-  abbrev lengths : tie.After-chain-length
+  abbrev lengths : tie.After-bytes-from
   lengths = b .before
 
   abbrev more : tie.Else2
@@ -122,62 +125,74 @@ module _ (b : tie.After-buffers-for) where
   abbrev here : tie.Else1
   here = from (more .before)
 
+  whole-length : lengths .bytes-from .result ≡ lengthOf (tables here) (start here .args .s .0)
+  whole-length = lengths .bytes-from .ensures ∙ ap (λ (x : ℕ). total (stretchesFrom (tables here) x)) (links (more .before) .head-link .ensures)
+
   counted : b .buffers-for .result ≡ buffersFor (lengthOf (tables here) (start here .args .s .0))
-  counted = b .buffers-for .ensures ∙ ap buffersFor (lengths .chain-length .ensures)
+  counted = b .buffers-for .ensures ∙ ap buffersFor whole-length
 
-lowest-piece-requires : tie.Need-lowest-piece-requires
-lowest-piece-requires c κs = search needs
+piece-room-requires : tie.Need-piece-room-requires
+piece-room-requires c κs = search needs
 
--- where the lowest free piece was looked up, how many are wanted
-abbrev wanted : tie.After-lowest-piece → tie.After-buffers-for
+-- where the free pieces were looked up, how many are wanted
+abbrev wanted : tie.After-piece-room → tie.After-buffers-for
 wanted p = p .before .before
 
-has-pieces-requires : tie.Need-has-pieces-requires
-has-pieces-requires c κs = (start (here (wanted (c .before))) .pre .0 .shaped, c .before .lowest-piece .ensures)
+-- whether there are as many
+enough-pieces : (p : tie.After-piece-room) → p .piece-room .result .enough ≡ leb (wanted p .buffers-for .result) (length (freePieces (tables (here (wanted p)))))
+enough-pieces p =
+    let T = tables (here (wanted p)) in
+    room-enough (isFree T) (wanted p .buffers-for .result) (pieceTotal T) (p .piece-room .ensures)
 
 same-length-3 : tie.Need-same-length-3
 same-length-3 c = search needs
 
 returns-3 : tie.Need-returns-3
 returns-3 c =
-    let b = wanted (c .before .before .before) in
+    let p = c .before .before in
+    let b = wanted p in
     let e = here b in
     let a = start e .args in
-    let few = leb-false (b .buffers-for .result) (length (freePieces (tables e))) (sym (c .before .has-pieces .ensures) ∙ not-true _ (c .if3 .taken)) in
+    let few = leb-false (b .buffers-for .result) (length (freePieces (tables e))) (sym (enough-pieces p) ∙ not-true _ (c .if3 .taken)) in
     (pack-pieces (a .pool .now) (a .storage .now) (a .s .0) (named-here e) (many (more b)) (omega (arith, few, counted b)), tt)
 
 -- the same where they were found
 abbrev pieced : tie.Else3 → tie.After-buffers-for
-pieced c = wanted (c .before .before .before)
+pieced c = wanted (c .before .before)
 
 -- there are as many free pieces
 pieces-room : (c : tie.Else3) → let b = pieced c in b .buffers-for .result ≤ length (freePieces (tables (here b)))
 pieces-room c =
     let b = pieced c in
-    leb-true (b .buffers-for .result) (length (freePieces (tables (here b)))) (sym (c .before .has-pieces .ensures) ∙ not-false _ (c .if3 .left))
+    leb-true (b .buffers-for .result) (length (freePieces (tables (here b)))) (sym (enough-pieces (c .before .before)) ∙ not-false _ (c .if3 .left))
 
-lowest-buffer-requires : tie.Need-lowest-buffer-requires
-lowest-buffer-requires c κs = search needs
+buffer-room-requires : tie.Need-buffer-room-requires
+buffer-room-requires c κs = search needs
 
-has-buffers-requires : tie.Need-has-buffers-requires
-has-buffers-requires c κs = (start (here (pieced (c .before .before .before))) .pre .0 .shaped, c .before .lowest-buffer .ensures)
+-- whether there are as many free buffers
+enough-buffers : (q : tie.After-buffer-room) → let b = pieced (q .before .before) in q .buffer-room .result .enough ≡ leb (b .buffers-for .result) (length (freeBuffers (tables (here b))))
+enough-buffers q =
+    let b = pieced (q .before .before) in
+    let T = tables (here b) in
+    room-enough (isUnheld T) (b .buffers-for .result) (bufferTotal T) (q .buffer-room .ensures)
 
 same-length-4 : tie.Need-same-length-4
 same-length-4 c = search needs
 
 returns-4 : tie.Need-returns-4
 returns-4 c =
-    let e3 = c .before .before .before .before .before in
+    let q = c .before .before in
+    let e3 = q .before .before in
     let b = pieced e3 in
     let e = here b in
     let a = start e .args in
-    let few = leb-false (b .buffers-for .result) (length (freeBuffers (tables e))) (sym (c .before .has-buffers .ensures) ∙ not-true _ (c .if4 .taken)) in
+    let few = leb-false (b .buffers-for .result) (length (freeBuffers (tables e))) (sym (enough-buffers q) ∙ not-true _ (c .if4 .taken)) in
     (pack-buffers (a .pool .now) (a .storage .now) (a .s .0) (named-here e) (many (more b)) (omega (arith, pieces-room e3, counted b)) (omega (arith, few, counted b)), tt)
 
 -- and as many free buffers
 module _ (c : tie.Else4) where
-  abbrev lowest : tie.After-lowest-buffer
-  lowest = c .before .before .before
+  abbrev lowest : tie.After-buffer-room
+  lowest = c .before .before
 
   abbrev enough : tie.Else3
   enough = lowest .before .before
@@ -190,7 +205,11 @@ module _ (c : tie.Else4) where
 
   buffers-room : sized .buffers-for .result ≤ length (freeBuffers (tables at))
   buffers-room =
-      leb-true (sized .buffers-for .result) (length (freeBuffers (tables at))) (sym (c .before .has-buffers .ensures) ∙ not-false _ (c .if4 .left))
+      leb-true (sized .buffers-for .result) (length (freeBuffers (tables at))) (sym (enough-buffers lowest) ∙ not-false _ (c .if4 .left))
+
+  -- from the lowest on
+  lowest-buffer : lowest .buffer-room .result .lowest ≡ lowestFor (isUnheld (tables at)) (sized .buffers-for .result) (bufferTotal (tables at))
+  lowest-buffer = room-lowest (isUnheld (tables at)) (sized .buffers-for .result) (bufferTotal (tables at)) (lowest .buffer-room .ensures)
 
   -- so there are few
   small : sized .buffers-for .result ≤ 128
@@ -200,8 +219,8 @@ module _ (c : tie.Else4) where
       omega (arith, buffers-room, count-most (isUnheld T) (bufferTotal T), total-buffers (whole (z .pre .0 .shaped)), z .pre .0 .few-buffers)
 
   -- what the code knows then
-  found : let a = start at .args in Found (a .pool .now) (a .shape) (a .s .0) (lengths sized .chain-length .result) (sized .buffers-for .result)
-  found = record { opened = start at .pre .0; bytes = lengths sized .chain-length .ensures; buffers = sized .buffers-for .ensures }
+  found : let a = start at .args in Found (a .pool .now) (a .shape) (a .s .0) (lengths sized .bytes-from .result) (sized .buffers-for .result)
+  found = record { opened = start at .pre .0; bytes = whole-length sized; buffers = sized .buffers-for .ensures }
 
 refill-requires : tie.Need-refill-requires
 refill-requires c κs =
@@ -210,9 +229,8 @@ refill-requires c κs =
     let l = links (more b .before) in
     let z = start (at e4) in
     let T = tables (at e4) in
-    let n : lengths b .chain-length .result ≡ total (stretchesFrom T (l .head-link .result)) = lengths b .chain-length .ensures ∙ ap (λ (x : ℕ). total (stretchesFrom T x)) (sym (l .head-link .ensures)) in
-    let i = lowest e4 .lowest-buffer .ensures ∙ ap (λ (k : ℕ). lowestFor (isUnheld T) k (bufferTotal T)) (b .buffers-for .ensures) in
-    ((z .pre .0, head-good l), ((z .pre .1, omega (arith, n)), (omega (arith, buffers-room e4, b .buffers-for .ensures), i)))
+    let i = lowest-buffer e4 ∙ ap (λ (k : ℕ). lowestFor (isUnheld T) k (bufferTotal T)) (b .buffers-for .ensures) in
+    ((z .pre .0, head-good l), ((z .pre .1, omega (arith, lengths b .bytes-from .ensures)), (omega (arith, buffers-room e4, b .buffers-for .ensures), i)))
 
 -- where the pieces were laid
 abbrev room : tie.After-lay → tie.Else4
@@ -225,8 +243,9 @@ lay-requires : tie.Need-lay-requires
 lay-requires c κs =
     let e4 = c .before .before .before .before .before .before in
     let e3 = enough e4 in
-    let p = e3 .before .before .before in
-    (start (at e4) .pre .0, ((pieces-room e3, buffers-room e4), (p .lowest-piece .ensures, lowest e4 .lowest-buffer .ensures)))
+    let T = tables (at e4) in
+    let low = room-lowest (isFree T) (sized e4 .buffers-for .result) (pieceTotal T) (e3 .before .before .piece-room .ensures) in
+    (start (at e4) .pre .0, ((pieces-room e3, buffers-room e4), (low, lowest-buffer e4)))
 
 add-turn : tie.Need-add-turn
 add-turn c =
@@ -282,15 +301,13 @@ pack-spec =
     done-requires
     same-length-2
     returns-2
-    chain-length-requires
+    bytes-from-requires
     cast-buffers-for
     buffers-for-requires
-    lowest-piece-requires
-    has-pieces-requires
+    piece-room-requires
     same-length-3
     returns-3
-    lowest-buffer-requires
-    has-buffers-requires
+    buffer-room-requires
     same-length-4
     returns-4
     refill-requires

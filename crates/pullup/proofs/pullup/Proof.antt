@@ -20,7 +20,7 @@ use Rattle.rules.proofs.Logic.{not-less}
 use Rattle.tables.proofs.Laws.{whole, total-slips, total-buffers}
 use Rattle.chain.specs.Length.{stretchesFrom}
 use Rattle.chain.specs.Find.{pastEnd}
-use Rattle.chain.proofs.Free.{first-lies, no-buffer, buffer-first, lowest-some}
+use Rattle.chain.proofs.Free.{first-lies, no-buffer, buffer-first, lowest-some, room-lowest, room-enough}
 use Rattle.chain.proofs.Spots.{dropped-at, past-range}
 use Rattle.answer.proofs.Perform.{is-unnamed, is-named, named-below}
 use Rattle.pullup.specs.Pull.{Pullable}
@@ -185,11 +185,8 @@ cast-wanted c = search needs
 add-wanted : tie.Need-add-wanted
 add-wanted c = search needs
 
-lowest-piece-requires : tie.Need-lowest-piece-requires
-lowest-piece-requires c κs = search needs
-
-has-pieces-requires : tie.Need-has-pieces-requires
-has-pieces-requires c κs = search needs
+piece-room-requires : tie.Need-piece-room-requires
+piece-room-requires c κs = search needs
 
 module _ (w : tie.After-wanted) where
   abbrev looked : tie.After-in-first
@@ -204,22 +201,29 @@ module _ (w : tie.After-wanted) where
       let f = there looked in
       w .wanted .ensures (tables first) ∙ ap (λ (p : Plan). length (p .more)) (sym (dropped-at (tables first) (slip first) (start first .args .n) (head-is f) (f .find .ensures)))
 
+-- whether there is a piece more
+enough-pieces : (p : tie.After-piece-room) → let w = p .before .before in p .piece-room .result .enough ≡ leb (w .wanted .result + 1) (length (freePieces (tables (first w))))
+enough-pieces p =
+    let w = p .before .before in
+    let T = tables (first w) in
+    room-enough (isFree T) (w .wanted .result + 1) (pieceTotal T) (p .piece-room .ensures)
+
 same-length-5 : tie.Need-same-length-5
 same-length-5 c = search needs
 
 returns-5 : tie.Need-returns-5
 returns-5 c =
-    let h = c .before in
-    let w = h .before .before .before .before in
+    let h = c .before .before in
+    let w = h .before .before in
     let k = looked w in
     let e = first w in
     let a = start e .args in
-    let few = leb-false _ (length (freePieces (tables e))) (sym (h .has-pieces .ensures) ∙ not-true _ (c .if5 .taken)) in
+    let few = leb-false _ (length (freePieces (tables e))) (sym (enough-pieces h) ∙ not-true _ (c .if5 .taken)) in
     (pullup-pieces (a .pool .now) (a .storage .now) (slip e) (a .n) (named-here e) (fits-here (fitting (there k))) (in-range (ranged k)) (scattered (w .before)) (omega (arith, few, wants w)), tt)
 
 module _ (c : tie.Else5) where
   abbrev asked : tie.After-wanted
-  asked = c .before .before .before .before .before
+  asked = c .before .before .before .before
 
   abbrev source : tie.Else1
   source = first asked
@@ -227,7 +231,7 @@ module _ (c : tie.Else5) where
   -- there is a piece more than drop takes
   enough : length (dropped (tables source) (slip source) (start source .args .n) .more) < length (freePieces (tables source))
   enough =
-      let most = leb-true _ (length (freePieces (tables source))) (sym (c .before .has-pieces .ensures) ∙ not-false _ (c .if5 .left)) in
+      let most = leb-true _ (length (freePieces (tables source))) (sym (enough-pieces (c .before .before)) ∙ not-false _ (c .if5 .left)) in
       omega (arith, most, wants asked)
 
 next-free-buffer-requires : tie.Need-next-free-buffer-requires
@@ -271,7 +275,7 @@ module _ (c : tie.Else6) where
 
   -- so the bytes can go there
   pullable : let f = there (looked (asked roomy)) in
-      Pullable (tables base) (slip base) (start base .args .n) (f .before .before .head-link .result) (f .find .result) (roomy .before .before .before .lowest-piece .result) (lowest .next-free-buffer .result)
+      Pullable (tables base) (slip base) (start base .args .n) (f .before .before .head-link .result) (f .find .result) (roomy .before .before .piece-room .result .lowest) (lowest .next-free-buffer .result)
   pullable =
       let w = asked roomy in
       let f = there (looked w) in
@@ -282,7 +286,7 @@ module _ (c : tie.Else6) where
         fits = fits-here (fitting f);
         enough = not-less _ _ (in-range (ranged (looked w)));
         scattered = scattered (w .before);
-        lowest-piece = roomy .before .before .before .lowest-piece .ensures ∙ lowest-some (isFree (tables base)) (w .wanted .result + 1) (pieceTotal (tables base)) (λ z. omega arith);
+        lowest-piece = room-lowest (isFree (tables base)) (w .wanted .result + 1) (pieceTotal (tables base)) (roomy .before .before .piece-room .ensures) ∙ lowest-some (isFree (tables base)) (w .wanted .result + 1) (pieceTotal (tables base)) (λ z. omega arith);
         lowest = lowest .next-free-buffer .ensures;
         inside = buffer-below;
         room = enough roomy;
@@ -338,8 +342,7 @@ pullup-spec =
     wanted-requires
     cast-wanted
     add-wanted
-    lowest-piece-requires
-    has-pieces-requires
+    piece-room-requires
     same-length-5
     returns-5
     next-free-buffer-requires

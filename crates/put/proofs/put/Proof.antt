@@ -4,17 +4,18 @@ use mathlib.Core.List.{List}
 use Prim.Native.Nat.{ℕ, _≤_, _<_}
 use native.Mathlib.Omega.{arith}
 use lib.ListN.{length}
+use lib.Dec.{leb}
 use borrow.Author.Needs.{needs}
 use borrow.Author.Tests.{not-true, not-false, leb-true, leb-false}
-use Rattle.rules.specs.Tables.{Tables, slipTotal, bufferTotal}
+use Rattle.rules.specs.Tables.{Tables, slipTotal, pieceTotal, bufferTotal}
 use Rattle.rules.specs.Bytes.{decode}
 use Rattle.rules.specs.Chain.{Stretch}
-use Rattle.rules.specs.Room.{isVacant, isUnheld, vacantSlips, freePieces, freeBuffers, newSlip, newBuffers}
+use Rattle.rules.specs.Room.{isVacant, isFree, isUnheld, vacantSlips, freePieces, freeBuffers, newSlip, newBuffers}
 use Rattle.rules.specs.Build.{plain, underNew, laid}
 use Rattle.tables.specs.Shape.{Holds}
 use Rattle.tables.proofs.Laws.{whole, total-slips, total-pieces, total-buffers}
 use Rattle.chain.specs.Free.{lowestFor}
-use Rattle.chain.proofs.Free.{first-lies, count-most, new-slip, no-slip}
+use Rattle.chain.proofs.Free.{first-lies, count-most, new-slip, no-slip, room-lowest, room-enough}
 use Rattle.answer.proofs.New.{under-made, new-link}
 use Rattle.put.proofs.Laws.{put-slips, put-pieces, put-buffers, put-done}
 use Rattle.put.proofs.put.Statement.{statement}
@@ -54,8 +55,8 @@ new c =
 buffers-for-requires : tie.Need-buffers-for-requires
 buffers-for-requires c κs = search needs
 
-lowest-piece-requires : tie.Need-lowest-piece-requires
-lowest-piece-requires c κs = search needs
+piece-room-requires : tie.Need-piece-room-requires
+piece-room-requires c κs = search needs
 
 -- the slip found before the buffers were counted
 abbrev found : tie.After-buffers-for → tie.Else1
@@ -64,53 +65,62 @@ found b = b .before
 abbrev from : tie.After-buffers-for → tie.After-next-vacant
 from b = found b .before .before
 
--- where the lowest free piece was looked up, how many are wanted
-abbrev wanted : tie.After-lowest-piece → tie.After-buffers-for
+-- where the free pieces were looked up, how many are wanted
+abbrev wanted : tie.After-piece-room → tie.After-buffers-for
 wanted p = p .before .before
 
-has-pieces-requires : tie.Need-has-pieces-requires
-has-pieces-requires c κs = (start (from (wanted (c .before))) .pre .0 .shaped, c .before .lowest-piece .ensures)
+-- whether there are as many
+enough-pieces : (p : tie.After-piece-room) → p .piece-room .result .enough ≡ leb (wanted p .buffers-for .result) (length (freePieces (tables (from (wanted p)))))
+enough-pieces p =
+    let T = tables (from (wanted p)) in
+    room-enough (isFree T) (wanted p .buffers-for .result) (pieceTotal T) (p .piece-room .ensures)
 
 same-length-2 : tie.Need-same-length-2
 same-length-2 c = search needs
 
 returns-2 : tie.Need-returns-2
 returns-2 c =
-    let b = wanted (c .before .before .before) in
+    let p = c .before .before in
+    let b = wanted p in
     let a = start (from b) .args in
-    let few = leb-false (b .buffers-for .result) (length (freePieces (tables (from b)))) (sym (c .before .has-pieces .ensures) ∙ not-true _ (c .if2 .taken)) in
+    let few = leb-false (b .buffers-for .result) (length (freePieces (tables (from b)))) (sym (enough-pieces p) ∙ not-true _ (c .if2 .taken)) in
     (put-pieces (a .pool .now) (a .storage .now) (a .input .now) (new (found b) .2) (omega (arith, few, b .buffers-for .ensures)), tt)
 
 -- the same where they were found
 abbrev pieced : tie.Else2 → tie.After-buffers-for
-pieced c = wanted (c .before .before .before)
+pieced c = wanted (c .before .before)
 
 -- there are as many free pieces
 pieces-room : (c : tie.Else2) → let b = pieced c in b .buffers-for .result ≤ length (freePieces (tables (from b)))
 pieces-room c =
     let b = pieced c in
-    leb-true (b .buffers-for .result) (length (freePieces (tables (from b)))) (sym (c .before .has-pieces .ensures) ∙ not-false _ (c .if2 .left))
+    leb-true (b .buffers-for .result) (length (freePieces (tables (from b)))) (sym (enough-pieces (c .before .before)) ∙ not-false _ (c .if2 .left))
 
-lowest-buffer-requires : tie.Need-lowest-buffer-requires
-lowest-buffer-requires c κs = search needs
+buffer-room-requires : tie.Need-buffer-room-requires
+buffer-room-requires c κs = search needs
 
-has-buffers-requires : tie.Need-has-buffers-requires
-has-buffers-requires c κs = (start (from (pieced (c .before .before .before))) .pre .0 .shaped, c .before .lowest-buffer .ensures)
+-- whether there are as many free buffers
+enough-buffers : (q : tie.After-buffer-room) → let b = pieced (q .before .before) in q .buffer-room .result .enough ≡ leb (b .buffers-for .result) (length (freeBuffers (tables (from b))))
+enough-buffers q =
+    let b = pieced (q .before .before) in
+    let T = tables (from b) in
+    room-enough (isUnheld T) (b .buffers-for .result) (bufferTotal T) (q .buffer-room .ensures)
 
 same-length-3 : tie.Need-same-length-3
 same-length-3 c = search needs
 
 returns-3 : tie.Need-returns-3
 returns-3 c =
-    let e2 = c .before .before .before .before .before in
+    let q = c .before .before in
+    let e2 = q .before .before in
     let b = pieced e2 in
     let a = start (from b) .args in
-    let few = leb-false (b .buffers-for .result) (length (freeBuffers (tables (from b)))) (sym (c .before .has-buffers .ensures) ∙ not-true _ (c .if3 .taken)) in
+    let few = leb-false (b .buffers-for .result) (length (freeBuffers (tables (from b)))) (sym (enough-buffers q) ∙ not-true _ (c .if3 .taken)) in
     (put-buffers (a .pool .now) (a .storage .now) (a .input .now) (new (found b) .2) (omega (arith, pieces-room e2, b .buffers-for .ensures)) (omega (arith, few, b .buffers-for .ensures)), tt)
 
--- where the lowest free buffer was looked up, the pieces found before, and how many are wanted
-abbrev lowest : tie.Else3 → tie.After-lowest-buffer
-lowest c = c .before .before .before
+-- where the free buffers were looked up, the pieces found before, and how many are wanted
+abbrev lowest : tie.Else3 → tie.After-buffer-room
+lowest c = c .before .before
 
 abbrev enough : tie.Else3 → tie.Else2
 enough c = lowest c .before .before
@@ -121,7 +131,13 @@ counted c = pieced (enough c)
 -- there are as many free buffers
 buffers-room : (c : tie.Else3) → counted c .buffers-for .result ≤ length (freeBuffers (tables (from (counted c))))
 buffers-room c =
-    leb-true (counted c .buffers-for .result) (length (freeBuffers (tables (from (counted c))))) (sym (c .before .has-buffers .ensures) ∙ not-false _ (c .if3 .left))
+    leb-true (counted c .buffers-for .result) (length (freeBuffers (tables (from (counted c))))) (sym (enough-buffers (lowest c)) ∙ not-false _ (c .if3 .left))
+
+-- from the lowest on
+lowest-buffer : (c : tie.Else3) → let T = tables (from (counted c)) in lowest c .buffer-room .result .lowest ≡ lowestFor (isUnheld T) (counted c .buffers-for .result) (bufferTotal T)
+lowest-buffer c =
+    let T = tables (from (counted c)) in
+    room-lowest (isUnheld T) (counted c .buffers-for .result) (bufferTotal T) (lowest c .buffer-room .ensures)
 
 -- so there are few
 small : (c : tie.Else3) → counted c .buffers-for .result ≤ 128
@@ -136,7 +152,7 @@ fill-free-requires c κs =
     let b = counted e3 in
     let z = start (from b) in
     let T = tables (from b) in
-    let l = lowest e3 .lowest-buffer .ensures ∙ ap (λ (k : ℕ). lowestFor (isUnheld T) k (bufferTotal T)) (b .buffers-for .ensures) in
+    let l = lowest-buffer e3 ∙ ap (λ (k : ℕ). lowestFor (isUnheld T) k (bufferTotal T)) (b .buffers-for .ensures) in
     ((z .pre .0 .shaped, z .pre .1), (omega (arith, buffers-room e3, b .buffers-for .ensures), l))
 
 cast-lay : tie.Need-cast-lay
@@ -153,8 +169,10 @@ lay-requires : tie.Need-lay-requires
 lay-requires c κs =
     let e3 = c .before .before .before .before .before .before in
     let e2 = enough e3 in
-    let p = e2 .before .before .before in
-    (start (from (counted e3)) .pre .0, ((pieces-room e2, buffers-room e3), (p .lowest-piece .ensures, lowest e3 .lowest-buffer .ensures)))
+    let b = counted e3 in
+    let T = tables (from b) in
+    let low = room-lowest (isFree T) (b .buffers-for .result) (pieceTotal T) (e2 .before .before .piece-room .ensures) in
+    (start (from b) .pre .0, ((pieces-room e2, buffers-room e3), (low, lowest-buffer e3)))
 
 under-new-requires : tie.Need-under-new-requires
 under-new-requires c κs =
@@ -205,12 +223,10 @@ put-spec =
     same-length
     returns
     buffers-for-requires
-    lowest-piece-requires
-    has-pieces-requires
+    piece-room-requires
     same-length-2
     returns-2
-    lowest-buffer-requires
-    has-buffers-requires
+    buffer-room-requires
     same-length-3
     returns-3
     fill-free-requires
