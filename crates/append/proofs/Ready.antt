@@ -21,11 +21,9 @@ use Rattle.tables.specs.declared.Shape.{Shape}
 use Rattle.tables.specs.Shape.{Holds}
 use Rattle.tables.proofs.Laws.{whole, total-pieces}
 use Rattle.chain.specs.declared.OwnRun.{OwnRun}
-use Rattle.chain.specs.declared.Part.{Part}
 use Rattle.chain.specs.Opened.{Opened}
 use Rattle.chain.specs.Length.{stretchesFrom}
 use Rattle.chain.specs.Own.{lastLink, ownRun}
-use Rattle.chain.specs.Part.{partOf}
 use Rattle.chain.proofs.Links.{link-leads, link-below, stretches-none}
 use Rattle.chain.proofs.Own.{OwnLaws, own-laws}
 use Rattle.chain.proofs.Parts.{part-all}
@@ -100,12 +98,11 @@ module _ {p : List ℕ} {h : Shape} {a b head tail : ℕ} (o : Opened p h) (j : 
     no-others z = laws .rest ∙ ap (stretchesFrom T) z ∙ stretches-none T
 
     -- how many pieces it has
-    pub others-part : {part : Part} → part ≡ partOf T (own .next) most → part .pieces ≡ length (cutOut (stretchesFrom T (own .next)) 0 most)
-    unfolding partOf
-    others-part e = ap (λ (x : Part). x .pieces) e
+    pub others-count : {n : ℕ} → n ≡ length (stretchesFrom T (own .next)) → n ≡ length (notOwn T a)
+    others-count e = e ∙ sym (ap length (laws .rest))
 
-    pub others-count : {part : Part} → part ≡ partOf T (own .next) most → part .pieces ≡ length (notOwn T a)
-    others-count e = others-part e ∙ ap length rest
+    pub others-cut : {n : ℕ} → n ≡ length (stretchesFrom T (own .next)) → n ≡ length (cutOut (stretchesFrom T (own .next)) 0 most)
+    others-cut e = others-count e ∙ sym (ap length rest)
 
     -- all pieces are own, and b is made vacant: so it is ready
     pub own-ready : {r : List ℕ} → own .next ≡ 0 → Holds r h (setSlip T b vacant) → IsReady T a b r tail

@@ -36,8 +36,7 @@ fn join(
         release::hang(pool, shape, a, last, tail);
         return answer::done(pool, shape, a, 0);
     }
-    let part = chain::part_of(pool, shape, next, u32::MAX as u64);
-    let pieces = part.pieces;
+    let pieces = chain::pieces_from(pool, shape, next);
     let room = chain::piece_room(pool, shape, pieces as usize);
     if !room.enough {
         return Outcome::Refused(Refusal::Pieces);

@@ -21,7 +21,8 @@ use Rattle.chain.specs.Length.{stretchesFrom}
 use Rattle.chain.specs.Free.{firstFrom}
 use Rattle.chain.proofs.Links.{InUse, link-leads, walk-none, walk-on}
 use Rattle.build.specs.declared.Cloning.{Cloning}
-use Rattle.build.specs.Line.{nextInLine, linkInLine}
+use Rattle.build.specs.declared.InLine.{InLine}
+use Rattle.build.specs.Line.{linkInLine, inLine}
 use Rattle.build.specs.Clone.{stretchAt, partOf, cloned, Clonable}
 use Rattle.build.proofs.Forward.{piece-other}
 use Rattle.build.proofs.Line.{Line, line-opened, line-step}
@@ -29,13 +30,13 @@ use Rattle.build.proofs.Line.{Line, line-opened, line-step}
 -- ---- one piece
 
 -- what copying a piece leaves, from the numbers that the code has
-pub clone-done : (T : Tables) (c : Cloning) (k tail : ℕ) {h : Shape} {q : List ℕ} {len n b o next free : ℕ} → len ≡ piece T (c .at - 1) .len → n ≡ min (c .left) (len - c .skip)
-    → b ≡ piece T (c .at - 1) .buffer → o ≡ piece T (c .at - 1) .offset → next ≡ piece T (c .at - 1) .next
-    → Holds q h (taken T (c .free) (fresh (record { buffer = b; offset = o + c .skip; len = n }) (linkInLine T (c .free) k tail))) × (free ≡ nextInLine T (c .free) k)
+pub clone-done : (T : Tables) (c : Cloning) (k tail : ℕ) {h : Shape} {q : List ℕ} {len n b o next : ℕ} {l : InLine} → l ≡ inLine T (c .free) k tail → len ≡ piece T (c .at - 1) .len
+    → n ≡ min (c .left) (len - c .skip) → b ≡ piece T (c .at - 1) .buffer → o ≡ piece T (c .at - 1) .offset → next ≡ piece T (c .at - 1) .next
+    → Holds q h (taken T (c .free) (fresh (record { buffer = b; offset = o + c .skip; len = n }) (l .link)))
     → Holds q h (taken T (c .free) (fresh (partOf (stretchAt T (c .at)) c) (linkInLine T (c .free) k tail)))
-    × (_≡_ {A = Cloning} (record { free = free; at = next; skip = 0; left = c .left - n }) (cloned T c k))
-clone-done T c k tail el en eb eo ex w =
-    (record { shaped = w .0 .shaped; is = w .0 .is ∙ rw (en, el, eb, eo) }, rw (w .1, ex, en, el))
+    × (_≡_ {A = Cloning} (record { free = l .free; at = next; skip = 0; left = c .left - n }) (cloned T c k))
+clone-done T c k tail es el en eb eo ex w =
+    (record { shaped = w .shaped; is = w .is ∙ rw (es, en, el, eb, eo) }, rw (es, ex, en, el))
 
 -- ---- the range
 

@@ -1,6 +1,6 @@
 -- Laying new pieces on the lowest free buffers, one after another. Assumes nothing.
 use mathlib.Core.Path.{_≡_, sym, ap, subst, _∙_}
-use mathlib.Core.List.{List, [], _∷_}
+use mathlib.Core.List.{List, _∷_}
 use Prim.Native.Nat.{ℕ, zero, suc, _+_, _-_, _≤_, _<_, min}
 use native.Mathlib.Numerals.{add-one}
 use native.Mathlib.Omega.{arith}
@@ -21,7 +21,8 @@ use Rattle.chain.specs.Opened.{Opened}
 use Rattle.chain.specs.Free.{firstFrom, lowestFor}
 use Rattle.chain.proofs.Free.{first-lies, lowest-all}
 use Rattle.build.specs.declared.Laying.{Laying}
-use Rattle.build.specs.Line.{nextInLine, linkInLine}
+use Rattle.build.specs.declared.InLine.{InLine}
+use Rattle.build.specs.Line.{linkInLine, inLine}
 use Rattle.build.specs.Laid.{bufferAt, laidAt, laidOn, Layable}
 use Rattle.build.proofs.Forward.{unheld-after}
 use Rattle.build.proofs.Line.{Line, First, from-first, line-opened, line-step, line-done}
@@ -35,10 +36,10 @@ laid-room T c l =
     omega (arith, eqb→eq (bufferCount T b) 0 (first-lies (isUnheld T) (c .from) (bufferTotal T) .1 (l .in-store) .1))
 
 -- what laying a piece leaves, from the numbers that the code has
-pub lay-done : (T : Tables) (c : Laying) (k : ℕ) {h : Shape} {q : List ℕ} {b n free : ℕ} → b ≡ bufferAt T c → n ≡ min bufferSize (c .left)
-    → Holds q h (taken T (c .free) (fresh (record { buffer = b; offset = 0; len = n }) (linkInLine T (c .free) k 0))) × (free ≡ nextInLine T (c .free) k)
-    → Holds q h (taken T (c .free) (fresh (laidAt T c) (linkInLine T (c .free) k 0))) × (_≡_ {A = Laying} (record { free = free; from = b + 1; left = c .left - n }) (laidOn T c k))
-lay-done T c k eb en w = (record { shaped = w .0 .shaped; is = w .0 .is ∙ rw (en, eb) }, rw (w .1, en, eb))
+pub lay-done : (T : Tables) (c : Laying) (k : ℕ) {h : Shape} {q : List ℕ} {b n : ℕ} {l : InLine} → b ≡ bufferAt T c → n ≡ min bufferSize (c .left) → l ≡ inLine T (c .free) k 0
+    → Holds q h (taken T (c .free) (fresh (record { buffer = b; offset = 0; len = n }) (l .link)))
+    → Holds q h (taken T (c .free) (fresh (laidAt T c) (linkInLine T (c .free) k 0))) × (_≡_ {A = Laying} (record { free = l .free; from = b + 1; left = c .left - n }) (laidOn T c k))
+lay-done T c k eb en el w = (record { shaped = w .shaped; is = w .is ∙ rw (el, en, eb) }, rw (el, en, eb))
 
 -- ---- the free buffers
 

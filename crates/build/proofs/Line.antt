@@ -19,12 +19,12 @@ use Rattle.rules.proofs.Audit.{tables-now}
 use Rattle.rules.proofs.Moves.{by-place}
 use Rattle.rules.proofs.Room.{places-in, above-not}
 use Rattle.tables.specs.declared.Shape.{Shape}
-use Rattle.tables.specs.Shape.{Holds}
 use Rattle.tables.proofs.Laws.{whole, total-pieces}
 use Rattle.chain.specs.Opened.{Opened}
 use Rattle.chain.specs.Free.{firstFrom}
 use Rattle.chain.proofs.Free.{places-first, first-lies, count-most}
-use Rattle.build.specs.Line.{nextInLine, linkInLine}
+use Rattle.build.specs.declared.InLine.{InLine}
+use Rattle.build.specs.Line.{nextInLine, linkInLine, inLine}
 use Rattle.build.proofs.Laws.{buffer-most}
 use Rattle.build.proofs.Forward.{taken-first, free-other, free-after}
 
@@ -159,19 +159,17 @@ module _ {goal : Tables} {tail : ℕ} {T : Tables} {f : ℕ} (x : Stretch) (insi
             ∙ ap (λ (n : ℕ). taken (built T (freeFrom T (suc f)) (y ∷ ys) tail) f (fresh x n)) (sym link) ∙ ap (λ (fs : List ℕ). built T fs (x ∷ y ∷ ys) tail) (sym here) ∙ l .rest;
       })
 
--- ---- one piece, from what the code has
+-- ---- what comes after a piece, from what the code has
 
-module _ (T : Tables) (f tail : ℕ) (x : Stretch) {h : Shape} {q : List ℕ} where
-  -- the last in line
-  pub last-in-line : (k : ℕ) → k ≡ 0 → Holds q h (taken T f (fresh x tail)) → Holds q h (taken T f (fresh x (linkInLine T f k tail))) × (f ≡ nextInLine T f k)
-  last-in-line zero e is = (is, refl)
-  last-in-line (suc k) e is = absurd (omega arith)
+module _ (T : Tables) (f tail : ℕ) where
+  -- after the last in line
+  pub last-in-line : (k : ℕ) → k ≡ 0 → _≡_ {A = InLine} (record { free = f; link = tail }) (inLine T f k tail)
+  last-in-line zero e = refl
+  last-in-line (suc k) e = absurd (omega arith)
 
-  -- one with more to come
-  pub next-in-line : (k : ℕ) {g : ℕ} → (k ≡ 0 → ⊥) → g ≡ firstFrom (isFree T) (f + 1) (pieceTotal T) → Holds q h (taken T f (fresh x (g + 1)))
-      → Holds q h (taken T f (fresh x (linkInLine T f k tail))) × (g ≡ nextInLine T f k)
-  next-in-line zero e n is = absurd (e refl)
-  next-in-line (suc k) {g} e n is =
+  -- after one with more to come
+  pub next-in-line : (k : ℕ) {g : ℕ} → (k ≡ 0 → ⊥) → g ≡ firstFrom (isFree T) (f + 1) (pieceTotal T) → _≡_ {A = InLine} (record { free = g; link = g + 1 }) (inLine T f k tail)
+  next-in-line zero e n = absurd (e refl)
+  next-in-line (suc k) {g} e n =
       let m : g ≡ nextInLine T f (suc k) = n ∙ ap (λ (i : ℕ). firstFrom (isFree T) i (pieceTotal T)) (add-one f) in
-      let s : g + 1 ≡ linkInLine T f (suc k) tail = add-one g ∙ ap suc m in
-      (record { shaped = is .shaped; is = is .is ∙ ap (λ (n : ℕ). taken T f (fresh x n)) s }, m)
+      rw (add-one g, m)

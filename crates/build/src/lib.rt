@@ -20,7 +20,7 @@ ghost use Rattle.chain.specs.Free.{lowestFor};
 ghost use Rattle.chain.specs.Length.{stretchesFrom};
 ghost use Rattle.chain.specs.Rest.{restFrom};
 ghost use Rattle.build.specs.Share.{Sharable};
-ghost use Rattle.build.specs.Line.{nextInLine, linkInLine};
+ghost use Rattle.build.specs.Line.{linkInLine, inLine};
 ghost use Rattle.build.specs.Clone.{stretchAt, partOf, cloned, Copyable, Clonable};
 ghost use Rattle.build.specs.Laid.{laidAt, laidOn, Layable};
 
@@ -37,6 +37,12 @@ struct Laying {
     free: u16,
     from: u16,
     left: u32,
+}
+
+// What comes after a new piece in line: the next piece to take, and the link to it (a look-ahead).
+struct InLine {
+    free: u16,
+    link: u16,
 }
 
 // The free piece `f` becomes a new piece of count 1, and its buffer's count rises by 1: a descriptor taken.
@@ -70,28 +76,22 @@ pub fn share(pool: &mut [u8], shape: Shape, link: u16)
     tables::set_piece_count(pool, shape, d, n + 1);
 }
 
-// The free piece `f` becomes a new piece with `more` to come after it: its next is the next free piece, `tail` where it is the last; answers the piece after it (a descriptor taken in line).
-fn take_in_line(
-    pool: &mut [u8],
-    shape: Shape,
-    f: u16,
-    buffer: BufferNumber,
-    offset: u16,
-    length: u16,
-    more: u16,
-    tail: u16,
-) -> u16
+// The piece after `f` in line and the link to it, where `more` are to come; `f` and `tail` where none is: a free descriptor looked ahead for.
+fn in_line(pool: &[u8], shape: Shape, f: u16, more: u16, tail: u16) -> InLine
     requires { ⌜ Shaped (now pool) shape × (f < shape .pieces) × (shape .pieces < 65535) ⌝ }
-    requires { ⌜ (buffer .0 < shape .buffers) × (bufferCount (decode (now pool)) (buffer .0) < 65535) ⌝ }
-    ensures { λ r. ⌜ Holds (now (pool .exit)) shape (taken (decode (now (pool .entry))) f (fresh (record { buffer = buffer .0; offset = offset; len = length }) (linkInLine (decode (now (pool .entry))) f more tail))) × (r ≡ nextInLine (decode (now (pool .entry))) f more) ⌝ }
+    ensures { λ r. ⌜ r ≡ inLine (decode (now (pool .entry))) f more tail ⌝ }
 {
     if more == 0 {
-        take_piece(pool, shape, PieceNumber(f), buffer, offset, length, tail);
-        return f;
+        return InLine {
+            free: f,
+            link: tail,
+        };
     }
     let g = chain::next_free_piece(pool, shape, f + 1);
-    take_piece(pool, shape, PieceNumber(f), buffer, offset, length, g + 1);
-    g
+    InLine {
+        free: g,
+        link: g + 1,
+    }
 }
 
 // Takes a new piece for what the range has of the piece to copy, `more` to come after it; answers how far copying is then: a descriptor cloned.
@@ -100,22 +100,15 @@ fn clone_piece(pool: &mut [u8], shape: Shape, c: Cloning, more: u16, tail: u16) 
     ensures { λ r. ⌜ Holds (now (pool .exit)) shape (taken (decode (now (pool .entry))) (c .free) (fresh (partOf (stretchAt (decode (now (pool .entry))) (c .at)) c) (linkInLine (decode (now (pool .entry))) (c .free) more tail))) × (r ≡ cloned (decode (now (pool .entry))) c more) ⌝ }
 {
     let d = PieceNumber(c.at - 1);
+    let line = in_line(pool, shape, c.free, more, tail);
     let length = kinds::lesser(c.left, tables::piece_length(pool, shape, d) as u32 - c.skip);
     let buffer = tables::piece_buffer(pool, shape, d);
     let offset = tables::piece_offset(pool, shape, d) + c.skip as u16;
     let next = tables::piece_next(pool, shape, d);
-    let free = take_in_line(
-        pool,
-        shape,
-        c.free,
-        buffer,
-        offset,
-        length as u16,
-        more,
-        tail,
-    );
+    let f = PieceNumber(c.free);
+    take_piece(pool, shape, f, buffer, offset, length as u16, line.link);
     Cloning {
-        free: free,
+        free: line.free,
         at: next,
         skip: 0,
         left: c.left - length,
@@ -164,11 +157,13 @@ fn lay_piece(pool: &mut [u8], shape: Shape, c: Laying, more: u16) -> Laying
     let b = chain::next_free_buffer(pool, shape, c.from);
     let length = kinds::lesser(BufferNumber::SIZE as u32, c.left);
     let buffer = BufferNumber(b);
-    let free = take_in_line(pool, shape, c.free, buffer, 0, length as u16, more, 0);
+    let line = in_line(pool, shape, c.free, more, 0);
+    let f = PieceNumber(c.free);
+    take_piece(pool, shape, f, buffer, 0, length as u16, line.link);
     let from = b + 1;
     let left = c.left - length;
     Laying {
-        free: free,
+        free: line.free,
         from: from,
         left: left,
     }

@@ -162,10 +162,13 @@ walk-in-use T n S t =
 pub stretches-in : (T : Tables) (n : ℕ) → SoundTables T → Is (linkOk T n) → Good (bufferTotal T) (stretchesFrom T n)
 stretches-in T n S t = stretches-good (walk (pieceTotal T) T n) (tables-now T S .1) (walk-in-use T n S t)
 
+-- there are at most P
+pub stretches-few : (T : Tables) (n : ℕ) → SoundTables T → Is (linkOk T n) → length (stretchesFrom T n) ≤ pieceTotal T
+stretches-few T n S t = omega (arith, stretches-length T (walk (pieceTotal T) T n), walk-most T n S t)
+
 -- and they have at most as many bytes as P buffers
 pub stretches-small : (T : Tables) (n : ℕ) → SoundTables T → Is (linkOk T n) → total (stretchesFrom T n) ≤ bufferSize * pieceTotal T
-stretches-small T n S t =
-    omega (arith, total-small (bufferTotal T) (stretchesFrom T n) (stretches-in T n S t), stretches-length T (walk (pieceTotal T) T n), walk-most T n S t)
+stretches-small T n S t = omega (arith, total-small (bufferTotal T) (stretchesFrom T n) (stretches-in T n S t), stretches-few T n S t)
 
 -- ---- the length of the pieces met
 

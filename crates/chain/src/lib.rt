@@ -6,6 +6,7 @@ use tables::Shape;
 ghost use mathlib.Core.Path.{_≡_};
 ghost use mathlib.Core.Bool.{true, not};
 ghost use Prim.Native.Nat.{_-_, _<_};
+ghost use lib.ListN.{length};
 ghost use lib.Dec.{leb};
 ghost use Rattle.rules.specs.Basics.{Is};
 ghost use Rattle.rules.specs.Tables.{piece, headOf, slipTotal, pieceTotal, bufferTotal};
@@ -127,6 +128,20 @@ pub fn bytes_from(pool: &[u8], shape: Shape, link: u16) -> u32
         at = tables::piece_next(pool, shape, d);
     }
     bytes
+}
+
+// How many pieces the chain that starts at `link` has: a segment count.
+pub fn pieces_from(pool: &[u8], shape: Shape, link: u16) -> u16
+    requires { ⌜ Opened (now pool) shape × Is (linkOk (decode (now pool)) link) ⌝ }
+    ensures { λ r. ⌜ r ≡ length (stretchesFrom (decode (now (pool .entry))) link) ⌝ }
+{
+    let mut pieces = 0;
+    let mut at = link;
+    while at != 0 {
+        pieces += 1;
+        at = tables::piece_next(pool, shape, PieceNumber(at - 1));
+    }
+    pieces
 }
 
 // Whether the first piece of the chain from `link` has `n` bytes, as any chain has none: a contiguity test.

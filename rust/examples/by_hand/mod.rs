@@ -52,6 +52,29 @@ unsafe fn put16(pool: &mut [u8], at: usize, v: usize) {
     *pool.as_mut_ptr().add(at).cast::<[u8; 2]>() = (v as u16).to_le_bytes();
 }
 
+/// Whether at least `wanted` entries from `first` on, which is free, start with 0.
+#[inline(always)]
+unsafe fn room(
+    pool: &[u8],
+    first: usize,
+    total: usize,
+    wanted: usize,
+    at: impl Fn(usize) -> usize,
+) -> bool {
+    let mut left = wanted;
+    let mut i = first;
+    while i < total {
+        if get16(pool, at(i)) == 0 {
+            left -= 1;
+            if left == 0 {
+                return true;
+            }
+        }
+        i += 1;
+    }
+    false
+}
+
 /// How long the tables are, and where those of pieces and of buffers start.
 #[derive(Clone, Copy)]
 struct Tables {
@@ -102,6 +125,7 @@ impl Tables {
     }
 
     /// The lowest vacant slip.
+    #[inline(always)]
     unsafe fn vacant(self, pool: &[u8]) -> Option<usize> {
         let mut s = 0;
         while s < self.slips {
@@ -114,6 +138,7 @@ impl Tables {
     }
 
     /// The lowest free piece from `from` on.
+    #[inline(always)]
     unsafe fn free_piece(self, pool: &[u8], from: usize) -> Option<usize> {
         let mut d = from;
         while d < self.pieces {
@@ -126,6 +151,7 @@ impl Tables {
     }
 
     /// The lowest free buffer from `from` on.
+    #[inline(always)]
     unsafe fn free_buffer(self, pool: &[u8], from: usize) -> Option<usize> {
         let mut b = from;
         while b < self.buffers {
@@ -138,23 +164,17 @@ impl Tables {
     }
 
     /// The lowest free piece, if at least `wanted` are free, which is above 0.
+    #[inline(always)]
     unsafe fn room_for_pieces(self, pool: &[u8], wanted: usize) -> Option<usize> {
         let first = self.free_piece(pool, 0)?;
-        let mut last = first;
-        for _ in 1..wanted {
-            last = self.free_piece(pool, last + 1)?;
-        }
-        Some(first)
+        room(pool, first, self.pieces, wanted, |d| self.piece(d)).then_some(first)
     }
 
     /// The lowest free buffer, if at least `wanted` are free, which is above 0.
+    #[inline(always)]
     unsafe fn room_for_buffers(self, pool: &[u8], wanted: usize) -> Option<usize> {
         let first = self.free_buffer(pool, 0)?;
-        let mut last = first;
-        for _ in 1..wanted {
-            last = self.free_buffer(pool, last + 1)?;
-        }
-        Some(first)
+        room(pool, first, self.buffers, wanted, |b| self.count(b)).then_some(first)
     }
 
     /// The free piece `d` becomes a piece of count 1.

@@ -13,7 +13,7 @@ use Rattle.rules.specs.Append.{notOwn}
 use Rattle.chain.specs.Free.{lowestFor}
 use Rattle.chain.proofs.Free.{room-lowest, room-enough}
 use Rattle.answer.proofs.Perform.{named-below}
-use Rattle.append.proofs.Ready.{IsReady, head-ok, last-below, next-ok, next-long, no-others, others-part, others-count, own-ready, new-ready, first-small, join-hangable, join-after}
+use Rattle.append.proofs.Ready.{IsReady, head-ok, last-below, next-ok, next-long, no-others, others-count, others-cut, own-ready, new-ready, first-small, join-hangable, join-after}
 use Rattle.append.proofs.Laws.{append-pieces, append-joined}
 use Rattle.append.proofs.join.Statement.{statement}
 use Rattle.append.proofs.join.Tie as tie
@@ -96,11 +96,8 @@ returns c =
 
 -- ---- some are not
 
-cast-part-of : tie.Need-cast-part-of
-cast-part-of c = search needs
-
-part-of-requires : tie.Need-part-of-requires
-part-of-requires c κs = let r = c .before .before in (start r .pre .0, next-ok (start r .pre .0) (start r .pre .1) (r .own-run .ensures))
+pieces-from-requires : tie.Need-pieces-from-requires
+pieces-from-requires c κs = let r = c .before .before in (start r .pre .0, next-ok (start r .pre .0) (start r .pre .1) (r .own-run .ensures))
 
 cast-piece-room : tie.Need-cast-piece-room
 cast-piece-room c = search needs
@@ -110,20 +107,20 @@ piece-room-requires c κs = start (c .before .before .before .before) .pre .0 .s
 
 -- the lowest free piece for them, and whether there are as many
 module _ (q : tie.After-piece-room) where
-  abbrev counted : tie.After-part-of
+  abbrev counted : tie.After-pieces-from
   counted = q .before .before
 
   abbrev from : tie.After-own-run
   from = counted .before .before .before
 
-  low : q .piece-room .result .lowest ≡ lowestFor (isFree (tables from)) (counted .part-of .result .pieces) (pieceTotal (tables from))
-  low = room-lowest (isFree (tables from)) (counted .part-of .result .pieces) (pieceTotal (tables from)) (q .piece-room .ensures)
+  low : q .piece-room .result .lowest ≡ lowestFor (isFree (tables from)) (counted .pieces-from .result) (pieceTotal (tables from))
+  low = room-lowest (isFree (tables from)) (counted .pieces-from .result) (pieceTotal (tables from)) (q .piece-room .ensures)
 
-  enough : q .piece-room .result .enough ≡ leb (counted .part-of .result .pieces) (length (freePieces (tables from)))
-  enough = room-enough (isFree (tables from)) (counted .part-of .result .pieces) (pieceTotal (tables from)) (q .piece-room .ensures)
+  enough : q .piece-room .result .enough ≡ leb (counted .pieces-from .result) (length (freePieces (tables from)))
+  enough = room-enough (isFree (tables from)) (counted .pieces-from .result) (pieceTotal (tables from)) (q .piece-room .ensures)
 
-  count : counted .part-of .result .pieces ≡ length (notOwn (tables from) (start from .args .a .0))
-  count = others-count (start from .pre .0) (start from .pre .1) (from .own-run .ensures) (counted .part-of .ensures)
+  count : counted .pieces-from .result ≡ length (notOwn (tables from) (start from .args .a .0))
+  count = others-count (start from .pre .0) (start from .pre .1) (from .own-run .ensures) (counted .pieces-from .ensures)
 
 same-length-2 : tie.Need-same-length-2
 same-length-2 c = search needs
@@ -133,7 +130,7 @@ returns-2 c =
     let q = c .before .before in
     let r = from q in
     let z = start r in
-    let few = leb-false (counted q .part-of .result .pieces) (length (freePieces (tables r))) (sym (enough q) ∙ not-true _ (c .if2 .taken)) in (
+    let few = leb-false (counted q .pieces-from .result) (length (freePieces (tables r))) (sym (enough q) ∙ not-true _ (c .if2 .taken)) in (
       λ st. append-pieces (z .args .pool .now) st (z .args .a .0) (z .args .b .0) (z .pre .1 .a-named) (z .pre .1 .b-named) (z .pre .1 .apart) (a-some r) (b-some r) (omega (arith, few, count q)),
       tt,
     )
@@ -143,8 +140,8 @@ module _ (e : tie.Else2) where
   abbrev asked : tie.After-piece-room
   asked = e .before .before
 
-  room : counted asked .part-of .result .pieces ≤ length (freePieces (tables (from asked)))
-  room = leb-true (counted asked .part-of .result .pieces) (length (freePieces (tables (from asked)))) (sym (enough asked) ∙ not-false _ (e .if2 .left))
+  room : counted asked .pieces-from .result ≤ length (freePieces (tables (from asked)))
+  room = leb-true (counted asked .pieces-from .result) (length (freePieces (tables (from asked)))) (sym (enough asked) ∙ not-false _ (e .if2 .left))
 
 copy-pieces-requires : tie.Need-copy-pieces-requires
 copy-pieces-requires c κs =
@@ -154,7 +151,7 @@ copy-pieces-requires c κs =
     let z = start r in
     let is = r .own-run .ensures in (
       (z .pre .0, next-ok (z .pre .0) (z .pre .1) is),
-      ((others-part (z .pre .0) (z .pre .1) is (counted q .part-of .ensures), room e), (next-long (z .pre .0) (z .pre .1) is, low q)),
+      ((others-cut (z .pre .0) (z .pre .1) is (counted q .pieces-from .ensures), room e), (next-long (z .pre .0) (z .pre .1) is, low q)),
     )
 
 set-slip-requires-2 : tie.Need-set-slip-requires-2
@@ -224,8 +221,7 @@ join-spec =
     done-requires
     same-length
     returns
-    cast-part-of
-    part-of-requires
+    pieces-from-requires
     cast-piece-room
     piece-room-requires
     same-length-2

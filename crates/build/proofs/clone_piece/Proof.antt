@@ -17,8 +17,13 @@ below c = omega (arith, c .pre .2 .place .below, total-pieces (whole (c .pre .0)
 sub-lesser : tie.Need-sub-lesser
 sub-lesser c = search needs
 
+in-line-requires : tie.Need-in-line-requires
+in-line-requires c κs =
+    let z = c .before .before .before in
+    (z .pre .0, omega (arith, z .pre .2 .free-below, total-pieces (whole (z .pre .0))), z .pre .1)
+
 piece-length-requires : tie.Need-piece-length-requires
-piece-length-requires c κs = let z = c .before .before .before in (z .pre .0, below z)
+piece-length-requires c κs = let z = c .before .before .before .before .before in (z .pre .0, below z)
 
 cast-lesser : tie.Need-cast-lesser
 cast-lesser c = search needs
@@ -30,10 +35,10 @@ lesser-requires : tie.Need-lesser-requires
 lesser-requires c κs = search needs
 
 piece-buffer-requires : tie.Need-piece-buffer-requires
-piece-buffer-requires c κs = let z = c .before .before .before .before .before .before .before in (z .pre .0, below z)
+piece-buffer-requires c κs = let z = c .before .before .before .before .before .before .before .before .before in (z .pre .0, below z)
 
 piece-offset-requires : tie.Need-piece-offset-requires
-piece-offset-requires c κs = let z = c .before .before .before .before .before .before .before .before .before in (z .pre .0, below z)
+piece-offset-requires c κs = let z = c .before .before .before .before .before .before .before .before .before .before .before in (z .pre .0, below z)
 
 cast-offset : tie.Need-cast-offset
 cast-offset c = search needs
@@ -42,23 +47,21 @@ add-offset : tie.Need-add-offset
 add-offset c = search needs
 
 piece-next-requires : tie.Need-piece-next-requires
-piece-next-requires c κs = let z = c .before .before .before .before .before .before .before .before .before .before .before .before in (z .pre .0, below z)
+piece-next-requires c κs = let z = c .before .before .before .before .before .before .before .before .before .before .before .before .before .before in (z .pre .0, below z)
 
-cast-take-in-line : tie.Need-cast-take-in-line
-cast-take-in-line c = search needs
+cast-take-piece : tie.Need-cast-take-piece
+cast-take-piece c = search needs
 
-take-in-line-requires : tie.Need-take-in-line-requires
-take-in-line-requires c κs =
+take-piece-requires : tie.Need-take-piece-requires
+take-piece-requires c κs =
     let b = c .before .before .before .before .before .before in
-    let z = b .before .before .before .before .before .before .before .before in
+    let z = b .before .before .before .before .before .before .before .before .before .before in
     let e = ap (λ (x : BufferNumber). x .0) (b .piece-buffer .ensures) in
-    let w = whole (z .pre .0) in (
-      (z .pre .0, omega (arith, z .pre .2 .free-below, total-pieces w), z .pre .1),
-      (omega (arith, e, z .pre .2 .place .in-store, total-buffers w), rw (b .piece-buffer .ensures) (z .pre .2 .place .room)),
-    )
+    let w = whole (z .pre .0) in
+    (z .pre .0, omega (arith, z .pre .2 .free-below, total-pieces w), omega (arith, e, z .pre .2 .place .in-store, total-buffers w), rw (b .piece-buffer .ensures) (z .pre .2 .place .room))
 
-sub-t16 : tie.Need-sub-t16
-sub-t16 c = search needs
+sub-t19 : tie.Need-sub-t19
+sub-t19 c = search needs
 
 same-length : tie.Need-same-length
 same-length c = search needs
@@ -71,16 +74,17 @@ returns c =
     let b = o .before .before in
     let s = b .before .before in
     let l = s .before .before in
-    let z = l .before .before .before .before in
-    let a = z .args in
-    clone-done (decode (a .pool .now)) (a .c) (a .more) (a .tail) (l .piece-length .ensures) (s .lesser .ensures)
-    (ap (λ (x : BufferNumber). x .0) (b .piece-buffer .ensures)) (o .piece-offset .ensures) (n .piece-next .ensures) (t .take-in-line .ensures)
+    let i = l .before .before in
+    let a = i .before .before .before .before .args in
+    clone-done (decode (a .pool .now)) (a .c) (a .more) (a .tail) (i .in-line .ensures) (l .piece-length .ensures) (s .lesser .ensures)
+    (ap (λ (x : BufferNumber). x .0) (b .piece-buffer .ensures)) (o .piece-offset .ensures) (n .piece-next .ensures) (t .take-piece .ensures)
 
 pub clone-piece-spec : {M : Type 1} → statement M
 clone-piece-spec =
     tie.close
     (tie.spec
     sub-lesser
+    in-line-requires
     piece-length-requires
     cast-lesser
     sub-lesser-2
@@ -90,8 +94,8 @@ clone-piece-spec =
     cast-offset
     add-offset
     piece-next-requires
-    cast-take-in-line
-    take-in-line-requires
-    sub-t16
+    cast-take-piece
+    take-piece-requires
+    sub-t19
     same-length
     returns)
