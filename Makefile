@@ -18,8 +18,7 @@ prove:
 	rt check
 
 demo:
-	rt check walkthrough
-	target/bin/walkthrough
+	@tools/demo
 
 lib:
 	rt staticlib slp
