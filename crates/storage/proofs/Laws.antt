@@ -1,12 +1,12 @@
 -- What a loop that stores a byte at each place in turn leaves, and what a part that was lent leaves of the whole.
 use mathlib.Core.Path.{_≡_, refl, sym, ap, _∙_}
-use mathlib.Core.List.{List, [], _∷_, _++_, append-nil}
+use mathlib.Core.List.{List, [], _∷_, _++_, append-nil, append-assoc}
 use Prim.Native.Nat.{ℕ, zero, suc, _+_, _-_, _≤_, _<_}
 use native.Mathlib.Nat.{add-sub-cancel-left}
 use native.Mathlib.Numerals.{add-one}
 use native.Mathlib.Omega.{arith}
-use lib.ListN.{length, take, drop, getD, set, replicate, length-take, length-replicate, length-append, length-drop, drop-of-length-le}
-use lib.Seq.{drop-cons, take-all, take-suc, set-at, append-snoc, drop-drop, take-append-seam}
+use lib.ListN.{length, take, drop, getD, set, replicate, length-take, length-replicate, length-append, length-drop, drop-of-length-le, take-append-drop}
+use lib.Seq.{drop-cons, take-all, take-at, take-take, take-add, take-suc, set-at, append-snoc, drop-drop, drop-append-le, take-append-seam}
 use Rattle.kinds.specs.Limits.{sizeOf, startOf}
 use Rattle.rules.specs.Build.{filled}
 
@@ -57,6 +57,48 @@ lent-filled st xs y b a e h k f =
 -- the n bytes from a on put back as y, which is the n bytes of s from f on
 pub lent-copied : (l s y : List ℕ) (a f n : ℕ) → y ≡ take (f + n - f) (drop f s) → take a l ++ (y ++ drop (a + n - a) (drop a l)) ≡ take a l ++ (take n (drop f s) ++ drop (a + n) l)
 lent-copied l s y a f n e = middle l y a (a + n) (omega arith) ∙ rw (e, add-sub-cancel-left)
+
+-- the n bytes of s from f on, handed on as y, are n bytes; so many has what has them in front, and its first n are these
+pub handed-length : (s y : List ℕ) (f n : ℕ) → f + n ≤ length s → y ≡ take (f + n - f) (drop f s) → length y ≡ n
+handed-length s y f n h e = ap length e ∙ length-middle s f (f + n) (omega arith) h ∙ add-sub-cancel-left f n
+
+pub handed-room : (y l : List ℕ) (n : ℕ) → length y ≡ n → n ≤ length (y ++ l)
+handed-room y l n e = simp length-append (omega arith)
+
+pub handed-front : (y l : List ℕ) (n : ℕ) → length y ≡ n → length (take n (y ++ l)) ≡ n
+handed-front y l n e = ap length (take-at y l n e) ∙ e
+
+-- x written t bytes into the part of s bytes from a on is x written at a + t
+inner-write : (l x : List ℕ) (a s t n : ℕ) → t + n ≤ s → a + s ≤ length l
+    → take a l ++ ((take t (take s (drop a l)) ++ (x ++ drop (t + n) (take s (drop a l)))) ++ drop (a + s) l) ≡ take (a + t) l ++ (x ++ drop (a + t + n) l)
+inner-write l x a s t n h k =
+    let D = drop a l in
+    let front : take a l ++ take t (take s D) ≡ take (a + t) l = ap (λ (q : List ℕ). take a l ++ q) (take-take t s D (omega arith)) ∙ sym (take-add a t l) in
+    let i : a + (t + n) ≡ a + t + n = omega arith in
+    let back : drop (t + n) (take s D) ++ drop (a + s) l ≡ drop (a + t + n) l =
+    ap (λ (q : List ℕ). drop (t + n) (take s D) ++ q) (sym (drop-drop s a l)) ∙ sym (drop-append-le (t + n) (take s D) (drop s D) (simp (length-take, length-drop) (omega arith)))
+    ∙ ap (drop (t + n)) (take-append-drop s D) ∙ drop-drop (t + n) a l ∙ ap (λ j. drop j l) i in
+    simp append-assoc (rw back (sym (append-assoc (take a l) (take t (take s D)) _) ∙ ap (λ (q : List ℕ). q ++ (x ++ drop (a + t + n) l)) front))
+
+-- the stretch of buffer b, from its start a on, put back as y, which has the n bytes of st from f on, by way of the block w, t bytes into it
+pub lent-part : (st y z w : List ℕ) (b a t f n : ℕ) → a ≡ startOf b → startOf b + sizeOf b ≤ length st → t + n ≤ sizeOf b → f + n ≤ length st
+    → w ≡ take 0 z ++ (take n (drop f st) ++ drop (0 + n) z)
+    → y ≡ take t (take (a + sizeOf b - a) (drop a st)) ++ (take n (drop 0 w) ++ drop (t + n) (take (a + sizeOf b - a) (drop a st)))
+    → take a st ++ (y ++ drop (a + sizeOf b - a) (drop a st)) ≡ take (startOf b + t) st ++ (take n (drop f st) ++ drop (startOf b + t + n) st)
+lent-part st y z w b a t f n e h k i ew ey =
+    let x = take n (drop f st) in
+    let l : length x ≡ n = simp (length-take, length-drop) (omega arith) in
+    let v : take n (drop 0 w) ≡ x = ap (take n) ew ∙ take-at x (drop (0 + n) z) n l in
+    let m : a + sizeOf b - a ≡ sizeOf b = add-sub-cancel-left a (sizeOf b) in
+    middle st y a (a + sizeOf b) (omega arith) ∙ rw (ey, v, m, e) (inner-write st x (startOf b) (sizeOf b) t n k h)
+
+-- the stretch of buffer b from its byte n on, put back as z, which is zeros
+pub lent-rest : (st z : List ℕ) (b a n : ℕ) → a ≡ startOf b → startOf b + sizeOf b ≤ length st → n ≤ sizeOf b
+    → z ≡ replicate (length (take (a + sizeOf b - (a + n)) (drop (a + n) st))) 0
+    → take (a + n) st ++ (z ++ drop (a + sizeOf b - (a + n)) (drop (a + n) st)) ≡ take (startOf b + n) st ++ (replicate (sizeOf b - n) 0 ++ drop (startOf b + sizeOf b) st)
+lent-rest st z b a n e h k f =
+    let m : length (take (a + sizeOf b - (a + n)) (drop (a + n) st)) ≡ sizeOf b - n = length-middle st (a + n) (a + sizeOf b) (omega arith) (omega arith) ∙ omega arith in
+    middle st z (a + n) (a + sizeOf b) (omega arith) ∙ rw (f, m, e)
 
 -- what stands from n on put back as z, which is zeros
 pub lent-zeroed : (l z : List ℕ) (n : ℕ) → n ≤ length l → z ≡ replicate (length (take (length l - n) (drop n l))) 0

@@ -4,8 +4,11 @@ ghost use mathlib.Core.Path.{_≡_};
 ghost use mathlib.Core.List.{_++_};
 ghost use Prim.Native.Nat.{_+_, _-_, _≤_};
 ghost use lib.ListN.{length, take, drop, replicate};
-ghost use Rattle.kinds.specs.Limits.{sizeOf, startOf};
+ghost use Rattle.kinds.specs.Limits.{bufferSize, sizeOf, startOf};
 ghost use Rattle.rules.specs.Build.{filled};
+
+// The bytes of a buffer, to count and to index by.
+const SIZE: usize = BufferNumber::SIZE as usize;
 
 // Sets every byte of `s` to zero: a memset.
 pub fn zero(s: &mut [u8])
@@ -50,16 +53,41 @@ pub fn fill_buffer(storage: &mut [u8], b: BufferNumber, input: &[u8])
     ensures { λ _. ⌜ now (storage .exit) ≡ filled (now (storage .entry)) (b .0) (now (input .entry)) ⌝ }
 {
     let start = b.start();
-    let end = start + BufferNumber::SIZE as usize;
+    let end = start + SIZE;
     fill(&mut storage[start..end], input);
 }
 
-// Copies the `n` bytes of `src` from `from` on over those of `dst` from `at` on: a ranged memcpy.
+// Copies the `n` bytes of `src` from `from` on over those of `dst` from `at` on, at most a buffer's, by way of a local array, of which the compiler makes one memmove.
 pub fn copy_part(dst: &mut [u8], at: usize, src: &[u8], from: usize, n: usize)
-    requires { ⌜ (at + n ≤ length (now dst)) × (from + n ≤ length (now src)) ⌝ }
+    requires { ⌜ (at + n ≤ length (now dst)) × (from + n ≤ length (now src)) × (n ≤ bufferSize) ⌝ }
     ensures { λ _. ⌜ now (dst .exit) ≡ take at (now (dst .entry)) ++ (take n (drop from (now (src .entry))) ++ drop (at + n) (now (dst .entry))) ⌝ }
 {
     let end = at + n;
     let last = from + n;
-    copy(&mut dst[at..end], &src[from..last]);
+    let mut block = [0u8; SIZE];
+    copy(&mut block[..n], &src[from..last]);
+    copy(&mut dst[at..end], &block[..n]);
+}
+
+// Sets the bytes of buffer `b` from `at` on to the `n` bytes of storage from `from` on: only its stretch is lent to be written (a cluster write from another).
+pub fn fill_part(storage: &mut [u8], b: BufferNumber, at: usize, from: usize, n: usize)
+    requires { ⌜ (startOf (b .0) + sizeOf (b .0) ≤ length (now storage)) × (at + n ≤ sizeOf (b .0)) × (from + n ≤ length (now storage)) ⌝ }
+    ensures { λ _. ⌜ now (storage .exit) ≡ take (startOf (b .0) + at) (now (storage .entry)) ++ (take n (drop from (now (storage .entry))) ++ drop (startOf (b .0) + at + n) (now (storage .entry))) ⌝ }
+{
+    let start = b.start();
+    let end = start + SIZE;
+    let mut block = [0u8; SIZE];
+    copy_part(&mut block, 0, storage, from, n);
+    copy_part(&mut storage[start..end], at, &block, 0, n);
+}
+
+// Sets the bytes of buffer `b` from `n` on to zero: only its stretch is lent (the rest of a cluster cleared).
+pub fn fill_rest(storage: &mut [u8], b: BufferNumber, n: usize)
+    requires { ⌜ (startOf (b .0) + sizeOf (b .0) ≤ length (now storage)) × (n ≤ sizeOf (b .0)) ⌝ }
+    ensures { λ _. ⌜ now (storage .exit) ≡ take (startOf (b .0) + n) (now (storage .entry)) ++ (replicate (sizeOf (b .0) - n) 0 ++ drop (startOf (b .0) + sizeOf (b .0)) (now (storage .entry))) ⌝ }
+{
+    let start = b.start();
+    let from = start + n;
+    let end = start + SIZE;
+    zero(&mut storage[from..end]);
 }

@@ -4,17 +4,15 @@ use mathlib.Core.List.{List, [], _∷_, List·Memᴰ·eq-of-singleton}
 use Prim.Native.Nat.{ℕ, _+_, _-_, _≤_, _<_, min}
 use native.Mathlib.Omega.{arith}
 use lib.ListN.{length, take, drop}
-use lib.Seq.{take-all, take-take, drop-drop, take-at}
-use lib.Dec.{eqb→eq}
+use lib.Seq.{take-all, take-take, drop-drop}
 use Rattle.kinds.specs.Limits.{bufferSize}
 use Rattle.rules.specs.Basics.{Is}
-use Rattle.rules.specs.Tables.{Tables, bufferCount, pieceTotal, bufferTotal}
+use Rattle.rules.specs.Tables.{Tables, pieceTotal, bufferTotal}
 use Rattle.rules.specs.Chain.{walk, stretches, total, contents}
 use Rattle.rules.specs.Sound.{linkOk, SoundTables}
 use Rattle.rules.specs.Room.{isUnheld, freeBuffers, newBuffers}
 use Rattle.rules.specs.Build.{buffersFor, filled, stored}
-use Rattle.rules.specs.Read.{copied}
-use Rattle.rules.proofs.Moves.{SoundBy, buffer-pos}
+use Rattle.rules.proofs.Moves.{SoundBy}
 use Rattle.rules.proofs.Audit.{tables-now}
 use Rattle.rules.proofs.Chain.{AllUsed}
 use Rattle.rules.proofs.Contents.{Fit, Off, contents-length, filled-length, stored-others}
@@ -25,6 +23,7 @@ use Rattle.transfer.specs.declared.Cursor.{Cursor}
 use Rattle.transfer.specs.Behind.{InPiece, behind}
 use Rattle.transfer.proofs.Behind.{Behind, behind-found, start-inside}
 use Rattle.transfer.proofs.Copy.{drop-take, take-most, drop-most, bytesFrom, bytes-count}
+use Rattle.transfer.proofs.Move.{unheld-other}
 use Rattle.transfer.proofs.Fill.{Filling, filling-first, filling-done, filling-below, filling-passes, filling-on}
 
 -- ---- one buffer
@@ -34,7 +33,7 @@ used-off : {rank : ℕ → ℕ} (T : Tables) (b : ℕ) (ds : List ℕ) → Sound
 unfolding stretches
 used-off T b [] S t u = tt
 used-off T b (d ∷ ds) S t u = (
-  λ m. omega (arith, eqb→eq (bufferCount T b) 0 t, buffer-pos d (u .0) S, ap (bufferCount T) (List·Memᴰ·eq-of-singleton m)),
+  λ m. unheld-other T b d S t (u .0) (List·Memᴰ·eq-of-singleton m),
   used-off T b ds S t (u .1),
 )
 
@@ -53,10 +52,6 @@ pub bytes-all : (T : Tables) (st : List ℕ) (l : ℕ) → SoundTables T → Fit
 bytes-all T st l sound s t =
     let xs = stretchesFrom T l in
     take-all (total xs) (contents st xs) (omega (arith, contents-length (bufferTotal T) st xs s (stretches-in T l sound t)))
-
--- bytes that were copied out are the front of what they were copied to
-pub bytes-front : (T : Tables) (st : List ℕ) (c : Cursor) (n : ℕ) (out : List ℕ) {part : List ℕ} → length (bytesFrom T st c n) ≡ n → part ≡ copied (bytesFrom T st c n) out → take n part ≡ bytesFrom T st c n
-bytes-front T st c n out l e = ap (take n) e ∙ take-at (bytesFrom T st c n) _ n l
 
 -- the chain has n bytes more from the place c on, which are still to go to the lowest free buffers from i on
 pub record Refilling (T : Tables) (goal : List ℕ) (i : ℕ) (st : List ℕ) (c : Cursor) (n : ℕ) : Type 0 where
@@ -97,6 +92,10 @@ module _ {T : Tables} {goal : List ℕ} {i : ℕ} {st : List ℕ} {c : Cursor} {
     pub refilling-below : b < bufferTotal T
     refilling-below = filling-below (w .filling) some eb
 
+    -- which no piece lies on
+    pub refilling-free : Is (isUnheld T b)
+    refilling-free = filling-passes (w .filling) some eb
+
     -- and once it is filled the refill goes on behind the bytes that went there
     pub refilling-on : {m : ℕ} {st′ : List ℕ} {c′ : Cursor} → m ≡ min n bufferSize → st′ ≡ filled st b (bytesFrom T st c m) → c′ ≡ behind T c m → Refilling T goal (b + 1) st′ c′ (n - m)
     refilling-on {m} {st′} {c′} em es ec =
@@ -107,7 +106,7 @@ module _ {T : Tables} {goal : List ℕ} {i : ℕ} {st : List ℕ} {c : Cursor} {
         let s : Fit (bufferTotal T) st′ = ap length es ∙ filled-length (bufferTotal T) st b _ (w .filling .fits) below ∙ w .filling .fits in
         let same : contents st′ (stretchesFrom T (c .link)) ≡ contents st (stretchesFrom T (c .link)) =
         ap (λ (q : List ℕ). contents q (stretchesFrom T (c .link))) es
-        ∙ chain-stays T (c .link) b st _ sound (w .good) (w .filling .fits) below (filling-passes (w .filling) some eb) in
+        ∙ chain-stays T (c .link) b st _ sound (w .good) (w .filling .fits) below refilling-free in
         let part : take m D ≡ take bufferSize (take n D) = sym (take-most bufferSize m (take n D) k ∙ take-take m n D (omega arith)) in
         let rest : take (n - m) (drop (c′ .into) (contents st′ (stretchesFrom T (c′ .link)))) ≡ drop bufferSize (take n D) =
         ap (take (n - m)) (sym (r .rest st′ s) ∙ ap (drop (c .into + m)) same ∙ sym (drop-drop m (c .into) _))

@@ -7,6 +7,7 @@ use native.Mathlib.Decide.{decLe}
 use native.Mathlib.Omega.{arith}
 use lib.ListN.{length, take, drop, length-append, length-take, length-drop, drop-of-length-le, take-append-drop}
 use lib.Seq.{length-take-le, take-nil, take-all, take-at, drop-at, take-take, drop-drop, take-add, take-append-le, drop-append-le}
+use Rattle.kinds.specs.Limits.{bufferSize}
 use Rattle.rules.specs.Basics.{Is}
 use Rattle.rules.specs.Tables.{Tables, piece, pieceTotal, bufferTotal}
 use Rattle.rules.specs.Chain.{Stretch, stretch, total, positionOf, bytesOf, contents}
@@ -16,7 +17,8 @@ use Rattle.rules.proofs.Contents.{Fit, bytes-length, contents-length}
 use Rattle.chain.specs.Length.{stretchesFrom}
 use Rattle.chain.proofs.Links.{InUse, link-leads, length-empty, stretches-on, stretches-in}
 use Rattle.transfer.specs.declared.Cursor.{Cursor}
-use Rattle.transfer.specs.Behind.{InPiece, behind, advanced}
+use Rattle.transfer.specs.declared.Extent.{Extent}
+use Rattle.transfer.specs.Behind.{InPiece, extentAt, behind, advanced}
 use Rattle.transfer.proofs.Behind.{Behind, behind-none, behind-advanced, advanced-behind}
 
 -- ---- parts of lists
@@ -119,34 +121,53 @@ module _ {T : Tables} {st goal : List ℕ} {end g : Cursor} {n t : ℕ} {out : L
     pub going-before : g .into < piece T (g .link - 1) .len
     going-before = w .inside going-some
 
-    module _ (fit : Fit (bufferTotal T) st) where
-      -- and which lies in the storage
-      pub going-inside : positionOf (stretch (piece T (g .link - 1))) + piece T (g .link - 1) .len ≤ length st
-      going-inside = omega (arith, going-piece .in-store, going-piece .inside)
+    module _ (fit : Fit (bufferTotal T) st) {x : Extent} (ex : x ≡ extentAt T g n) where
+      -- the next extent: where it starts, and its bytes
+      pub going-start : x .start ≡ positionOf (stretch (piece T (g .link - 1))) + g .into
+      going-start = ap (λ (q : Extent). q .start) ex
 
-      -- once k bytes of it are copied, the copy goes on behind them
-      pub going-on : {k f : ℕ} {g′ : Cursor} {out′ : List ℕ} → k ≤ n → length out′ ≡ length out → g .into + k ≤ piece T (g .link - 1) .len → g′ ≡ advanced T g k → f ≡ positionOf (stretch (piece T (g .link - 1)))
-          → out′ ≡ take t out ++ (take k (drop (f + g .into) st) ++ drop (t + k) out) → Going T st goal end g′ (n - k) (t + k) out′
-      going-on {k} {f} {g′} {out′} l keeps i eg ef eo =
-          let x = stretch (piece T (g .link - 1)) in
+      going-size : x .count ≡ min n (piece T (g .link - 1) .len - g .into)
+      going-size = ap (λ (q : Extent). q .count) ex
+
+      -- it has some, no more than are left, and no more than a buffer
+      pub going-count : (0 < x .count) × (x .count ≤ n) × (x .count ≤ bufferSize)
+      going-count = (omega (arith, going-size, going-before), omega (arith, going-size), omega (arith, going-size, going-piece .inside))
+
+      -- they are of the piece, and so lie in the storage
+      pub going-within : g .into + x .count ≤ piece T (g .link - 1) .len
+      going-within = omega (arith, going-size, going-before)
+
+      pub going-lies : x .start + x .count ≤ length st
+      going-lies = omega (arith, going-start, going-within, going-piece .in-store, going-piece .inside)
+
+      -- once they are copied, the copy goes on behind them
+      pub going-on : {g′ : Cursor} {out′ : List ℕ} → g′ ≡ advanced T g (x .count) → out′ ≡ take t out ++ (take (x .count) (drop (x .start) st) ++ drop (t + x .count) out)
+          → (length out′ ≡ length out) × Going T st goal end g′ (n - x .count) (t + x .count) out′
+      going-on {g′} {out′} eg eo =
+          let k = x .count in
+          let y = stretch (piece T (g .link - 1)) in
           let u = going-piece in
+          let i = going-within in
+          let l = going-count .1 in
           let b = subst (Behind T g k) (sym eg) (advanced-behind T g k sound (w .good) going-some i) in
           let e : k + (n - k) ≡ n = omega arith in
           let D = drop (g .into) (contents st (stretchesFrom T (g .link))) in
-          let part : take k D ≡ take k (drop (f + g .into) st) =
+          let part : take k D ≡ take k (drop (x .start) st) =
           ap (λ (q : List Stretch). take k (drop (g .into) (contents st q))) (stretches-on T (g .link) sound (w .good) going-some)
-          ∙ first-bytes st x _ (g .into) k (bytes-length (bufferTotal T) st x fit (u .in-store) (u .inside)) i
-          ∙ ap (λ j. take k (drop (j + g .into) st)) (sym ef) in
+          ∙ first-bytes st y _ (g .into) k (bytes-length (bufferTotal T) st y fit (u .in-store) (u .inside)) i ∙ ap (λ j. take k (drop j st)) (sym going-start) in
           let rest : drop k D ≡ drop (g′ .into) (contents st (stretchesFrom T (g′ .link))) = drop-drop k (g .into) _ ∙ b .rest st fit in
-          let w₀ = take k (drop (f + g .into) st) in
+          let w₀ = take k (drop (x .start) st) in
           let all : bytesFrom T st g n ≡ w₀ ++ bytesFrom T st g′ (n - k) = ap (λ j. take j D) (sym e) ∙ take-add k (n - k) D ∙ ap₂ _++_ part (ap (take (n - k)) rest) in
           let count : length w₀ ≡ k = sym (ap length part) ∙ bytes-count T st g k sound fit (w .good) (omega (arith, w .enough)) in
-          record {
-            good = b .good;
-            inside = b .inside;
-            enough = omega (arith, b .lengths, w .enough);
-            room = omega (arith, w .room);
-            ends = ap (λ (q : Cursor). behind T q (n - k)) eg ∙ behind-advanced T g k sound (w .good) going-some i (n - k) ∙ ap (behind T g) e ∙ w .ends;
-            same = ap (λ (q : List ℕ). take (t + k) q ++ (bytesFrom T st g′ (n - k) ++ drop (t + k + (n - k)) q)) eo
-                ∙ sym (two-writes out w₀ (bytesFrom T st g′ (n - k)) t k n count l (w .room)) ∙ ap (λ (q : List ℕ). take t out ++ (q ++ drop (t + n) out)) (sym all) ∙ w .same;
-          }
+          let keeps : length out′ ≡ length out = ap length eo ∙ simp (length-append, count, length-take, length-drop) (omega (arith, w .room)) in (
+            keeps,
+            record {
+              good = b .good;
+              inside = b .inside;
+              enough = omega (arith, b .lengths, w .enough);
+              room = omega (arith, w .room, keeps);
+              ends = ap (λ (q : Cursor). behind T q (n - k)) eg ∙ behind-advanced T g k sound (w .good) going-some i (n - k) ∙ ap (behind T g) e ∙ w .ends;
+              same = ap (λ (q : List ℕ). take (t + k) q ++ (bytesFrom T st g′ (n - k) ++ drop (t + k + (n - k)) q)) eo
+                  ∙ sym (two-writes out w₀ (bytesFrom T st g′ (n - k)) t k n count l (w .room)) ∙ ap (λ (q : List ℕ). take t out ++ (q ++ drop (t + n) out)) (sym all) ∙ w .same;
+            },
+          )

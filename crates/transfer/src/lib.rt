@@ -19,7 +19,7 @@ ghost use Rattle.tables.specs.Shape.{Shaped};
 ghost use Rattle.chain.specs.Opened.{Opened};
 ghost use Rattle.chain.specs.Length.{stretchesFrom};
 ghost use Rattle.chain.specs.Free.{lowestFor};
-ghost use Rattle.transfer.specs.Behind.{InPiece, advanced, behind};
+ghost use Rattle.transfer.specs.Behind.{InPiece, extentAt, advanced, behind};
 
 // The bytes of a buffer, to count and to index by.
 const SIZE: usize = BufferNumber::SIZE as usize;
@@ -28,6 +28,12 @@ const SIZE: usize = BufferNumber::SIZE as usize;
 pub struct Cursor {
     pub link: u16,
     pub into: u32,
+}
+
+// Bytes of a chain that lie together in storage, where they start and how many: an extent.
+struct Extent {
+    start: usize,
+    count: u32,
 }
 
 // How many buffers `n` bytes need: a ceiling division.
@@ -69,6 +75,22 @@ fn advance(pool: &[u8], shape: Shape, c: Cursor, k: u32) -> Cursor
     }
 }
 
+// The bytes from the place `c` on that its piece has, at most `most`: a gather's next extent.
+fn extent_at(pool: &[u8], shape: Shape, c: Cursor, most: u32) -> Extent
+    requires { ⌜ Shaped (now pool) shape × (c .link ≤ shape .pieces) × (c .link ≡ 0 → ⊥) ⌝ }
+    requires { ⌜ c .into ≤ piece (decode (now pool)) (c .link - 1) .len ⌝ }
+    ensures { λ r. ⌜ r ≡ extentAt (decode (now (pool .entry))) c most ⌝ }
+{
+    let d = PieceNumber(c.link - 1);
+    let length = tables::piece_length(pool, shape, d) as u32;
+    let count = kinds::lesser(most, length - c.into);
+    let start = position(pool, shape, d) + c.into as usize;
+    Extent {
+        start: start,
+        count: count,
+    }
+}
+
 // Copies the `n` bytes from the place `c` on to the front of `output`, one piece after another, and answers the place behind them: a gather.
 pub fn gather(
     pool: &[u8],
@@ -88,14 +110,11 @@ pub fn gather(
     let mut left = n;
     let mut at = 0;
     while 0 < left {
-        let d = PieceNumber(g.link - 1);
-        let length = tables::piece_length(pool, shape, d) as u32;
-        let k = kinds::lesser(left, length - g.into);
-        let from = position(pool, shape, d) + g.into as usize;
-        storage::copy_part(output, at, storage, from, k as usize);
-        left -= k;
-        at += k as usize;
-        g = advance(pool, shape, g, k);
+        let x = extent_at(pool, shape, g, left);
+        storage::copy_part(output, at, storage, x.start, x.count as usize);
+        left -= x.count;
+        at += x.count as usize;
+        g = advance(pool, shape, g, x.count);
     }
     g
 }
@@ -129,7 +148,7 @@ pub fn fill_free(pool: &[u8], shape: Shape, storage: &mut [u8], input: &[u8], bu
     }
 }
 
-// Fills buffer `b` with the `n` bytes of a chain from the place `c` on and then zeros, by way of `part`, and answers the place behind them: one cluster of a gather.
+// Fills the free buffer `b` with the `n` bytes of a chain from the place `c` on, one piece after another, and then zeros; answers the place behind them: one cluster of a gather.
 fn refill_buffer(
     pool: &[u8],
     shape: Shape,
@@ -137,18 +156,25 @@ fn refill_buffer(
     c: Cursor,
     n: u32,
     b: BufferNumber,
-    part: &mut [u8],
 ) -> Cursor
     requires { ⌜ Opened (now pool) shape × Is (linkOk (decode (now pool)) (c .link)) × InPiece (decode (now pool)) c ⌝ }
-    requires { ⌜ (length (now storage) ≡ storageLength (shape .buffers)) × (b .0 < shape .buffers) ⌝ }
-    requires { ⌜ (c .into + n ≤ total (stretchesFrom (decode (now pool)) (c .link))) × (n ≤ bufferSize) × (length (now part) ≡ bufferSize) ⌝ }
+    requires { ⌜ (length (now storage) ≡ storageLength (shape .buffers)) × (b .0 < shape .buffers) × Is (isUnheld (decode (now pool)) (b .0)) ⌝ }
+    requires { ⌜ (c .into + n ≤ total (stretchesFrom (decode (now pool)) (c .link))) × (n ≤ bufferSize) ⌝ }
     ensures { λ _. ⌜ now (storage .exit) ≡ filled (now (storage .entry)) (b .0) (take n (drop (c .into) (contents (now (storage .entry)) (stretchesFrom (decode (now (pool .entry))) (c .link))))) ⌝ }
     ensures { λ r. ⌜ r ≡ behind (decode (now (pool .entry))) c n ⌝ }
 {
-    let next = gather(pool, shape, storage, c, n, part);
-    let m = n as usize;
-    storage::fill_buffer(storage, b, &part[..m]);
-    next
+    let mut g = c;
+    let mut left = n;
+    let mut at = 0;
+    while 0 < left {
+        let x = extent_at(pool, shape, g, left);
+        storage::fill_part(storage, b, at, x.start, x.count as usize);
+        left -= x.count;
+        at += x.count as usize;
+        g = advance(pool, shape, g, x.count);
+    }
+    storage::fill_rest(storage, b, n as usize);
+    g
 }
 
 // Fills the lowest free buffers, from `buffer` on, with the first `n` bytes of the chain from `link`, in order, and the rest of the last with zeros: a gather into fresh clusters.
@@ -165,11 +191,10 @@ pub fn refill(pool: &[u8], shape: Shape, storage: &mut [u8], link: u16, n: u32, 
     };
     let mut left = n;
     let mut from = buffer;
-    let mut part = [0u8; SIZE];
     while 0 < left {
         let b = BufferNumber(chain::next_free_buffer(pool, shape, from));
         let m = kinds::lesser(left, BufferNumber::SIZE as u32);
-        c = refill_buffer(pool, shape, storage, c, m, b, &mut part);
+        c = refill_buffer(pool, shape, storage, c, m, b);
         left = left - m;
         from = b.0 + 1;
     }

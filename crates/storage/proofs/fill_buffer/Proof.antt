@@ -7,9 +7,6 @@ use Rattle.storage.proofs.fill_buffer.Tie as tie
 start-requires : tie.Need-start-requires
 start-requires c κs = search needs
 
-cast-end : tie.Need-cast-end
-cast-end c = search needs
-
 add-end : tie.Need-add-end
 add-end c = search needs
 
@@ -40,7 +37,6 @@ fill-buffer-spec =
     tie.close
     (tie.spec
     start-requires
-    cast-end
     add-end
     sub-fill
     part-fill-start

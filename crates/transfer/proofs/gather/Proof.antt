@@ -1,19 +1,18 @@
 -- `transfer::gather` meets its contract: the bytes from the place `g` on are still to go to the place `at` of the output. Assumes nothing.
 use mathlib.Core.Path.{_≡_, refl, sym, ap, _∙_}
-use Prim.Native.Nat.{ℕ, _+_, _-_, _≤_, _<_}
+use Prim.Native.Nat.{_+_, _-_, _≤_, _<_}
 use native.Mathlib.Omega.{arith}
 use borrow.Author.Needs.{needs}
 use lib.ListN.{length}
-use Rattle.rules.specs.Tables.{Piece, piece, bufferTotal}
+use Rattle.kinds.specs.Limits.{bufferSize}
 use Rattle.rules.specs.Layout.{storageLength}
+use Rattle.rules.specs.Tables.{piece, bufferTotal}
 use Rattle.rules.specs.Bytes.{decode}
-use Rattle.rules.specs.Chain.{stretch, positionOf}
 use Rattle.rules.specs.Read.{copied}
 use Rattle.rules.proofs.Contents.{Fit}
 use Rattle.tables.proofs.Laws.{whole, total-pieces, total-buffers}
-use Rattle.chain.proofs.Links.{InUse}
 use Rattle.transfer.specs.Behind.{behind}
-use Rattle.transfer.proofs.Copy.{bytesFrom, Going, going-first, going-some, going-piece, going-inside, going-before, going-on, going-done, going-end}
+use Rattle.transfer.proofs.Copy.{bytesFrom, Going, going-first, going-some, going-piece, going-before, going-count, going-within, going-lies, going-on, going-done, going-end}
 use Rattle.transfer.proofs.gather.Statement.{statement}
 use Rattle.transfer.proofs.gather.Tie as tie
 
@@ -35,67 +34,29 @@ loop-holds c =
     let p = z .pre in
     (refl, going-first (decode (z .args .pool .now)) (z .args .storage .now) (z .args .c) (z .args .n) (z .args .output .now) (p .0 .0 .sound) (fits z) (p .0 .1) (p .0 .2) (p .1 .1 .0) (p .1 .1 .1))
 
-module _ (c : tie.In-loop Inv-loop μ-loop) where
-  -- the piece that the link leads to, piece d
-  abbrev d : ℕ
-  d = c .before .loop .g .link - 1
+extent-at-requires : tie.Need-extent-at-requires Inv-loop μ-loop
+extent-at-requires c κs =
+    let o = c .before .before .before .before .before .pre .0 .0 in
+    let w = c .before .loop .inv .1 in
+    let h = c .loop-test .taken in
+    ((o .shaped, omega (arith, going-piece (o .sound) w h .below, total-pieces (whole (o .shaped)), going-some (o .sound) w h), going-some (o .sound) w h), omega (arith, going-before (o .sound) w h))
 
-  abbrev start : tie.Start Inv-loop μ-loop
-  start = c .before .before .before .before .before
+-- what is known of the next extent
+module _ (c : tie.After-extent-at Inv-loop μ-loop) where
+  abbrev i : tie.In-loop Inv-loop μ-loop
+  i = c .before
 
-  abbrev it : Piece
-  it = piece (decode (start .args .pool .now)) d
+  abbrev z : tie.Start Inv-loop μ-loop
+  z = i .before .before .before .before .before
 
-  -- it is in use
-  leads : InUse (decode (start .args .pool .now)) d
-  leads = going-piece (start .pre .0 .0 .sound) (c .before .loop .inv .1) (c .loop-test .taken)
+  counts : (0 < c .extent-at .result .count) × (c .extent-at .result .count ≤ i .before .loop .left) × (c .extent-at .result .count ≤ bufferSize)
+  counts = going-count (z .pre .0 .0 .sound) (i .before .loop .inv .1) (i .loop-test .taken) (fits z) (c .extent-at .ensures)
 
-  -- and one of the pool's
-  below : d < start .args .shape .pieces
-  below = omega (arith, leads .below, total-pieces (whole (start .pre .0 .0 .shaped)))
+  within : i .before .loop .g .into + c .extent-at .result .count ≤ piece (decode (z .args .pool .now)) (i .before .loop .g .link - 1) .len
+  within = going-within (z .pre .0 .0 .sound) (i .before .loop .inv .1) (i .loop-test .taken) (fits z) (c .extent-at .ensures)
 
-  -- it lies in the storage
-  stored : positionOf (stretch it) + it .len ≤ length (start .args .storage .now)
-  stored = going-inside (start .pre .0 .0 .sound) (c .before .loop .inv .1) (c .loop-test .taken) (fits start)
-
-  -- and the place lies inside it
-  before : c .before .loop .g .into < it .len
-  before = going-before (start .pre .0 .0 .sound) (c .before .loop .inv .1) (c .loop-test .taken)
-
--- the bytes to copy are of that piece
-within : (c : tie.After-lesser Inv-loop μ-loop) → c .before .before .before .before .before .loop .g .into + c .lesser .result ≤ it (c .before .before .before .before) .len
-within c = omega (arith, c .lesser .ensures, c .before .before .piece-length .ensures, before (c .before .before .before .before))
-
-sub-length : tie.Need-sub-length Inv-loop μ-loop
-sub-length c =
-    let i = c .before in
-    omega (arith, going-some (i .before .before .before .before .before .pre .0 .0 .sound) (i .before .loop .inv .1) (i .loop-test .taken))
-
-piece-length-requires : tie.Need-piece-length-requires Inv-loop μ-loop
-piece-length-requires c κs = (c .before .before .before .before .before .before .pre .0 .0 .shaped, below (c .before))
-
-cast-length : tie.Need-cast-length Inv-loop μ-loop
-cast-length c = search needs
-
-sub-lesser : tie.Need-sub-lesser Inv-loop μ-loop
-sub-lesser c = omega (arith, c .before .piece-length .ensures, before (c .before .before .before))
-
-lesser-requires : tie.Need-lesser-requires Inv-loop μ-loop
-lesser-requires c κs = search needs
-
-position-requires : tie.Need-position-requires Inv-loop μ-loop
-position-requires c κs =
-    let i = c .before .before .before .before in
-    (i .before .before .before .before .before .pre .0 .0 .shaped, below i)
-
-cast-from : tie.Need-cast-from Inv-loop μ-loop
-cast-from c = search needs
-
-add-from : tie.Need-add-from Inv-loop μ-loop
-add-from c =
-    let k = c .before in
-    let i = k .before .before .before .before .before in
-    omega (arith, k .position .ensures, stored i, before i)
+  lies : c .extent-at .result .start + c .extent-at .result .count ≤ length (z .args .storage .now)
+  lies = going-lies (z .pre .0 .0 .sound) (i .before .loop .inv .1) (i .loop-test .taken) (fits z) (c .extent-at .ensures)
 
 cast-copy-part : tie.Need-cast-copy-part Inv-loop μ-loop
 cast-copy-part c = search needs
@@ -103,44 +64,35 @@ cast-copy-part c = search needs
 copy-part-requires : tie.Need-copy-part-requires Inv-loop μ-loop
 copy-part-requires c κs =
     let e = c .before .before in
-    let k = e .before in
-    let i = k .before .before .before .before in
-    (omega (arith, i .before .loop .inv .1 .room, k .lesser .ensures), omega (arith, e .position .ensures, stored i, within k))
+    (omega (arith, e .before .before .loop .inv .1 .room, counts e .1), lies e, counts e .2)
 
 sub-left : tie.Need-sub-left Inv-loop μ-loop
-sub-left c = omega arith
+sub-left c = omega (arith, counts (c .before .before .before .before .before .before) .1)
 
 cast-at : tie.Need-cast-at Inv-loop μ-loop
 cast-at c = search needs
 
 add-at : tie.Need-add-at Inv-loop μ-loop
 add-at c =
-    let k = c .before .before .before .before .before .before in
-    let i = k .before .before .before .before in
-    let w = i .before .loop .inv in
-    omega (arith, w .1 .room, w .0, k .lesser .ensures, i .before .before .before .before .before .good .1 .1 .1 .1 .1 .0 .0)
+    let e = c .before .before .before .before .before .before .before in
+    let w = e .before .before .loop .inv in
+    omega (arith, w .1 .room, w .0, counts e .1, z e .good .1 .1 .1 .1 .1 .0 .0)
 
 advance-requires : tie.Need-advance-requires Inv-loop μ-loop
 advance-requires c κs =
-    let k = c .before .before .before .before .before .before in
-    let i = k .before .before .before .before in
-    let o = i .before .before .before .before .before .pre .0 .0 in
-    ((o .shaped, omega (arith, below i), going-some (o .sound) (i .before .loop .inv .1) (i .loop-test .taken)), omega (arith, within k))
+    let e = c .before .before .before .before .before .before .before in
+    (extent-at-requires (e .before) κs .0, within e)
 
 loop-less : tie.Need-loop-less Inv-loop μ-loop
-loop-less c =
-    let k = c .before .before .before .before .before .before .before in
-    omega (arith, k .lesser .ensures, k .before .before .piece-length .ensures, before (k .before .before .before .before))
+loop-less c = let e = c .before .before .before .before .before .before .before .before in omega (arith, counts e .0, counts e .1)
 
 loop-again : tie.Need-loop-again Inv-loop μ-loop
 loop-again c =
-    let y = c .before .before .before in
+    let y = c .before .before .before .before .before in
     let e = y .before .before .before in
-    let k = e .before in
-    let i = k .before .before .before .before in
-    let w = i .before .loop .inv in
-    let z = i .before .before .before .before .before in
-    (y .copy-part .kept .0 ∙ w .0, going-on (z .pre .0 .0 .sound) (w .1) (i .loop-test .taken) (fits z) (omega (arith, k .lesser .ensures)) (y .copy-part .kept .0) (within k) (c .advance .ensures) (e .position .ensures) (y .copy-part .ensures))
+    let w = e .before .before .loop .inv in
+    let on = going-on (z e .pre .0 .0 .sound) (w .1) (e .before .loop-test .taken) (fits (z e)) (e .extent-at .ensures) (c .advance .ensures) (y .copy-part .ensures) in
+    (on .0 ∙ w .0, on .1)
 
 same-length : tie.Need-same-length Inv-loop μ-loop
 same-length c = c .before .loop .inv .0
@@ -158,14 +110,7 @@ gather-spec =
     Inv-loop
     μ-loop
     loop-holds
-    sub-length
-    piece-length-requires
-    cast-length
-    sub-lesser
-    lesser-requires
-    position-requires
-    cast-from
-    add-from
+    extent-at-requires
     cast-copy-part
     copy-part-requires
     sub-left

@@ -1,10 +1,9 @@
 -- `transfer::refill` meets its contract: the bytes from the place `c` on are still to go to the lowest free buffers from `from` on. Assumes nothing.
-use mathlib.Core.Path.{_≡_, refl, sym, ap, _∙_}
+use mathlib.Core.Path.{sym, ap, _∙_}
 use Prim.Native.Nat.{_<_}
 use native.Mathlib.Omega.{arith}
 use borrow.Author.Needs.{needs}
-use lib.ListN.{length, take}
-use Rattle.kinds.specs.Limits.{bufferSize}
+use lib.ListN.{take}
 use Rattle.rules.specs.Layout.{storageLength}
 use Rattle.rules.specs.Tables.{bufferTotal}
 use Rattle.rules.specs.Bytes.{decode}
@@ -14,17 +13,17 @@ use Rattle.rules.specs.Build.{buffersFor, stored}
 use Rattle.rules.proofs.Contents.{Fit}
 use Rattle.tables.proofs.Laws.{whole, total-buffers}
 use Rattle.chain.specs.Length.{stretchesFrom}
-use Rattle.transfer.proofs.Afresh.{Refilling, refilling-first, refilling-done, refilling-below, refilling-on}
+use Rattle.transfer.proofs.Afresh.{Refilling, refilling-first, refilling-done, refilling-below, refilling-free, refilling-on}
 use Rattle.transfer.proofs.refill.Statement.{statement}
 use Rattle.transfer.proofs.refill.Tie as tie
 
 abbrev Inv-loop : tie.InvT-loop
-Inv-loop pool shape storage₀ link n buffer c₀ left₀ from₀ part₀ storage c left from part =
+Inv-loop pool shape storage₀ link n buffer c₀ left₀ from₀ storage c left from =
     let T = decode pool in
-    (length part ≡ bufferSize) × Refilling T (stored storage₀ (newBuffers T (buffersFor n)) (take n (contents storage₀ (stretchesFrom T link)))) from storage c left
+    Refilling T (stored storage₀ (newBuffers T (buffersFor n)) (take n (contents storage₀ (stretchesFrom T link)))) from storage c left
 
 abbrev μ-loop : tie.MeasureT-loop
-μ-loop pool shape storage₀ link n buffer c₀ left₀ from₀ part₀ storage c left from part = left
+μ-loop pool shape storage₀ link n buffer c₀ left₀ from₀ storage c left from = left
 
 -- the storage has the pool's buffers
 fits : (c : tie.Start Inv-loop μ-loop) → Fit (bufferTotal (decode (c .args .pool .now))) (c .args .storage .now)
@@ -34,13 +33,13 @@ loop-holds : tie.Need-loop-holds Inv-loop μ-loop
 loop-holds c =
     let z = c .before .before in
     let p = z .pre in
-    (refl, refilling-first (decode (z .args .pool .now)) (z .args .storage .now) (z .args .link) (z .args .n) (p .1 .1 .1) (p .0 .0 .sound) (fits z) (p .0 .1) (p .1 .0 .1) (p .1 .1 .0))
+    refilling-first (decode (z .args .pool .now)) (z .args .storage .now) (z .args .link) (z .args .n) (p .1 .1 .1) (p .0 .0 .sound) (fits z) (p .0 .1) (p .1 .0 .1) (p .1 .1 .0)
 
 -- the buffer found is one of the pool's
 below : (c : tie.After-next-free-buffer Inv-loop μ-loop) → c .next-free-buffer .result < c .before .before .before .before .before .args .shape .buffers
 below c =
     let o = c .before .before .before .before .before .pre .0 .0 in
-    omega (arith, refilling-below (o .sound) (c .before .before .loop .inv .1) (c .before .loop-test .taken) (c .next-free-buffer .ensures), total-buffers (whole (o .shaped)))
+    omega (arith, refilling-below (o .sound) (c .before .before .loop .inv) (c .before .loop-test .taken) (c .next-free-buffer .ensures), total-buffers (whole (o .shaped)))
 
 next-free-buffer-requires : tie.Need-next-free-buffer-requires Inv-loop μ-loop
 next-free-buffer-requires c κs = c .before .before .before .before .pre .0 .0 .shaped
@@ -51,24 +50,21 @@ cast-lesser c = search needs
 lesser-requires : tie.Need-lesser-requires Inv-loop μ-loop
 lesser-requires c κs = search needs
 
-slice-aggregate-refill-buffer : tie.Need-slice-aggregate-refill-buffer Inv-loop μ-loop
-slice-aggregate-refill-buffer c = sym (c .before .before .before .before .before .loop .inv .0)
-
 refill-buffer-requires : tie.Need-refill-buffer-requires Inv-loop μ-loop
 refill-buffer-requires c κs =
-    let e = c .before .before in
+    let e = c .before in
     let t = e .before in
-    let w = t .before .before .loop .inv .1 in
+    let w = t .before .before .loop .inv in
     let o = t .before .before .before .before .before .pre .0 .0 in
     let m = e .lesser .ensures in
-    ((o, w .good, w .inside), ((w .filling .fits ∙ ap storageLength (total-buffers (whole (o .shaped))), below t), (omega (arith, w .enough, m), omega (arith, m), t .before .before .loop .inv .0)))
+    ((o, w .good, w .inside), ((w .filling .fits ∙ ap storageLength (total-buffers (whole (o .shaped))), below t, refilling-free (o .sound) w (t .before .loop-test .taken) (t .next-free-buffer .ensures)), (omega (arith, w .enough, m), omega (arith, m))))
 
 sub-left : tie.Need-sub-left Inv-loop μ-loop
 sub-left c = omega arith
 
 add-from : tie.Need-add-from Inv-loop μ-loop
 add-from c =
-    let t = c .before .before .before .before .before .before .before .before in
+    let t = c .before .before .before .before .before .before in
     omega (arith, below t)
 
 loop-less : tie.Need-loop-less Inv-loop μ-loop
@@ -76,17 +72,17 @@ loop-less c = omega arith
 
 loop-again : tie.Need-loop-again Inv-loop μ-loop
 loop-again c =
-    let k = c .before .before .before .before in
-    let e = k .before .before .before in
+    let k = c .before .before .before in
+    let e = k .before .before in
     let t = e .before in
     let z = t .before .before .before .before .before in
-    (k .refill-buffer .kept .1 .1 .1 .1 .1 .1 .0 ∙ t .before .before .loop .inv .0, refilling-on (z .pre .0 .0 .sound) (t .before .before .loop .inv .1) (t .before .loop-test .taken) (t .next-free-buffer .ensures) (e .lesser .ensures) (k .refill-buffer .ensures .0) (k .refill-buffer .ensures .1))
+    refilling-on (z .pre .0 .0 .sound) (t .before .before .loop .inv) (t .before .loop-test .taken) (t .next-free-buffer .ensures) (e .lesser .ensures) (k .refill-buffer .ensures .0) (k .refill-buffer .ensures .1)
 
 same-length : tie.Need-same-length Inv-loop μ-loop
-same-length c = c .before .loop .inv .1 .filling .fits ∙ sym (fits (c .before .before .before .before))
+same-length c = c .before .loop .inv .filling .fits ∙ sym (fits (c .before .before .before .before))
 
 returns : tie.Need-returns Inv-loop μ-loop
-returns c = refilling-done (c .before .before .before .before .pre .0 .0 .sound) (c .before .loop .inv .1) (c .loop-test .left)
+returns c = refilling-done (c .before .before .before .before .pre .0 .0 .sound) (c .before .loop .inv) (c .loop-test .left)
 
 pub refill-spec : {M : Type 1} → statement M
 refill-spec =
@@ -98,7 +94,6 @@ refill-spec =
     next-free-buffer-requires
     cast-lesser
     lesser-requires
-    slice-aggregate-refill-buffer
     refill-buffer-requires
     sub-left
     add-from
