@@ -37,7 +37,7 @@ fn join(
         return answer::done(pool, shape, a, 0);
     }
     let pieces = chain::pieces_from(pool, shape, next);
-    let room = chain::piece_room(pool, shape, pieces as usize);
+    let room = room::piece_room(pool, shape, pieces as usize);
     if !room.enough {
         return Outcome::Refused(Refusal::Pieces);
     }

@@ -18,8 +18,8 @@ use Rattle.tables.specs.declared.Shape.{Shape}
 use Rattle.tables.specs.Shape.{Holds}
 use Rattle.chain.specs.Opened.{Opened}
 use Rattle.chain.specs.Length.{stretchesFrom}
-use Rattle.chain.specs.Free.{firstFrom}
 use Rattle.chain.proofs.Links.{InUse, link-leads, walk-none, walk-on}
+use Rattle.room.specs.Free.{firstFrom}
 use Rattle.build.specs.declared.Cloning.{Cloning}
 use Rattle.build.specs.declared.InLine.{InLine}
 use Rattle.build.specs.Line.{linkInLine, inLine}

@@ -18,8 +18,8 @@ use Rattle.rules.proofs.Contents.{laid-count}
 use Rattle.tables.specs.declared.Shape.{Shape}
 use Rattle.tables.specs.Shape.{Holds}
 use Rattle.chain.specs.Opened.{Opened}
-use Rattle.chain.specs.Free.{firstFrom, lowestFor}
-use Rattle.chain.proofs.Free.{first-lies, lowest-all}
+use Rattle.room.specs.Free.{firstFrom, lowestFor}
+use Rattle.room.proofs.Free.{first-lies, lowest-all}
 use Rattle.build.specs.declared.Laying.{Laying}
 use Rattle.build.specs.declared.InLine.{InLine}
 use Rattle.build.specs.Line.{linkInLine, inLine}

@@ -21,8 +21,8 @@ use Rattle.rules.proofs.Room.{places-in, above-not}
 use Rattle.tables.specs.declared.Shape.{Shape}
 use Rattle.tables.proofs.Laws.{whole, total-pieces}
 use Rattle.chain.specs.Opened.{Opened}
-use Rattle.chain.specs.Free.{firstFrom}
-use Rattle.chain.proofs.Free.{places-first, first-lies, count-most}
+use Rattle.room.specs.Free.{firstFrom}
+use Rattle.room.proofs.Free.{places-first, first-lies, count-most}
 use Rattle.build.specs.declared.InLine.{InLine}
 use Rattle.build.specs.Line.{nextInLine, linkInLine, inLine}
 use Rattle.build.proofs.Laws.{buffer-most}

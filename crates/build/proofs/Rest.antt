@@ -18,8 +18,8 @@ use Rattle.rules.specs.Drop.{shorter, dropHere}
 use Rattle.tables.specs.declared.Shape.{Shape}
 use Rattle.tables.specs.Shape.{Holds}
 use Rattle.tables.proofs.Laws.{onward}
-use Rattle.chain.specs.Free.{firstFrom}
 use Rattle.chain.specs.Rest.{restFrom}
+use Rattle.room.specs.Free.{firstFrom}
 use Rattle.build.proofs.Line.{First, freeFrom, from-first}
 
 -- ---- the plan

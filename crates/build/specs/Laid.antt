@@ -4,7 +4,7 @@ use Rattle.kinds.specs.Limits.{sizeOf}
 use Rattle.rules.specs.Tables.{Tables, pieceTotal, bufferTotal}
 use Rattle.rules.specs.Chain.{Stretch}
 use Rattle.rules.specs.Room.{isUnheld}
-use Rattle.chain.specs.Free.{firstFrom}
+use Rattle.room.specs.Free.{firstFrom}
 use Rattle.build.specs.declared.Laying.{Laying}
 use Rattle.build.specs.Line.{nextInLine}
 

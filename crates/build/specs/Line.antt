@@ -2,7 +2,7 @@
 use Prim.Native.Nat.{ℕ, zero, suc}
 use Rattle.rules.specs.Tables.{Tables, pieceTotal}
 use Rattle.rules.specs.Room.{isFree}
-use Rattle.chain.specs.Free.{firstFrom}
+use Rattle.room.specs.Free.{firstFrom}
 use Rattle.build.specs.declared.InLine.{InLine}
 
 -- the piece after f in line, where k more are to come; f itself where none is

@@ -16,9 +16,9 @@ ghost use Rattle.rules.specs.Build.{taken, fresh, built, builtLink, made, madeL
 ghost use Rattle.rules.specs.Drop.{shorter};
 ghost use Rattle.tables.specs.Shape.{Shaped, Holds};
 ghost use Rattle.chain.specs.Opened.{Opened};
-ghost use Rattle.chain.specs.Free.{lowestFor};
 ghost use Rattle.chain.specs.Length.{stretchesFrom};
 ghost use Rattle.chain.specs.Rest.{restFrom};
+ghost use Rattle.room.specs.Free.{lowestFor};
 ghost use Rattle.build.specs.Share.{Sharable};
 ghost use Rattle.build.specs.Line.{linkInLine, inLine};
 ghost use Rattle.build.specs.Clone.{stretchAt, partOf, cloned, Copyable, Clonable};
@@ -87,7 +87,7 @@ fn in_line(pool: &[u8], shape: Shape, f: u16, more: u16, tail: u16) -> InLine
             link: tail,
         };
     }
-    let g = chain::next_free_piece(pool, shape, f + 1);
+    let g = room::next_free_piece(pool, shape, f + 1);
     InLine {
         free: g,
         link: g + 1,
@@ -154,7 +154,7 @@ fn lay_piece(pool: &mut [u8], shape: Shape, c: Laying, more: u16) -> Laying
     requires { ⌜ Shaped (now pool) shape × (shape .pieces < 65535) × Layable (decode (now pool)) c ⌝ }
     ensures { λ r. ⌜ Holds (now (pool .exit)) shape (taken (decode (now (pool .entry))) (c .free) (fresh (laidAt (decode (now (pool .entry))) c) (linkInLine (decode (now (pool .entry))) (c .free) more 0))) × (r ≡ laidOn (decode (now (pool .entry))) c more) ⌝ }
 {
-    let b = chain::next_free_buffer(pool, shape, c.from);
+    let b = room::next_free_buffer(pool, shape, c.from);
     let length = kinds::lesser(BufferNumber::SIZE as u32, c.left);
     let buffer = BufferNumber(b);
     let line = in_line(pool, shape, c.free, more, 0);
@@ -253,7 +253,7 @@ pub fn settle(pool: &mut [u8], shape: Shape, link: u16, into: u32, own: bool, fr
         shorten(pool, shape, d, into as u16);
         return link;
     }
-    let f = chain::next_free_piece(pool, shape, from);
+    let f = room::next_free_piece(pool, shape, from);
     clone_rest(pool, shape, d, into as u16, PieceNumber(f));
     f + 1
 }

@@ -3,4 +3,3 @@ pub mod Links
 pub mod Spots
 pub mod Parts
 pub mod Own
-pub mod Free

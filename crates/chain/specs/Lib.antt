@@ -5,4 +5,3 @@ pub mod Find
 pub mod Rest
 pub mod Part
 pub mod Own
-pub mod Free

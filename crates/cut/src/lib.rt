@@ -39,12 +39,12 @@ pub fn cut(pool: &mut [u8], shape: Shape, s: SlipNumber, off: u32, n: u32) -> Ou
     if !part.enough {
         return Outcome::Refused(Refusal::Range);
     }
-    let t = chain::next_vacant(pool, shape, 0);
+    let t = room::next_vacant(pool, shape, 0);
     if t == shape.slips {
         return Outcome::Refused(Refusal::Slips);
     }
     let pieces = overlapped(n, part.pieces);
-    let room = chain::piece_room(pool, shape, pieces as usize);
+    let room = room::piece_room(pool, shape, pieces as usize);
     if !room.enough {
         return Outcome::Refused(Refusal::Pieces);
     }

@@ -32,7 +32,7 @@ pub fn drop_first(pool: &mut [u8], shape: Shape, s: SlipNumber, n: u32) -> Outco
         return answer::done(pool, shape, s, 0);
     }
     let wanted = build::wanted(at.link, at.into, at.own) as usize;
-    let room = chain::piece_room(pool, shape, wanted);
+    let room = room::piece_room(pool, shape, wanted);
     if !room.enough {
         return Outcome::Refused(Refusal::Pieces);
     }

@@ -25,7 +25,7 @@ pub fn dup(pool: &mut [u8], shape: Shape, s: SlipNumber) -> Outcome
     if !chain::held(pool, shape, s) {
         return Outcome::Refused(Refusal::Slip);
     }
-    let t = chain::next_vacant(pool, shape, 0);
+    let t = room::next_vacant(pool, shape, 0);
     if t == shape.slips {
         return Outcome::Refused(Refusal::Slips);
     }
@@ -33,7 +33,7 @@ pub fn dup(pool: &mut [u8], shape: Shape, s: SlipNumber) -> Outcome
     if head == 0 {
         return answer::under_new(pool, shape, SlipNumber(t), 0);
     }
-    let f = chain::next_free_piece(pool, shape, 0);
+    let f = room::next_free_piece(pool, shape, 0);
     if f == shape.pieces {
         return Outcome::Refused(Refusal::Pieces);
     }

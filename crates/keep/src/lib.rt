@@ -56,7 +56,7 @@ pub fn keep(pool: &mut [u8], shape: Shape, s: SlipNumber, n: u32) -> Outcome
     }
     let left = n - own.bytes;
     let others = chain::part_of(pool, shape, own.next, left as u64).pieces;
-    let room = chain::piece_room(pool, shape, others as usize);
+    let room = room::piece_room(pool, shape, others as usize);
     if !room.enough {
         return Outcome::Refused(Refusal::Pieces);
     }

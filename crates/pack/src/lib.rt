@@ -47,11 +47,11 @@ pub fn pack(pool: &mut [u8], shape: Shape, storage: &mut [u8], s: SlipNumber) ->
     }
     let n = chain::bytes_from(pool, shape, head);
     let count = transfer::buffers_for(n as usize);
-    let pieces = chain::piece_room(pool, shape, count);
+    let pieces = room::piece_room(pool, shape, count);
     if !pieces.enough {
         return Outcome::Refused(Refusal::Pieces);
     }
-    let buffers = chain::buffer_room(pool, shape, count);
+    let buffers = room::buffer_room(pool, shape, count);
     if !buffers.enough {
         return Outcome::Refused(Refusal::Buffers);
     }

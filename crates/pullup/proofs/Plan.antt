@@ -28,11 +28,11 @@ use Rattle.tables.specs.Shape.{Holds}
 use Rattle.tables.proofs.Laws.{total-pieces, onward}
 use Rattle.chain.specs.declared.Spot.{Spot}
 use Rattle.chain.specs.Length.{stretchesFrom}
-use Rattle.chain.specs.Free.{firstFrom, lowestFor}
 use Rattle.chain.specs.Rest.{restFrom}
-use Rattle.chain.proofs.Free.{lowest-some, piece-first, no-piece, first-lies, buffer-first}
 use Rattle.chain.proofs.Links.{link-leads}
 use Rattle.chain.proofs.Spots.{dropped-at}
+use Rattle.room.specs.Free.{firstFrom, lowestFor}
+use Rattle.room.proofs.Free.{lowest-some, piece-first, no-piece, first-lies, buffer-first}
 use Rattle.build.proofs.Laws.{buffer-room}
 use Rattle.build.proofs.Line.{freeFrom}
 use Rattle.transfer.proofs.Fill.{for-one}

@@ -22,8 +22,8 @@ ghost use Rattle.rules.specs.Rule.{noView};
 ghost use Rattle.rules.specs.Step.{Pullup, perform};
 ghost use Rattle.tables.specs.Shape.{Holds};
 ghost use Rattle.chain.specs.Opened.{Opened};
-ghost use Rattle.chain.specs.Free.{firstFrom};
 ghost use Rattle.chain.specs.Rest.{restFrom};
+ghost use Rattle.room.specs.Free.{firstFrom};
 ghost use Rattle.answer.specs.Result.{lent, resultOf, Leaves};
 ghost use Rattle.pullup.specs.Pull.{pulledFrom, Pullable, Pulled};
 
@@ -81,11 +81,11 @@ pub fn pullup(pool: &mut [u8], shape: Shape, storage: &mut [u8], s: SlipNumber, 
         return answer::done(pool, shape, s, 0);
     }
     let wanted = build::wanted(at.link, at.into, at.own) as usize + 1;
-    let pieces = chain::piece_room(pool, shape, wanted);
+    let pieces = room::piece_room(pool, shape, wanted);
     if !pieces.enough {
         return Outcome::Refused(Refusal::Pieces);
     }
-    let b = chain::next_free_buffer(pool, shape, 0);
+    let b = room::next_free_buffer(pool, shape, 0);
     if b == shape.buffers {
         return Outcome::Refused(Refusal::Buffers);
     }

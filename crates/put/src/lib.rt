@@ -22,16 +22,16 @@ pub fn put(pool: &mut [u8], shape: Shape, storage: &mut [u8], input: &[u8]) -> O
     ensures { λ r. ⌜ resultOf r (now (pool .exit)) (now (storage .exit)) [] noView ≡ perform (Put (now (input .entry))) (lent (now (pool .entry)) (now (storage .entry))) ⌝ }
     ensures { λ r. ⌜ Leaves r (stateOf (slip (decode (now (pool .exit))) (numberOf r))) ⌝ }
 {
-    let t = chain::next_vacant(pool, shape, 0);
+    let t = room::next_vacant(pool, shape, 0);
     if t == shape.slips {
         return Outcome::Refused(Refusal::Slips);
     }
     let count = transfer::buffers_for(input.len());
-    let pieces = chain::piece_room(pool, shape, count);
+    let pieces = room::piece_room(pool, shape, count);
     if !pieces.enough {
         return Outcome::Refused(Refusal::Pieces);
     }
-    let buffers = chain::buffer_room(pool, shape, count);
+    let buffers = room::buffer_room(pool, shape, count);
     if !buffers.enough {
         return Outcome::Refused(Refusal::Buffers);
     }

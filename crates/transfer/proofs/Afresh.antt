@@ -17,8 +17,8 @@ use Rattle.rules.proofs.Audit.{tables-now}
 use Rattle.rules.proofs.Chain.{AllUsed}
 use Rattle.rules.proofs.Contents.{Fit, Off, contents-length, filled-length, stored-others}
 use Rattle.chain.proofs.Links.{walk-in-use, stretches-in}
-use Rattle.chain.specs.Free.{firstFrom, lowestFor}
 use Rattle.chain.specs.Length.{stretchesFrom}
+use Rattle.room.specs.Free.{firstFrom, lowestFor}
 use Rattle.transfer.specs.declared.Cursor.{Cursor}
 use Rattle.transfer.specs.Behind.{InPiece, behind}
 use Rattle.transfer.proofs.Behind.{Behind, behind-found, start-inside}

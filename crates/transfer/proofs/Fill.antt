@@ -14,8 +14,8 @@ use Rattle.rules.specs.Basics.{Is, places}
 use Rattle.rules.specs.Build.{buffersFor, filled, stored}
 use Rattle.rules.proofs.Logic.{if-T, if-F}
 use Rattle.rules.proofs.Contents.{Fit, filled-length}
-use Rattle.chain.specs.Free.{firstFrom, lowestFor}
-use Rattle.chain.proofs.Free.{places-first, first-lies, lowest-all}
+use Rattle.room.specs.Free.{firstFrom, lowestFor}
+use Rattle.room.proofs.Free.{places-first, first-lies, lowest-all}
 use Rattle.transfer.proofs.Copy.{take-most, drop-most}
 
 -- ---- how many buffers

@@ -18,7 +18,7 @@ ghost use Rattle.rules.specs.Read.{copied};
 ghost use Rattle.tables.specs.Shape.{Shaped};
 ghost use Rattle.chain.specs.Opened.{Opened};
 ghost use Rattle.chain.specs.Length.{stretchesFrom};
-ghost use Rattle.chain.specs.Free.{lowestFor};
+ghost use Rattle.room.specs.Free.{lowestFor};
 ghost use Rattle.transfer.specs.Behind.{InPiece, extentAt, advanced, behind};
 
 // The bytes of a buffer, to count and to index by.
@@ -140,7 +140,7 @@ pub fn fill_free(pool: &[u8], shape: Shape, storage: &mut [u8], input: &[u8], bu
     let mut at = 0;
     let mut from = buffer;
     while at < input.len() {
-        let b = chain::next_free_buffer(pool, shape, from);
+        let b = room::next_free_buffer(pool, shape, from);
         let end = part_end(at, input.len());
         storage::fill_buffer(storage, BufferNumber(b), &input[at..end]);
         at = end;
@@ -192,7 +192,7 @@ pub fn refill(pool: &[u8], shape: Shape, storage: &mut [u8], link: u16, n: u32, 
     let mut left = n;
     let mut from = buffer;
     while 0 < left {
-        let b = BufferNumber(chain::next_free_buffer(pool, shape, from));
+        let b = BufferNumber(room::next_free_buffer(pool, shape, from));
         let m = kinds::lesser(left, BufferNumber::SIZE as u32);
         c = refill_buffer(pool, shape, storage, c, m, b);
         left = left - m;

@@ -10,8 +10,8 @@ use Rattle.rules.specs.Tables.{Tables, headOf, pieceTotal}
 use Rattle.rules.specs.Bytes.{decode}
 use Rattle.rules.specs.Room.{isFree, freePieces}
 use Rattle.rules.specs.Append.{notOwn}
-use Rattle.chain.specs.Free.{lowestFor}
-use Rattle.chain.proofs.Free.{room-lowest, room-enough}
+use Rattle.room.specs.Free.{lowestFor}
+use Rattle.room.proofs.Free.{room-lowest, room-enough}
 use Rattle.answer.proofs.Perform.{named-below}
 use Rattle.append.proofs.Ready.{IsReady, head-ok, last-below, next-ok, next-long, no-others, others-count, others-cut, own-ready, new-ready, first-small, join-hangable, join-after}
 use Rattle.append.proofs.Laws.{append-pieces, append-joined}

@@ -10,9 +10,9 @@ use Rattle.rules.specs.Room.{isFree, freePieces}
 use Rattle.rules.specs.Build.{built}
 use Rattle.tables.specs.Shape.{Shaped}
 use Rattle.tables.proofs.Laws.{whole, total-pieces, total-buffers}
-use Rattle.chain.specs.Free.{firstFrom}
 use Rattle.chain.specs.Length.{stretchesFrom}
-use Rattle.chain.proofs.Free.{lowest-some}
+use Rattle.room.specs.Free.{firstFrom}
+use Rattle.room.proofs.Free.{lowest-some}
 use Rattle.build.proofs.Line.{line-done, line-link, link-fits, built-none}
 use Rattle.build.proofs.Clone.{Copies, copies-start, copies-ask, copies-on}
 use Rattle.build.proofs.copy_pieces.Statement.{statement}

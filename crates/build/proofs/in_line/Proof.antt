@@ -6,7 +6,7 @@ use Rattle.rules.specs.Tables.{pieceTotal}
 use Rattle.rules.specs.Bytes.{decode}
 use Rattle.rules.specs.Room.{isFree}
 use Rattle.tables.proofs.Laws.{whole, total-pieces}
-use Rattle.chain.proofs.Free.{first-lies}
+use Rattle.room.proofs.Free.{first-lies}
 use Rattle.build.proofs.Line.{last-in-line, next-in-line}
 use Rattle.build.proofs.in_line.Statement.{statement}
 use Rattle.build.proofs.in_line.Tie as tie

@@ -8,8 +8,8 @@ use Rattle.rules.specs.Bytes.{decode}
 use Rattle.rules.specs.Room.{isFree, freePieces, newBuffers}
 use Rattle.rules.specs.Build.{built, laid}
 use Rattle.tables.specs.Shape.{Shaped}
-use Rattle.chain.specs.Free.{firstFrom}
-use Rattle.chain.proofs.Free.{lowest-some}
+use Rattle.room.specs.Free.{firstFrom}
+use Rattle.room.proofs.Free.{lowest-some}
 use Rattle.build.proofs.Line.{line-link, link-fits, built-none}
 use Rattle.build.proofs.Laid.{Lays, laid-all, lays-start, lays-ask, lays-on, lays-done}
 use Rattle.build.proofs.lay.Statement.{statement}

@@ -17,9 +17,9 @@ use Rattle.rules.specs.Build.{plain}
 use Rattle.rules.specs.Rule.{unnamed}
 use Rattle.tables.proofs.Laws.{whole, total-slips, total-pieces}
 use Rattle.chain.specs.Length.{stretchesFrom}
-use Rattle.chain.proofs.Free.{first-lies, new-slip, no-slip, room-lowest, room-enough}
 use Rattle.chain.proofs.Spots.{Found}
 use Rattle.chain.proofs.Parts.{range-short, range-there}
+use Rattle.room.proofs.Free.{first-lies, new-slip, no-slip, room-lowest, room-enough}
 use Rattle.answer.proofs.Perform.{is-unnamed, is-named, named-below}
 use Rattle.answer.proofs.New.{under-made, new-link}
 use Rattle.cut.proofs.Laws.{place-found, range-pieces, cut-slip, cut-range, cut-slips, cut-pieces, cut-done}

@@ -7,7 +7,7 @@ use Rattle.rules.specs.Tables.{pieceTotal}
 use Rattle.rules.specs.Bytes.{decode}
 use Rattle.rules.specs.Room.{isFree}
 use Rattle.tables.proofs.Laws.{whole, total-pieces}
-use Rattle.chain.proofs.Free.{count-most}
+use Rattle.room.proofs.Free.{count-most}
 use Rattle.draw.proofs.Text.{freeTo, free-none, free-here, free-past}
 use Rattle.draw.proofs.free_pieces.Statement.{statement}
 use Rattle.draw.proofs.free_pieces.Tie as tie

@@ -24,8 +24,8 @@ use Rattle.tables.specs.Shape.{Holds}
 use Rattle.tables.proofs.Laws.{whole, total-slips}
 use Rattle.chain.specs.Find.{pastEnd}
 use Rattle.chain.specs.Rest.{restFrom}
-use Rattle.chain.proofs.Free.{lowest-all, room-lowest, room-enough}
 use Rattle.chain.proofs.Spots.{Found, dropped-at, found-at, past-range}
+use Rattle.room.proofs.Free.{lowest-all, room-lowest, room-enough}
 use Rattle.release.proofs.Under.{under-asks, under-small, under-done}
 use Rattle.answer.proofs.Perform.{is-unnamed, is-named, named-below}
 use Rattle.drop.proofs.Laws.{made-dropped, drop-slip, drop-range, drop-pieces, drop-nothing, drop-done}

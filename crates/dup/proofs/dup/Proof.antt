@@ -16,7 +16,7 @@ use Rattle.rules.specs.Dup.{dupPlan}
 use Rattle.rules.specs.Rule.{unnamed}
 use Rattle.tables.proofs.Laws.{whole, total-slips, total-pieces, onward}
 use Rattle.chain.proofs.Links.{InUse, link-leads}
-use Rattle.chain.proofs.Free.{first-lies, new-slip, no-slip, piece-first, no-piece}
+use Rattle.room.proofs.Free.{first-lies, new-slip, no-slip, piece-first, no-piece}
 use Rattle.build.proofs.Laws.{opened-copyable, opened-sharable}
 use Rattle.answer.proofs.Perform.{is-unnamed, is-named, named-below}
 use Rattle.dup.proofs.Laws.{plan-none, plan-one, empty-under, cloned-made, clone-under, dup-slip, dup-slips, dup-pieces, dup-done}

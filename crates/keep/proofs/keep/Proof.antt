@@ -17,9 +17,9 @@ use Rattle.rules.specs.Rule.{unnamed}
 use Rattle.rules.proofs.Logic.{not-less}
 use Rattle.tables.proofs.Laws.{whole, total-slips}
 use Rattle.chain.specs.Own.{ownPart}
-use Rattle.chain.specs.Free.{lowestFor}
-use Rattle.chain.proofs.Free.{room-lowest, room-enough}
 use Rattle.chain.proofs.Spots.{past-range, at-end, before-end}
+use Rattle.room.specs.Free.{lowestFor}
+use Rattle.room.proofs.Free.{room-lowest, room-enough}
 use Rattle.answer.proofs.Perform.{is-unnamed, is-named, named-below}
 use Rattle.keep.proofs.Laws.{Seen, last-below, next-ok, no-others, last-long, short-hangable, short-after, others-count, others-cut, next-long, new-small, new-hangable, new-after, keep-slip, keep-range, keep-whole, keep-pieces, keep-done}
 use Rattle.keep.proofs.keep.Statement.{statement}

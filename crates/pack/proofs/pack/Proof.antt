@@ -16,8 +16,8 @@ use Rattle.rules.specs.Build.{buffersFor}
 use Rattle.rules.specs.Rule.{unnamed}
 use Rattle.tables.proofs.Laws.{whole, total-slips, total-buffers}
 use Rattle.chain.specs.Length.{stretchesFrom}
-use Rattle.chain.specs.Free.{lowestFor}
-use Rattle.chain.proofs.Free.{count-most, room-lowest, room-enough}
+use Rattle.room.specs.Free.{lowestFor}
+use Rattle.room.proofs.Free.{count-most, room-lowest, room-enough}
 use Rattle.answer.proofs.Perform.{is-unnamed, is-named, named-below}
 use Rattle.pack.proofs.Laws.{Found, new-small, new-held, new-after, new-bytes, pack-slip, pack-whole, pack-pieces, pack-buffers, pack-done}
 use Rattle.pack.proofs.pack.Statement.{statement}

@@ -20,8 +20,8 @@ use Rattle.rules.proofs.Logic.{not-less}
 use Rattle.tables.proofs.Laws.{whole, total-slips, total-buffers}
 use Rattle.chain.specs.Length.{stretchesFrom}
 use Rattle.chain.specs.Find.{pastEnd}
-use Rattle.chain.proofs.Free.{first-lies, no-buffer, buffer-first, lowest-some, room-lowest, room-enough}
 use Rattle.chain.proofs.Spots.{dropped-at, past-range}
+use Rattle.room.proofs.Free.{first-lies, no-buffer, buffer-first, lowest-some, room-lowest, room-enough}
 use Rattle.answer.proofs.Perform.{is-unnamed, is-named, named-below}
 use Rattle.pullup.specs.Pull.{Pullable}
 use Rattle.pullup.proofs.Laws.{pullup-slip, pullup-long, pullup-range, pullup-nothing, pullup-pieces, pullup-buffers, pullup-done}

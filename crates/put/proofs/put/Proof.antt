@@ -14,8 +14,8 @@ use Rattle.rules.specs.Room.{isVacant, isFree, isUnheld, vacantSlips, freePiece
 use Rattle.rules.specs.Build.{plain, underNew, laid}
 use Rattle.tables.specs.Shape.{Holds}
 use Rattle.tables.proofs.Laws.{whole, total-slips, total-pieces, total-buffers}
-use Rattle.chain.specs.Free.{lowestFor}
-use Rattle.chain.proofs.Free.{first-lies, count-most, new-slip, no-slip, room-lowest, room-enough}
+use Rattle.room.specs.Free.{lowestFor}
+use Rattle.room.proofs.Free.{first-lies, count-most, new-slip, no-slip, room-lowest, room-enough}
 use Rattle.answer.proofs.New.{under-made, new-link}
 use Rattle.put.proofs.Laws.{put-slips, put-pieces, put-buffers, put-done}
 use Rattle.put.proofs.put.Statement.{statement}

@@ -1,4 +1,4 @@
--- `chain::next_vacant` meets its contract: the lowest from `s` on is the one asked for. Assumes nothing.
+-- `room::next_vacant` meets its contract: the lowest from `s` on is the one asked for. Assumes nothing.
 use mathlib.Core.Path.{_≡_, refl, sym, _∙_}
 use Prim.Native.Nat.{_-_, _<_}
 use native.Mathlib.Omega.{arith}
@@ -6,10 +6,10 @@ use Rattle.rules.specs.Tables.{slipTotal}
 use Rattle.rules.specs.Bytes.{decode}
 use Rattle.rules.specs.Room.{isVacant}
 use Rattle.tables.proofs.Laws.{whole, total-slips}
-use Rattle.chain.specs.Free.{firstFrom}
-use Rattle.chain.proofs.Free.{is-zero, not-zero, first-end, first-here, first-past}
-use Rattle.chain.proofs.next_vacant.Statement.{statement}
-use Rattle.chain.proofs.next_vacant.Tie as tie
+use Rattle.room.specs.Free.{firstFrom}
+use Rattle.room.proofs.Free.{is-zero, not-zero, first-end, first-here, first-past}
+use Rattle.room.proofs.next_vacant.Statement.{statement}
+use Rattle.room.proofs.next_vacant.Tie as tie
 
 abbrev Inv-loop : tie.InvT-loop
 Inv-loop pool shape from s₀ s = let T = decode pool in firstFrom (isVacant T) s (slipTotal T) ≡ firstFrom (isVacant T) from (slipTotal T)

@@ -1,12 +1,12 @@
--- `chain::piece_room` meets its contract. Assumes nothing.
+-- `room::piece_room` meets its contract. Assumes nothing.
 use native.Mathlib.Omega.{arith}
 use borrow.Author.Needs.{needs}
 use Rattle.rules.specs.Tables.{pieceTotal}
 use Rattle.rules.specs.Bytes.{decode}
 use Rattle.rules.specs.Room.{isFree}
-use Rattle.chain.proofs.Free.{room-none, room-some}
-use Rattle.chain.proofs.piece_room.Statement.{statement}
-use Rattle.chain.proofs.piece_room.Tie as tie
+use Rattle.room.proofs.Free.{room-none, room-some}
+use Rattle.room.proofs.piece_room.Statement.{statement}
+use Rattle.room.proofs.piece_room.Tie as tie
 
 returns : tie.Need-returns
 returns c = let a = c .before .before .args in let T = decode (a .pool .now) in room-none (isFree T) (a .k) (pieceTotal T) (c .if1 .taken)

@@ -1,4 +1,4 @@
--- `chain::next_free_piece` meets its contract: the lowest from `d` on is the one asked for. Assumes nothing.
+-- `room::next_free_piece` meets its contract: the lowest from `d` on is the one asked for. Assumes nothing.
 use mathlib.Core.Path.{_≡_, refl, sym, _∙_}
 use Prim.Native.Nat.{_-_, _<_}
 use native.Mathlib.Omega.{arith}
@@ -6,10 +6,10 @@ use Rattle.rules.specs.Tables.{pieceTotal}
 use Rattle.rules.specs.Bytes.{decode}
 use Rattle.rules.specs.Room.{isFree}
 use Rattle.tables.proofs.Laws.{whole, total-pieces}
-use Rattle.chain.specs.Free.{firstFrom}
-use Rattle.chain.proofs.Free.{is-zero, not-zero, first-end, first-here, first-past}
-use Rattle.chain.proofs.next_free_piece.Statement.{statement}
-use Rattle.chain.proofs.next_free_piece.Tie as tie
+use Rattle.room.specs.Free.{firstFrom}
+use Rattle.room.proofs.Free.{is-zero, not-zero, first-end, first-here, first-past}
+use Rattle.room.proofs.next_free_piece.Statement.{statement}
+use Rattle.room.proofs.next_free_piece.Tie as tie
 
 abbrev Inv-loop : tie.InvT-loop
 Inv-loop pool shape from d₀ d = let T = decode pool in firstFrom (isFree T) d (pieceTotal T) ≡ firstFrom (isFree T) from (pieceTotal T)

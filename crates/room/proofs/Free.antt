@@ -15,8 +15,8 @@ use Rattle.rules.specs.Room.{isVacant, isFree, isUnheld, vacantSlips, freePiece
 use Rattle.rules.proofs.Logic.{if-T, if-F, if-either, bit-one, is-true}
 use Rattle.rules.proofs.Sums.{sumTo-ones}
 use Rattle.rules.proofs.Room.{places-count-0}
-use Rattle.chain.specs.declared.Room.{Room}
-use Rattle.chain.specs.Free.{firstOr, firstFrom, lowestFor, enoughFrom, roomFor}
+use Rattle.room.specs.declared.Room.{Room}
+use Rattle.room.specs.Free.{firstOr, firstFrom, lowestFor, enoughFrom, roomFor}
 
 -- ---- tests against zero
 

@@ -1,4 +1,4 @@
--- `chain::enough_pieces` meets its contract: of the pieces from `d` on, `pieces_left` are still asked for. Assumes nothing.
+-- `room::enough_pieces` meets its contract: of the pieces from `d` on, `pieces_left` are still asked for. Assumes nothing.
 use mathlib.Core.Path.{_≡_, refl, ap, _∙_}
 use mathlib.Core.Logic.{inl, inr}
 use Prim.Native.Nat.{ℕ, _+_, _-_, _<_}
@@ -7,10 +7,10 @@ use Rattle.rules.specs.Tables.{pieceTotal}
 use Rattle.rules.specs.Bytes.{decode}
 use Rattle.rules.specs.Room.{isFree}
 use Rattle.tables.proofs.Laws.{whole, total-pieces}
-use Rattle.chain.specs.Free.{enoughFrom}
-use Rattle.chain.proofs.Free.{is-zero, not-zero, enough-none, enough-here, enough-last, enough-past}
-use Rattle.chain.proofs.enough_pieces.Statement.{statement}
-use Rattle.chain.proofs.enough_pieces.Tie as tie
+use Rattle.room.specs.Free.{enoughFrom}
+use Rattle.room.proofs.Free.{is-zero, not-zero, enough-none, enough-here, enough-last, enough-past}
+use Rattle.room.proofs.enough_pieces.Statement.{statement}
+use Rattle.room.proofs.enough_pieces.Tie as tie
 
 abbrev Inv-loop : tie.InvT-loop
 Inv-loop pool shape lowest k pieces-left₀ d₀ pieces-left d =

@@ -1,4 +1,4 @@
--- `chain::next_free_buffer` meets its contract: the lowest from `b` on is the one asked for. Assumes nothing.
+-- `room::next_free_buffer` meets its contract: the lowest from `b` on is the one asked for. Assumes nothing.
 use mathlib.Core.Path.{_≡_, refl, sym, _∙_}
 use Prim.Native.Nat.{_-_, _<_}
 use native.Mathlib.Omega.{arith}
@@ -6,10 +6,10 @@ use Rattle.rules.specs.Tables.{bufferTotal}
 use Rattle.rules.specs.Bytes.{decode}
 use Rattle.rules.specs.Room.{isUnheld}
 use Rattle.tables.proofs.Laws.{whole, total-buffers}
-use Rattle.chain.specs.Free.{firstFrom}
-use Rattle.chain.proofs.Free.{is-zero, not-zero, first-end, first-here, first-past}
-use Rattle.chain.proofs.next_free_buffer.Statement.{statement}
-use Rattle.chain.proofs.next_free_buffer.Tie as tie
+use Rattle.room.specs.Free.{firstFrom}
+use Rattle.room.proofs.Free.{is-zero, not-zero, first-end, first-here, first-past}
+use Rattle.room.proofs.next_free_buffer.Statement.{statement}
+use Rattle.room.proofs.next_free_buffer.Tie as tie
 
 abbrev Inv-loop : tie.InvT-loop
 Inv-loop pool shape from b₀ b = let T = decode pool in firstFrom (isUnheld T) b (bufferTotal T) ≡ firstFrom (isUnheld T) from (bufferTotal T)

@@ -1,12 +1,12 @@
--- `chain::buffer_room` meets its contract. Assumes nothing.
+-- `room::buffer_room` meets its contract. Assumes nothing.
 use native.Mathlib.Omega.{arith}
 use borrow.Author.Needs.{needs}
 use Rattle.rules.specs.Tables.{bufferTotal}
 use Rattle.rules.specs.Bytes.{decode}
 use Rattle.rules.specs.Room.{isUnheld}
-use Rattle.chain.proofs.Free.{room-none, room-some}
-use Rattle.chain.proofs.buffer_room.Statement.{statement}
-use Rattle.chain.proofs.buffer_room.Tie as tie
+use Rattle.room.proofs.Free.{room-none, room-some}
+use Rattle.room.proofs.buffer_room.Statement.{statement}
+use Rattle.room.proofs.buffer_room.Tie as tie
 
 returns : tie.Need-returns
 returns c = let a = c .before .before .args in let T = decode (a .pool .now) in room-none (isUnheld T) (a .k) (bufferTotal T) (c .if1 .taken)

@@ -5,7 +5,7 @@ use Prim.Native.Nat.{ℕ, zero, suc, _-_}
 use lib.ListN.{length}
 use lib.Dec.{leb}
 use Rattle.rules.specs.Basics.{places}
-use Rattle.chain.specs.declared.Room.{Room}
+use Rattle.room.specs.declared.Room.{Room}
 
 -- the first of a list, or n where it has none
 abbrev pub firstOr : ℕ → List ℕ → ℕ

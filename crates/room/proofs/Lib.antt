@@ -1,0 +1,2 @@
+-- The laws of room.
+pub mod Free
