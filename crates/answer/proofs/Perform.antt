@@ -1,5 +1,5 @@
 -- What an operation answers: the first refusal whose cause is there, or its rule. Assumes nothing.
-use mathlib.Core.Path.{_≡_, refl, sym, ap, subst, _∙_}
+use mathlib.Core.Path.{_≡_, sym, ap, subst, _∙_}
 use mathlib.Core.Bool.{Bool, true, false, not}
 use mathlib.Core.List.{List, []}
 use Prim.Native.Nat.{ℕ, _≤_, _<_}
@@ -26,7 +26,7 @@ use Rattle.rules.proofs.Step.{perform-done, perform-no}
 use Rattle.tables.specs.declared.Shape.{Shape}
 use Rattle.tables.specs.Shape.{Shaped, Holds}
 use Rattle.tables.proofs.Laws.{whole, total-slips, fits-decode}
-use Rattle.answer.specs.Result.{lent, resultOf}
+use Rattle.answer.specs.Result.{resultOf}
 
 -- ---- any operation
 

@@ -7,9 +7,8 @@ use native.Mathlib.Omega.{arith}
 use lib.ListN.{length, length-replicate}
 use Rattle.rules.specs.Basics.{Is}
 use Rattle.rules.specs.Bytes.{decode}
-use Rattle.rules.specs.Sound.{sound, soundTables, Sound, SoundTables}
-use Rattle.rules.proofs.Moves.{SoundNow}
-use Rattle.rules.proofs.Audit.{sound-is, tables-is, tables-now}
+use Rattle.rules.specs.Sound.{sound, Sound, SoundTables}
+use Rattle.rules.proofs.Audit.{sound-is}
 use Rattle.rules.proofs.Bytes.{Header, header-facts}
 use Rattle.tables.specs.Shape.{Shaped}
 use Rattle.audit.specs.declared.Audited.{Audited}
@@ -36,15 +35,9 @@ module _ {p : List ℕ} {n : ℕ} {r : Audited} (v : Verdict p n r) where
     pub verdict-header : (st : List ℕ) → length st ≡ n → Header (lent p st)
     verdict-header st l = header-facts (lent p st) (verdict-sound st l .header-ok)
 
-    -- of the tables: the rules' list, their test, and soundness as the operations keep it
+    -- of the tables: the rules' list, and the shape
     pub verdict-list : SoundTables (decode p)
     verdict-list = verdict-sound (zeros n) (length-replicate {A = ℕ} n 0) .tables-ok
-
-    pub verdict-test : Is (soundTables (decode p))
-    verdict-test = tables-is (decode p) .1 verdict-list
-
-    pub verdict-now : SoundNow (decode p)
-    verdict-now = tables-now (decode p) verdict-list
 
     pub verdict-shaped : Shaped p (r .shape)
     verdict-shaped = v .shaped q

@@ -2,7 +2,6 @@
 use mathlib.Core.Path.{_≡_, refl, sym, _∙_}
 use mathlib.Core.List.{List, []}
 use Prim.Native.Nat.{ℕ}
-use native.Mathlib.Omega.{arith}
 use Rattle.kinds.specs.declared.SlipState.{SlipState}
 use Rattle.kinds.specs.declared.Refusal.the-variants.{Slip}
 use Rattle.kinds.specs.declared.Outcome.{Outcome}

@@ -1,23 +1,23 @@
 -- Release over the tables alone: the rule, its single steps, and what is left of it on the way. Assumes nothing.
 use mathlib.Core.Path.{_≡_, refl, sym, ap, subst, _∙_}
-use mathlib.Core.Bool.{Bool, true, false}
-use mathlib.Core.List.{List, [], _∷_}
-use Prim.Native.Nat.{ℕ, zero, suc, pred, _+_, _-_, _≤_, _<_}
+use mathlib.Core.List.{List, _∷_}
+use Prim.Native.Nat.{ℕ, zero, suc, pred, _-_, _≤_, _<_}
 use native.Mathlib.Omega.{arith}
-use lib.ListN.{length, set}
-use lib.Dec.{ltb, ltb→lt, lt→ltb}
+use lib.ListN.{length}
+use lib.Dec.{lt→ltb}
 use Rattle.rules.specs.Basics.{Is, if_then_else_, sumTo}
-use Rattle.rules.specs.Tables.{Piece, Tables, blank, slip, piece, bufferCount, headOf, slipTotal, pieceTotal, setSlip, setPiece, setPieceCount, withCount, withNext}
+use Rattle.rules.specs.Tables.{Tables, blank, slip, piece, bufferCount, headOf, slipTotal, pieceTotal, setSlip, setPiece, setPieceCount, withCount, withNext}
 use Rattle.rules.specs.Chain.{State}
 use Rattle.rules.specs.Bytes.{decode}
 use Rattle.rules.specs.Release.{withTables, lowered, another, freed, releaseIn, release, turned, relinked}
-use Rattle.rules.proofs.Logic.{if-T, if-F, if-either}
+use Rattle.rules.proofs.Logic.{if-T, if-F, if-either, if-both}
 use Rattle.rules.proofs.Moves.{SoundBy, SoundWith, in-range, used-in-range, sum-set, reorder, slip-move, lower-move, buffer-pos, freedTables, free-move}
 use Rattle.rules.proofs.Rank.{low, low-below, lower-rank}
-use Rattle.rules.proofs.Release.{held-pos, some-other, last-one, release-sound}
+use Rattle.rules.proofs.Release.{held-pos, some-other, last-one}
 use Rattle.tables.specs.declared.Shape.{Shape}
-use Rattle.tables.specs.Shape.{Shaped, Holds, setCount}
-use Rattle.tables.proofs.Laws.{total-slips, onward}
+use Rattle.tables.specs.Shape.{Holds, setCount}
+use Rattle.tables.proofs.Laws.{onward}
+use Rattle.chain.proofs.Links.{head-none, head-some}
 use Rattle.release.specs.Release.{bare, released, turnedTo, relinkedTo, stepped, stepNext, Held, Releasable}
 
 -- ---- the tables do not depend on storage
@@ -54,11 +54,6 @@ pub relinked-is : (T : Tables) (l n : ℕ) → relinkedTo T l n ≡ released (se
 unfolding relinked relinkedTo released
 relinked-is T l n = refl
 
--- a release leaves the tables sound but for the other links held
-pub released-sound : {fl : List ℕ} (T : Tables) (n : ℕ) → SoundWith (n ∷ fl) T → SoundWith fl (released T n)
-unfolding released
-released-sound T n h = release-sound (bare T) n h
-
 -- no link can be released whatever else is held
 pub releasable-none : {fl : List ℕ} {T : Tables} → SoundWith fl T → Releasable T 0
 releasable-none {fl} h = record { others = fl; sound = (h .0, reorder (λ d. omega arith) (h .1)) }
@@ -74,16 +69,11 @@ released-none T = releaseIn-none (pieceTotal T) T
 
 -- ---- a single step
 
-if-pair : {A B : Type 0} (P : A → B → Type 0) (b : Bool) (m n : A) (x y : B) → (Is b → P m x) → ((Is b → ⊥) → P n y) → P (if b then m else n) (if b then x else y)
-unfolding if_then_else_
-if-pair P true m n x y f g = f tt
-if-pair P false m n x y f g = g (λ t. t)
-
 -- what holds of a lowered count and of a freed piece holds after a step
 by-step : (P : Tables → ℕ → Type 0) (T : Tables) (d : ℕ) → (Is (another T d) → P (lowered T d) 0)
     → ((Is (another T d) → ⊥) → P (freedTables T d) (piece T d .next)) → P (stepped T d) (stepNext T d)
 unfolding stepped stepNext
-by-step P T d f g = if-pair P (another T d) (lowered T d) (freedTables T d) 0 (piece T d .next) f g
+by-step P T d f g = if-both P (another T d) (lowered T d) (freedTables T d) 0 (piece T d .next) f g
 
 module _ (T : Tables) (d : ℕ) {n : ℕ} {h : Shape} (counted : n ≡ piece T d .count) where
   -- more than one reference: the count alone changes
@@ -187,28 +177,21 @@ goes {O} {T} {m} (suc d) l z =
 
 -- ---- a slip's entry and a piece's next
 
--- the link that an entry holds
-held-none : {v n : ℕ} → v ≡ n → v ≡ 0 → pred n ≡ 0
-held-none e z = omega arith
-
-held-some : {v n : ℕ} → v ≡ n → (v ≡ 0 → ⊥) → v - 1 ≡ pred n
-held-some e z = omega arith
-
 module _ (T : Tables) (s v : ℕ) {p : List ℕ} {h : Shape} {old : ℕ} (was : Holds p h (setSlip T s v)) (held : old ≡ slip T s) where
   pub turn-none : old ≡ 0 → Holds p h (turnedTo T s v)
   turn-none z =
-      let e : headOf T s ≡ 0 = held-none held z in
+      let e : headOf T s ≡ 0 = sym (head-none held z) in
       record { shaped = was .shaped; is = was .is ∙ sym (turned-is T s v ∙ ap (released (setSlip T s v)) e ∙ released-none (setSlip T s v)) }
 
   module _ (some : old ≡ 0 → ⊥) where
     pub turn-left : s < slipTotal T → Releasable T (pred v) → Releasable (decode p) (old - 1)
     turn-left l r =
-        let e : old - 1 ≡ headOf T s = held-some held some in
+        let e : old - 1 ≡ headOf T s = head-some held some in
         rw (was .is, e) (record { others = r .others; sound = (r .sound .0, slip-move s v l (r .sound .1)) })
 
     pub turn-some : {q : List ℕ} → Holds q h (released (decode p) (old - 1)) → Holds q h (turnedTo T s v)
     turn-some now =
-        let e : old - 1 ≡ headOf T s = held-some held some in
+        let e : old - 1 ≡ headOf T s = head-some held some in
         let on = onward was (λ (U : Tables). released U (old - 1)) now in
         record { shaped = on .shaped; is = on .is ∙ ap (released (setSlip T s v)) e ∙ sym (turned-is T s v) }
 

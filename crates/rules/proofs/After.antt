@@ -1,22 +1,21 @@
 -- What every slip reads once an operation is done. Assumes nothing.
-use mathlib.Core.Path.{_≡_, refl, sym, ap, subst, _∙_}
+use mathlib.Core.Path.{_≡_, refl, sym, ap, _∙_}
 use mathlib.Core.Logic.{_≢_, ⊎-elim}
-use mathlib.Core.Bool.{Bool, true, false, not, _&&_}
+use mathlib.Core.Bool.{Bool, true, false}
 use mathlib.Core.List.{List, [], _∷_, _++_, append-nil, List·Memᴰ, List·Memᴰ·not-nil, List·Memᴰ·cases-cons}
-use Prim.Native.Nat.{ℕ, zero, suc, _+_, _-_, _*_, _/_, _≤_, _<_, pred}
+use Prim.Native.Nat.{ℕ, zero, suc, _+_, _-_, _*_, _≤_, _<_, pred}
 use native.Mathlib.Decide.{ℕ-discrete}
 use native.Mathlib.Omega.{arith}
-use lib.ListN.{length, getD, set, take, drop, length-set, length-take, take-append-drop}
+use lib.ListN.{length, take, drop, length-set, length-take, take-append-drop}
 use lib.Seq.{getD-set-same, getD-set-other, take-all}
 use lib.Dec.{eqb, eqb→eq, leb}
 use Rattle.kinds.specs.Limits.{bufferSize, sizeOf}
 use Rattle.rules.specs.Basics.{Is, if_then_else_}
-use Rattle.rules.specs.Layout.{storageLength}
 use Rattle.rules.specs.Tables.{Tables, slip, piece, bufferCount, headOf, vacant, slipTotal, pieceTotal, bufferTotal, setSlip}
-use Rattle.rules.specs.Chain.{Stretch, State, walk, chain, stretch, stretches, spans, total, firstLength, lengthOf, cutOut, contents, reads, bytesOf}
-use Rattle.rules.specs.Room.{isVacant, isUnheld, vacantSlips, freePieces, freeBuffers, newSlip, newBuffers}
+use Rattle.rules.specs.Chain.{Stretch, State, walk, chain, stretches, spans, firstLength, lengthOf, contents, reads, bytesOf}
+use Rattle.rules.specs.Room.{isVacant, isUnheld, freePieces, freeBuffers, newSlip, newBuffers}
 use Rattle.rules.specs.Release.{withTables, turned}
-use Rattle.rules.specs.Build.{Plan, plain, underOld, behindOwn, buffersFor, laid, stored}
+use Rattle.rules.specs.Build.{plain, underOld, buffersFor, laid, stored}
 use Rattle.rules.specs.Rule.{Wants, want}
 use Rattle.rules.specs.Put.{putAfter}
 use Rattle.rules.specs.Dup.{dupAfter}
@@ -32,12 +31,12 @@ use Rattle.rules.proofs.Logic.{if-T, if-F, if-either, is-true, is-false
 use Rattle.rules.proofs.Moves.{SoundBy, SoundWith, SoundNow, buffer-pos, reorder, slip-move}
 use Rattle.rules.proofs.Release.{turned-storage}
 use Rattle.rules.proofs.Build.{Good}
-use Rattle.rules.proofs.Room.{AllIn, new-buffers-in, new-slip-ok}
+use Rattle.rules.proofs.Room.{AllIn, new-buffers-in}
 use Rattle.rules.proofs.Chain.{AllUsed, chain-used, spans-good}
-use Rattle.rules.proofs.Meets.{Meets, chain-meets, slip-same}
+use Rattle.rules.proofs.Meets.{Meets, slip-same}
 use Rattle.rules.proofs.Hang.{Gives, gives-spans, moved-spans, turned-entry, turned-entries, turned-others}
 use Rattle.rules.proofs.Contents.{Fit, contents-length, contents-append, cutOut-contents, dropOut, dropOut-contents, Off, stored-others, stored-laid, stored-other}
-use Rattle.rules.proofs.Sizes.{old-storage, behind-storage}
+use Rattle.rules.proofs.Sizes.{old-storage, behind-storage, kept-storage}
 use Rattle.rules.proofs.Codes.{Allowed, no-cause}
 use Rattle.rules.proofs.Sound.{first-named, both-named, rule-sound}
 use Rattle.rules.proofs.Put.{put-gives}
@@ -315,11 +314,6 @@ drop-reading s n S h f al =
     (λ u. ap (λ (q : List ℕ). contents q (spans T u)) st)
     (ap (λ (q : List ℕ). contents q (dropOut (spans T s) n)) st ∙ dropOut-contents (bufferTotal T) (S .storage) (spans T s) n f (spans-good T s h))))
     (rule-sound (Drop s n) S h al)
-
-kept-storage : (S : State) (s : ℕ) (own : List ℕ) (xs rest : List Stretch) → keptBy S s own xs rest .storage ≡ S .storage
-unfolding keptBy
-kept-storage S s own xs [] = behind-storage _ s own _
-kept-storage S s own xs (y ∷ ys) = behind-storage _ s own _
 
 keep-reading : (s n : ℕ) (S : State) → SoundNow (S .tables) → Fit (bufferTotal (S .tables)) (S .storage) → Allowed (rule (Keep s n) S) (S .tables)
     → Reading S (keepAfter s n S) (at s (take n (reads S s)) (reads S)) (isVacant (S .tables))

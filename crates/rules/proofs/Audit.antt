@@ -293,9 +293,6 @@ tables-is T =
 pub tables-pass : (T : Tables) → SoundNow T → Is (soundTables T)
 tables-pass T S = tables-is T .1 (now-tables T S)
 
-pub tables-only : (T : Tables) → Is (soundTables T) → SoundNow T
-tables-only T t = tables-now T (tables-is T .0 t)
-
 pub sound-is : (m : Lent) → Is (sound m) ↔ Sound m
 unfolding sound
 sound-is m =

@@ -9,7 +9,7 @@ use lib.ListN.{length}
 use lib.Dec.{eqb}
 use Rattle.kinds.specs.Limits.{bufferSize}
 use Rattle.rules.specs.Tables.{Piece, Tables, blank, slip, piece, bufferCount, headOf, slipTotal, pieceTotal, bufferTotal}
-use Rattle.rules.specs.Chain.{Stretch, walk, chain, stretches, spans, total, lengthOf}
+use Rattle.rules.specs.Chain.{Stretch, walk, chain, spans, total, lengthOf}
 use Rattle.rules.specs.Sound.{inUse, leads, heads, lying}
 use Rattle.rules.proofs.Logic.{bit-one}
 use Rattle.rules.proofs.Sums.{sumTo-ones}

@@ -1,7 +1,6 @@
 -- New pieces, and the places where they are hung, keep soundness. Assumes nothing.
 use mathlib.Core.Path.{_≡_, refl, sym, ap, subst, _∙_}
 use mathlib.Core.Logic.{_≢_}
-use mathlib.Core.Bool.{Bool, true, false}
 use mathlib.Core.List.{List, [], _∷_, List·Memᴰ, List·Memᴰ·head, List·Memᴰ·tail}
 use Prim.Native.Nat.{ℕ, zero, suc, _+_, _-_, _≤_, _<_, pred}
 use native.Mathlib.Omega.{arith}
@@ -12,10 +11,10 @@ use Rattle.kinds.specs.Limits.{sizeOf}
 use Rattle.rules.specs.Basics.{if_then_else_, lastOf}
 use Rattle.rules.specs.Tables.{Piece, Tables, blank, slip, piece, headOf, holding, setSlip, setPiece, withCount, withNext}
 use Rattle.rules.specs.Chain.{Stretch, State, ownPieces}
-use Rattle.rules.specs.Release.{withTables, shared, release, turned, relinked}
-use Rattle.rules.specs.Build.{fresh, taken, built, builtLink, Plan, plain, made, madeLink, underNew, underOld, behindOwn}
+use Rattle.rules.specs.Release.{withTables, shared, relinked}
+use Rattle.rules.specs.Build.{fresh, built, builtLink, Plan, plain, made, madeLink, underNew, underOld, behindOwn}
 use Rattle.rules.proofs.Logic.{if-either}
-use Rattle.rules.proofs.Moves.{SoundBy, SoundWith, SoundNow, hit, occ, hit-same, used-in-range, reorder, slip-move, share-move, take-move, above, relink-move}
+use Rattle.rules.proofs.Moves.{SoundBy, SoundWith, SoundNow, hit, used-in-range, reorder, slip-move, share-move, take-move, above, relink-move}
 use Rattle.rules.proofs.Release.{release-sound, turned-sound}
 
 -- ---- a further reference to a link

@@ -8,7 +8,7 @@ use native.Mathlib.Nat.{le-of-suc-le-suc, zero-lt-suc, mod-eq-of-lt, add-assoc}
 use native.Mathlib.Omega.{arith}
 use lib.Dec.{eqb, leb, eqb→eq, eqb-refl, leb→le, le→leb}
 use lib.ListN.{length, getD, set, drop, replicate, length-append, drop-of-length-le, length-replicate, replicate-append-replicate}
-use lib.Seq.{drop-cons, getD-append-add}
+use lib.Seq.{drop-cons}
 use Rattle.word.specs.Word.{get16, bytes16}
 use Rattle.word.proofs.Laws.{get16-past as load-past}
 pub use Rattle.word.proofs.Laws.{length-bytes16, get16-run}

@@ -1,23 +1,22 @@
 -- Chains in sound tables: their pieces are in use, and their stretches lie inside their buffers. Assumes nothing.
-use mathlib.Core.Path.{_≡_, refl, sym, ap, subst, _∙_}
+use mathlib.Core.Path.{_≡_, refl, ap, _∙_}
 use mathlib.Core.Logic.{⊎-elim}
-use mathlib.Core.Bool.{Bool, true, false}
+use mathlib.Core.Bool.{Bool}
 use mathlib.Core.List.{List, [], _∷_, _++_, List·Memᴰ, List·Memᴰ·not-nil, List·Memᴰ·cases-cons}
 use Prim.Native.Nat.{ℕ, zero, suc, _+_, _-_, _*_, _≤_, _<_, min}
 use native.Mathlib.Omega.{arith}
-use lib.ListN.{length, getD, drop}
+use lib.ListN.{length, drop}
 use lib.Dec.{leb}
 use Rattle.kinds.specs.Limits.{sizeOf, bufferSize}
 use Rattle.rules.specs.Basics.{if_then_else_, lastOf}
 use Rattle.rules.specs.Tables.{Piece, Tables, piece, headOf, pieceTotal}
-use Rattle.rules.specs.Chain.{Stretch, walk, chain, stretch, stretches, spans, total, lengthOf, cutOut}
-use Rattle.rules.specs.Room.{isUnheld, newBuffers}
+use Rattle.rules.specs.Chain.{Stretch, walk, chain, stretches, spans, cutOut}
 use Rattle.rules.specs.Build.{built, laid}
 use Rattle.rules.proofs.Logic.{if-either, not-most}
-use Rattle.rules.proofs.Moves.{SoundBy, SoundWith, SoundNow, in-range, buffer-pos}
+use Rattle.rules.proofs.Moves.{SoundBy, SoundNow, in-range, buffer-pos}
 use Rattle.rules.proofs.Rank.{next-pos, head-pos}
 use Rattle.rules.proofs.Build.{Free, Good, built-other}
-use Rattle.rules.proofs.Room.{AllIn, new-buffers-in}
+use Rattle.rules.proofs.Room.{AllIn}
 
 -- ---- pieces in use
 

@@ -1,8 +1,8 @@
 -- The bytes of stretches: what parts of them hold, and what a write to storage changes. Assumes nothing.
 use mathlib.Core.Path.{_≡_, refl, sym, ap, ap₂, subst, _∙_}
-use mathlib.Core.Logic.{_≢_, _⊎_, inl, inr, ⊎-elim}
+use mathlib.Core.Logic.{_≢_, _⊎_, inl, inr}
 use mathlib.Core.Bool.{Bool}
-use mathlib.Core.List.{List, [], _∷_, _++_, map, append-assoc, List·Memᴰ, List·Memᴰ·head, List·Memᴰ·tail, List·Memᴰ·not-nil, List·Memᴰ·cases-cons}
+use mathlib.Core.List.{List, [], _∷_, _++_, map, append-assoc, List·Memᴰ, List·Memᴰ·head, List·Memᴰ·tail}
 use Prim.Native.Nat.{ℕ, zero, suc, _+_, _-_, _*_, _≤_, _<_, min}
 use native.Mathlib.Nat.{zero-min, min-zero, suc-min-suc, suc-sub-suc, zero-sub, sub-zero, add-assoc}
 use native.Mathlib.Decide.{decLt}
@@ -32,7 +32,7 @@ take-take-min (suc m) zero l = rw min-zero
 take-take-min (suc m) (suc n) [] = rw suc-min-suc
 take-take-min (suc m) (suc n) (x ∷ l) = rw suc-min-suc (ap (λ (q : List ℕ). x ∷ q) (take-take-min m n l))
 
-drop-take : (m n : ℕ) (l : List ℕ) → drop m (take n l) ≡ take (n - m) (drop m l)
+pub drop-take : (m n : ℕ) (l : List ℕ) → drop m (take n l) ≡ take (n - m) (drop m l)
 drop-take zero n l = rw sub-zero
 drop-take (suc m) zero l = rw zero-sub
 drop-take (suc m) (suc n) [] = rw take-nil

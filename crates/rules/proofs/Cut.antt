@@ -12,8 +12,8 @@ use Rattle.rules.proofs.Moves.{SoundNow}
 use Rattle.rules.proofs.Build.{plain-planned, new-sound}
 use Rattle.rules.proofs.Room.{free-pieces, new-slip-ok}
 use Rattle.rules.proofs.Chain.{spans-good, cutOut-good}
-use mathlib.Core.Path.{_≡_, refl, _∙_, ap}
-use mathlib.Core.List.{List, [], _++_, append-nil}
+use mathlib.Core.Path.{_≡_}
+use mathlib.Core.List.{[], append-nil}
 use Rattle.rules.proofs.Meets.{stop, same-refl}
 use Rattle.rules.proofs.Hang.{Gives, gives-as, new-gives}
 use Rattle.rules.proofs.Contents.{Fit, contents-length}

@@ -1,8 +1,8 @@
 -- Demand 3, whole: any list of calls from the pool that a done open has written. Assumes nothing.
-use mathlib.Core.Path.{_≡_, refl, sym, ap, subst, _∙_}
+use mathlib.Core.Path.{_≡_, sym, ap, _∙_}
 use mathlib.Core.Logic.{_≢_, _↔_}
-use mathlib.Core.Bool.{Bool, true, false, not}
-use mathlib.Core.List.{List, [], _∷_, _++_}
+use mathlib.Core.Bool.{not}
+use mathlib.Core.List.{List, [], _∷_}
 use Prim.Native.Nat.{ℕ, _≤_, _<_}
 use native.Mathlib.Decide.{ℕ-discrete}
 use native.Mathlib.Omega.{arith}
@@ -12,15 +12,13 @@ use Rattle.kinds.specs.Refusal.{refusalCode}
 use Rattle.rules.specs.Basics.{Is, if_then_else_}
 use Rattle.rules.specs.Tables.{Tables}
 use Rattle.rules.specs.Bytes.{decode}
-use Rattle.rules.specs.Chain.{State}
 use Rattle.rules.specs.Sound.{Lent, sound}
-use Rattle.rules.specs.Rule.{Judged, _⇐_, firstCode, Wants, want, room, Rule, full, codeIn}
+use Rattle.rules.specs.Rule.{_⇐_, firstCode, Wants, want, room, full}
 use Rattle.rules.specs.Open.{openable}
 use Rattle.rules.specs.Step.{Operation, Call, Open, Do, rule, Result, step, stateIn, next, run}
-use Rattle.rules.specs.Recount.{recounted, leaves}
-use Rattle.rules.specs.Demand.{early, wanted, left, CallOk, Each, Demand3, DemandThree}
+use Rattle.rules.specs.Recount.{recounted}
+use Rattle.rules.specs.Demand.{early, wanted, left, CallOk, Each, DemandThree}
 use Rattle.rules.proofs.Logic.{if-T, if-F, if-either, eq→eqb}
-use Rattle.rules.proofs.Moves.{SoundNow}
 use Rattle.rules.proofs.Audit.{sound-now}
 use Rattle.rules.proofs.Recount.{recount, recounted-same, leaves-room}
 use Rattle.rules.proofs.Codes.{first-yes, first-no, first-none, first-append, none-full, Full, full-facts, judged-early}

@@ -1,6 +1,6 @@
 -- drop: soundness is kept, and what its slip then holds. Assumes nothing.
 use mathlib.Core.Path.{_≡_, refl, sym, ap, subst, subst₂, _∙_}
-use mathlib.Core.Bool.{Bool, true, _&&_, false}
+use mathlib.Core.Bool.{Bool, true, _&&_}
 use mathlib.Core.List.{List, [], _∷_, _++_, List·Memᴰ}
 use Prim.Native.Nat.{ℕ, zero, suc, _+_, _-_, _<_, _≤_, pred}
 use native.Mathlib.Nat.{suc-inj}
@@ -10,21 +10,21 @@ use lib.ListN.{length, take, length-set}
 use lib.Seq.{getD-set-same, getD-set-other}
 use lib.Dec.{eqb, leb, eqb→eq, leb→le, le→leb}
 use Rattle.rules.specs.Basics.{if_then_else_, Is}
-use Rattle.rules.specs.Tables.{Piece, Tables, blank, piece, slipTotal, setPiece, withCount, slip, headOf, setSlip, withPlace}
+use Rattle.rules.specs.Tables.{Piece, Tables, blank, piece, slipTotal, setPiece, withCount, headOf, setSlip}
 use Rattle.rules.specs.Chain.{State, chain, stretch, Stretch, stretches, spans}
 use Rattle.rules.specs.Room.{freePieces}
 use Rattle.rules.specs.Release.{shared}
 use Rattle.rules.specs.Build.{Plan, underOld}
 use Rattle.rules.specs.Drop.{shorter, dropHere, dropPlan, dropped, dropAfter, ownAt}
 use Rattle.rules.proofs.Logic.{if-either, not-most, and-0, and-1, if-T, if-F}
-use Rattle.rules.proofs.Moves.{SoundBy, SoundNow, used-in-range, in-range, buffer-pos, trim-move, reorder, slip-move, by-place}
+use Rattle.rules.proofs.Moves.{SoundBy, SoundNow, used-in-range, in-range, buffer-pos, trim-move, reorder, slip-move}
 use Rattle.rules.proofs.Rank.{next-pos}
 use Rattle.rules.proofs.Release.{held-pos}
 use Rattle.rules.proofs.Build.{share-sound, still-shared, still-store, still-trans, Planned, plain-planned, old-sound, OwnTo, own-still}
 use Rattle.rules.proofs.Room.{free-pieces}
 use Rattle.rules.proofs.Chain.{AllUsed, chain-used}
-use mathlib.Core.Logic.{_≢_, ⊎-elim}
-use Rattle.rules.proofs.Meets.{Meets, stop, go, chain-meets, meets-low, Alike, alike, Agree, agree-all, agree-but, agree-meets, agree-stretches, Same, same-by, same-refl, same-trans, slip-same, shared-same, Safe, head-safe, own-apart}
+use mathlib.Core.Logic.{_≢_}
+use Rattle.rules.proofs.Meets.{Meets, stop, go, chain-meets, meets-low, Alike, alike, Agree, agree-but, agree-meets, agree-stretches, Same, same-by, same-refl, slip-same, shared-same, Safe, head-safe, own-apart}
 use Rattle.rules.proofs.Hang.{Gives, gives-as, old-gives}
 use Rattle.rules.proofs.Contents.{dropOut}
 

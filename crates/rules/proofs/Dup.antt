@@ -1,9 +1,9 @@
 -- dup: soundness is kept, and what its slip then holds. Assumes nothing.
-use mathlib.Core.Path.{_≡_, refl, sym, ap, subst, _∙_}
+use mathlib.Core.Path.{_≡_, refl, ap}
 use mathlib.Core.List.{[], _∷_, List, _++_}
 use Prim.Native.Nat.{ℕ, zero, suc, _<_, _≤_}
 use lib.ListN.{length, take, drop}
-use Rattle.rules.specs.Tables.{Tables, piece, headOf, slipTotal}
+use Rattle.rules.specs.Tables.{Tables, piece, headOf}
 use Rattle.rules.specs.Chain.{State, stretches, Stretch, chain, stretch, spans}
 use Rattle.rules.specs.Room.{vacantSlips, freePieces, newSlip}
 use Rattle.rules.specs.Dup.{dupPlan, dupAfter}
@@ -12,7 +12,6 @@ use Rattle.rules.proofs.Rank.{next-pos, head-pos}
 use Rattle.rules.proofs.Build.{share-sound, still-shared, Planned, plain-planned, new-sound}
 use Rattle.rules.proofs.Room.{free-pieces, new-slip-ok}
 use Rattle.rules.proofs.Chain.{stretches-good}
-use native.Mathlib.Omega.{arith}
 use Rattle.rules.proofs.Meets.{Meets, stop, go, chain-meets, same-refl, shared-same}
 use Rattle.rules.proofs.Hang.{Gives, gives-as, new-gives}
 

@@ -1,5 +1,5 @@
 -- free keeps soundness. Assumes nothing.
-use Prim.Native.Nat.{ℕ, _+_, _<_}
+use Prim.Native.Nat.{ℕ, _<_}
 use native.Mathlib.Omega.{arith}
 use Rattle.rules.specs.Tables.{slipTotal}
 use Rattle.rules.specs.Chain.{State}

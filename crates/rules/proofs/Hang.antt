@@ -1,25 +1,25 @@
 -- Where a new chain is hung: what its slip then covers, and that all other slips keep theirs. Assumes nothing.
 use mathlib.Core.Path.{_≡_, refl, sym, ap, subst, _∙_}
-use mathlib.Core.Logic.{_≢_, _⊎_, inl, inr, ⊎-elim}
-use mathlib.Core.List.{List, [], _∷_, _++_, List·Memᴰ}
+use mathlib.Core.Logic.{_≢_}
+use mathlib.Core.List.{List, [], _∷_, _++_}
 use Prim.Native.Nat.{ℕ, zero, suc, _+_, _≤_, _<_, pred}
 use native.Mathlib.Nat.{suc-inj}
 use native.Mathlib.Omega.{arith}
-use lib.ListN.{length, getD, set, take, drop}
+use lib.ListN.{length, getD, take}
 use lib.Seq.{getD-set-same, getD-set-other, take-at}
 use lib.Dec.{eqb, eqb→eq}
 use Rattle.rules.specs.Basics.{if_then_else_, lastOf}
-use Rattle.rules.specs.Tables.{Piece, Tables, blank, slip, piece, headOf, holding, slipTotal, pieceTotal, setSlip, setPiece, withNext}
-use Rattle.rules.specs.Chain.{Stretch, State, walk, chain, stretch, stretches, spans, ownPieces}
+use Rattle.rules.specs.Tables.{Piece, Tables, blank, slip, piece, headOf, holding, slipTotal, pieceTotal, setSlip, withNext}
+use Rattle.rules.specs.Chain.{Stretch, State, chain, stretch, stretches, spans, ownPieces}
 use Rattle.rules.specs.Release.{withTables, release, turned, relinked}
 use Rattle.rules.specs.Build.{Plan, made, madeLink, underNew, underOld, behindOwn}
 use Rattle.rules.proofs.Logic.{if-either}
-use Rattle.rules.proofs.Moves.{SoundBy, SoundWith, SoundNow, hit, occ, hit-same, by-place, used-in-range, reorder, slip-move}
+use Rattle.rules.proofs.Moves.{SoundBy, SoundWith, SoundNow, hit, hit-same, by-place, used-in-range, reorder, slip-move}
 use Rattle.rules.proofs.Rank.{head-pos}
 use Rattle.rules.proofs.Release.{held-pos, release-slips}
 use Rattle.rules.proofs.Build.{Free, OwnTo, OwnList, Planned, plan-built, made-slips, free-of-still, withTail, own-still, tail-sound}
 use Rattle.rules.proofs.Chain.{AllUsed}
-use Rattle.rules.proofs.Meets.{Meets, stop, go, meets-walk, chain-meets, meets-one, meets-used, Alike, alike, Agree, agree-all, agree-but, agree-meets, agree-stretches, Same, same-by, same-refl, same-trans, slip-same, Safe, head-safe, release-same, built-same, built-meets, own-apart}
+use Rattle.rules.proofs.Meets.{Meets, stop, go, chain-meets, meets-one, meets-used, alike, agree-but, Same, same-by, same-trans, slip-same, Safe, head-safe, release-same, built-same, built-meets, own-apart}
 
 -- From T to T′, slip s comes to hold the pieces l, which cover xs; every other slip holds what it held.
 pub record Gives (T T′ : Tables) (s : ℕ) (l : List ℕ) (xs : List Stretch) : Type 0 where

@@ -1,27 +1,27 @@
 -- keep: soundness is kept, and what its slip then holds. Assumes nothing.
 use mathlib.Core.Path.{_≡_, refl, sym, ap, subst, _∙_}
-use mathlib.Core.List.{List, [], _∷_, _++_, List·Memᴰ, append-nil}
+use mathlib.Core.List.{List, [], _∷_, _++_, append-nil}
 use Prim.Native.Nat.{ℕ, zero, suc, _+_, _≤_, _<_, pred, _-_, min}
 use native.Mathlib.Omega.{arith}
 use lib.ListN.{length, getD, drop, take, take-append-drop, length-drop}
 use lib.Dec.{eqb, leb, leb→le}
 use Rattle.rules.specs.Basics.{if_then_else_, lastOf}
 use Rattle.rules.specs.Tables.{Piece, Tables, blank, piece, headOf, slipTotal, bufferTotal, setPiece, withPlace, slip, setSlip, pieceTotal}
-use Rattle.rules.specs.Chain.{State, Stretch, spans, lengthOf, chain, stretch, stretches, ownPieces, cutOut}
+use Rattle.rules.specs.Chain.{State, Stretch, spans, lengthOf, stretch, stretches, cutOut}
 use Rattle.rules.specs.Room.{freePieces}
 use Rattle.rules.specs.Release.{withTables}
 use Rattle.rules.specs.Build.{built, builtLink}
 use Rattle.rules.specs.Keep.{kept, keptOwn, keptNotOwn, shortened, keptBy, keepAfter}
-use Rattle.rules.proofs.Logic.{if-either, if-T, if-F}
-use Rattle.rules.proofs.Moves.{SoundBy, SoundNow, used-in-range, by-place, reorder, trim-move, SoundWith, slip-move}
+use Rattle.rules.proofs.Logic.{if-either, if-F}
+use Rattle.rules.proofs.Moves.{SoundBy, SoundNow, used-in-range, by-place, reorder, trim-move, slip-move}
 use Rattle.rules.proofs.Build.{OwnTo, OwnList, own-pieces, own-list-still, Good, built-sound, built-kept, behind-sound, own-still}
 use Rattle.rules.proofs.Room.{free-pieces}
-use Rattle.rules.proofs.Chain.{spans-good, cutOut-good, good-drop, good-last, built-own, AllUsed}
+use Rattle.rules.proofs.Chain.{spans-good, cutOut-good, good-drop, good-last, built-own}
 use mathlib.Core.Logic.{_≢_}
 use lib.Seq.{getD-set-same, getD-set-other}
 use Rattle.rules.proofs.Rank.{head-pos}
-use Rattle.rules.proofs.Meets.{Meets, stop, alike, agree-but, agree-stretches, Same, same-by, same-refl, slip-same, Safe, head-safe, own-apart, built-same, built-meets, built-agree}
-use Rattle.rules.proofs.Hang.{Gives, gives-as, gives-from, behind-gives, Run, run-low, own-run, own-short, Ones, ones-used, own-ones, run-still, own-front, stretches-length}
+use Rattle.rules.proofs.Meets.{stop, alike, agree-but, agree-stretches, Same, same-by, same-refl, slip-same, Safe, head-safe, own-apart, built-same, built-meets, built-agree}
+use Rattle.rules.proofs.Hang.{Gives, gives-as, gives-from, behind-gives, Run, run-low, own-run, own-short, Ones, ones-used, own-ones, run-still, own-front}
 
 own-last : (j : ℕ) (T : Tables) (n l : ℕ) → OwnTo j T n l → piece T l .count ≡ 1
 own-last zero T n l o = o .1

@@ -1,12 +1,12 @@
 -- Laws of the tests and of `if`. Assumes nothing.
-use mathlib.Core.Path.{_≡_, refl, sym, ap, subst, _∙_}
+use mathlib.Core.Path.{_≡_, refl, sym, subst}
 use mathlib.Core.Logic.{_≢_, _⊎_, inl, inr}
 use mathlib.Core.Bool.{Bool, true, false, not, _&&_, _||_}
-use Prim.Native.Nat.{ℕ, zero, suc, _+_, _≤_, _<_}
+use Prim.Native.Nat.{ℕ, zero, suc, _≤_, _<_}
 use native.Mathlib.Nat.{not-suc-le-zero}
 use native.Mathlib.Decide.{ℕ-discrete, decLt, decLe}
 use native.Mathlib.Omega.{arith}
-use lib.Dec.{ltb, ltb→lt, lt→ltb, eqb, eqb→eq, eqb-refl, leb, leb→le, le→leb}
+use lib.Dec.{ltb, lt→ltb, eqb, eqb→eq, eqb-refl, leb, le→leb}
 use Rattle.rules.specs.Basics.{Is, if_then_else_, bit, allTo, anyTo}
 
 -- ---- if
@@ -26,6 +26,12 @@ pub if-either : {A : Type 0} (P : A → Type 0) (b : Bool) (m n : A) → (Is b �
 unfolding if_then_else_
 if-either P true m n f g = f tt
 if-either P false m n f g = g (λ t. t)
+
+-- and so of two choices by the same test
+pub if-both : {A B : Type 0} (P : A → B → Type 0) (b : Bool) (m n : A) (x y : B) → (Is b → P m x) → ((Is b → ⊥) → P n y) → P (if b then m else n) (if b then x else y)
+unfolding if_then_else_
+if-both P true m n x y f g = f tt
+if-both P false m n x y f g = g (λ t. t)
 
 -- ---- tests
 

@@ -2,22 +2,20 @@
 use mathlib.Core.Path.{_≡_, refl, sym, ap, subst, _∙_}
 use mathlib.Core.Logic.{_≢_, _⊎_, inl, inr, ⊎-elim}
 use mathlib.Core.List.{List, [], _∷_, _++_, List·Memᴰ, List·Memᴰ·head, List·Memᴰ·tail, List·Memᴰ·not-nil, List·Memᴰ·cases-cons, List·Memᴰ·append-cases}
-use Prim.Native.Nat.{ℕ, zero, suc, _+_, _-_, _≤_, _<_, pred}
-use native.Mathlib.Nat.{suc-inj}
+use Prim.Native.Nat.{ℕ, zero, suc, _+_, _-_, _≤_, _<_}
 use native.Mathlib.Omega.{arith}
-use lib.ListN.{length, getD, set, take}
+use lib.ListN.{length, take}
 use lib.Seq.{getD-set-same, getD-set-other}
-use lib.Dec.{ltb, ltb→lt}
-use Rattle.rules.specs.Basics.{if_then_else_, sumTo, lastOf}
-use Rattle.rules.specs.Tables.{Piece, Tables, blank, piece, headOf, pieceTotal, setSlip, setPiece, withCount}
+use Rattle.rules.specs.Basics.{if_then_else_}
+use Rattle.rules.specs.Tables.{Piece, Tables, blank, piece, headOf, pieceTotal, setSlip, withCount}
 use Rattle.rules.specs.Chain.{Stretch, State, walk, chain, stretch, stretches}
 use Rattle.rules.specs.Sound.{heads}
-use Rattle.rules.specs.Release.{withTables, lowered, freed, releaseIn, release, raised, shared}
+use Rattle.rules.specs.Release.{lowered, freed, releaseIn, release, raised, shared}
 use Rattle.rules.specs.Build.{fresh, taken, built, builtLink}
 use Rattle.rules.proofs.Logic.{if-either}
 use Rattle.rules.proofs.Sums.{sumTo-two}
-use Rattle.rules.proofs.Moves.{SoundBy, SoundWith, SoundNow, hit, occ, links, hit-same, links-at, heads-at, in-range, used-in-range, by-place, freedTables, free-move}
-use Rattle.rules.proofs.Rank.{low, low-below, lower-rank, head-pos}
+use Rattle.rules.proofs.Moves.{SoundBy, SoundWith, hit, occ, links, hit-same, links-at, heads-at, in-range, used-in-range, by-place, freedTables, free-move}
+use Rattle.rules.proofs.Rank.{low-below, lower-rank, head-pos}
 use Rattle.rules.proofs.Release.{held-pos, last-one}
 use Rattle.rules.proofs.Build.{Free, OwnTo, built-other, built-kept}
 use Rattle.rules.proofs.Chain.{AllUsed, used-not-free}

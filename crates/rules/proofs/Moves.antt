@@ -1,7 +1,7 @@
 -- Soundness while an operation is under way, and the elementary moves, each of which keeps it. Assumes nothing.
 use mathlib.Core.Path.{_≡_, refl, sym, ap, subst, _∙_}
 use mathlib.Core.Logic.{_≢_}
-use mathlib.Core.Bool.{Bool, true, false, _&&_}
+use mathlib.Core.Bool.{Bool, _&&_}
 use mathlib.Core.List.{List, [], _∷_}
 use Prim.Native.Nat.{ℕ, zero, suc, _+_, _-_, _≤_, _<_, pred}
 use native.Mathlib.Nat.{not-suc-le-zero}
@@ -11,8 +11,8 @@ use lib.ListN.{length, getD, set, length-set, List·getD-eq-default}
 use lib.Seq.{getD-set-same, getD-set-other}
 use lib.Dec.{eqb, eqb→eq, eqb-refl, lt→ltb}
 use Rattle.kinds.specs.Limits.{sizeOf}
-use Rattle.rules.specs.Basics.{Is, if_then_else_, bit, sumTo}
-use Rattle.rules.specs.Tables.{Piece, Tables, blank, slip, piece, bufferCount, headOf, setSlip, setPiece, setPieceCount, withCount, withNext, withPlace}
+use Rattle.rules.specs.Basics.{if_then_else_, bit, sumTo}
+use Rattle.rules.specs.Tables.{Piece, Tables, blank, piece, bufferCount, headOf, setSlip, setPiece, setPieceCount, withCount, withNext, withPlace}
 use Rattle.rules.specs.Sound.{inUse, leads, heads, lying}
 use Rattle.rules.specs.Release.{raised, lowered}
 use Rattle.rules.specs.Build.{taken}

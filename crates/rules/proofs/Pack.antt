@@ -1,5 +1,5 @@
 -- pack: soundness is kept, and what its slip then holds. Assumes nothing.
-use mathlib.Core.List.{List, [], append-nil}
+use mathlib.Core.List.{[], append-nil}
 use Prim.Native.Nat.{ℕ, _<_, _≤_}
 use lib.ListN.{length, take}
 use lib.Dec.{leb}
@@ -14,7 +14,7 @@ use Rattle.rules.proofs.Moves.{SoundNow}
 use Rattle.rules.proofs.Build.{plain-planned, old-sound}
 use Rattle.rules.proofs.Room.{free-pieces}
 use Rattle.rules.proofs.Put.{new-good, new-count}
-use mathlib.Core.Path.{_≡_, refl, sym, ap, _∙_}
+use mathlib.Core.Path.{ap, _∙_}
 use native.Mathlib.Omega.{arith}
 use Rattle.rules.proofs.Meets.{stop, same-refl}
 use Rattle.rules.proofs.Hang.{Gives, gives-as, old-gives}

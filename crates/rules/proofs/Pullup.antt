@@ -1,11 +1,10 @@
 -- pullup: soundness is kept, and what its slip then holds. Assumes nothing.
 use mathlib.Core.List.{List, _++_, append-assoc}
-use Prim.Native.Nat.{ℕ, _+_, _*_, _≤_, _<_}
+use Prim.Native.Nat.{ℕ, _+_, _≤_, _<_}
 use native.Mathlib.Omega.{arith}
 use lib.ListN.{length, length-take, take, length-append}
 use lib.Dec.{leb}
-use Rattle.kinds.specs.Limits.{bufferSize}
-use Rattle.rules.specs.Basics.{if_then_else_, Is}
+use Rattle.rules.specs.Basics.{if_then_else_}
 use Rattle.rules.specs.Tables.{Tables, slipTotal, bufferTotal}
 use Rattle.rules.specs.Chain.{State, spans, firstLength, Stretch, stretches}
 use Rattle.rules.specs.Room.{isUnheld, freePieces, freeBuffers, newBuffers}
@@ -17,8 +16,8 @@ use Rattle.rules.proofs.Moves.{SoundNow}
 use Rattle.rules.proofs.Build.{Good, Planned, old-sound}
 use Rattle.rules.proofs.Room.{free-pieces, new-buffers-in}
 use Rattle.rules.proofs.Chain.{laid-good, good-append}
-use Rattle.rules.proofs.Drop.{dropped-planned, Leaves, dropped-leaves}
-use mathlib.Core.Path.{_≡_, refl, sym, ap, _∙_}
+use Rattle.rules.proofs.Drop.{dropped-planned, dropped-leaves}
+use mathlib.Core.Path.{_≡_, refl, ap, _∙_}
 use Rattle.rules.proofs.Contents.{dropOut}
 use Rattle.rules.proofs.Hang.{Gives, gives-as, old-gives}
 use Rattle.rules.proofs.Put.{new-count}

@@ -1,11 +1,10 @@
 -- put: soundness is kept, and what its slip then holds. Assumes nothing.
-use mathlib.Core.List.{List, [], _∷_, _++_, append-nil}
-use Prim.Native.Nat.{ℕ, suc, _+_, _-_, _*_, _/_, _≤_, _<_}
+use mathlib.Core.List.{List, [], append-nil}
+use Prim.Native.Nat.{ℕ, _-_, _≤_, _<_}
 use native.Mathlib.Omega.{arith}
 use lib.ListN.{length, length-take, take}
-use Rattle.kinds.specs.Limits.{bufferSize, sizeOf}
 use Rattle.rules.specs.Tables.{Tables, bufferTotal}
-use Rattle.rules.specs.Chain.{State, Stretch, stretches}
+use Rattle.rules.specs.Chain.{State, stretches}
 use Rattle.rules.specs.Room.{isUnheld, vacantSlips, freePieces, freeBuffers, newSlip, newBuffers}
 use Rattle.rules.specs.Build.{plain, buffersFor, laid}
 use Rattle.rules.specs.Put.{putAfter}
@@ -13,7 +12,7 @@ use Rattle.rules.proofs.Moves.{SoundNow}
 use Rattle.rules.proofs.Build.{Good, new-sound, plain-planned}
 use Rattle.rules.proofs.Room.{free-pieces, new-slip-ok, new-buffers-in}
 use Rattle.rules.proofs.Chain.{laid-good}
-use mathlib.Core.Path.{_≡_, refl, sym, ap, _∙_}
+use mathlib.Core.Path.{_≡_, ap, _∙_}
 use Rattle.rules.proofs.Meets.{stop, same-refl}
 use Rattle.rules.proofs.Hang.{Gives, gives-as, new-gives}
 use Rattle.rules.proofs.Contents.{laid-count}

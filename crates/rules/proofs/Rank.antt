@@ -10,7 +10,7 @@ use Rattle.rules.specs.Basics.{bit, sumTo}
 use Rattle.rules.specs.Tables.{Tables, piece, headOf}
 use Rattle.rules.proofs.Logic.{bit-T, bit-F, bit-one}
 use Rattle.rules.proofs.Sums.{sumTo-lt, sumTo-one}
-use Rattle.rules.proofs.Moves.{SoundBy, links-at, heads-at, hit-same, used-in-range}
+use Rattle.rules.proofs.Moves.{SoundBy, links-at, heads-at, used-in-range}
 
 less : ℕ → ℕ → ℕ
 less m n = bit (ltb m n)

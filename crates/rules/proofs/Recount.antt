@@ -4,7 +4,6 @@ use mathlib.Core.Logic.{_↔_, ⊎-elim}
 use mathlib.Core.Bool.{Bool, not, _&&_}
 use mathlib.Core.List.{List, [], _∷_}
 use Prim.Native.Nat.{ℕ, zero, suc, _+_, _≤_, _<_}
-use native.Mathlib.Nat.{suc-inj}
 use native.Mathlib.Decide.{ℕ-discrete}
 use native.Mathlib.Omega.{arith}
 use lib.ListN.{length, getD}
@@ -23,15 +22,12 @@ use Rattle.rules.proofs.Rank.{low-below, lower-rank, next-pos, head-pos
 use Rattle.rules.proofs.Room.{places-count-0}
 use Rattle.rules.proofs.Audit.{ends-within, met-once, nexts-links}
 
--- ---- chains end: from a link to a piece in use, from a piece in use, and from a slip's head
+-- ---- chains end: from a link to a piece in use, and from a slip's head
 
 pub ends-by : (T : Tables) → SoundNow T → (n : ℕ) → ((d : ℕ) → n ≡ suc d → 0 < piece T d .count) → follow T (pieceTotal T) n ≡ 0
 ends-by T (rank, S) n h =
     let P = pieceTotal T in
     ends-within T (lower-rank S .falls) P n (λ d q. low-below P rank d (used-in-range T d (h d q)))
-
-pub used-ends : (T : Tables) → SoundNow T → (d : ℕ) → 0 < piece T d .count → follow T (pieceTotal T) (suc d) ≡ 0
-used-ends T S d u = ends-by T S (suc d) (λ e q. subst (λ x. 0 < piece T x .count) (suc-inj q) u)
 
 pub head-ends : (T : Tables) → SoundNow T → (s : ℕ) → follow T (pieceTotal T) (headOf T s) ≡ 0
 head-ends T S s = ends-by T S (headOf T s) (λ d h. head-pos s d (S .1) h)

@@ -1,17 +1,17 @@
 -- Release keeps soundness, and leaves storage alone. Assumes nothing.
-use mathlib.Core.Path.{_≡_, refl, sym, ap, subst, _∙_}
-use mathlib.Core.List.{List, [], _∷_}
-use Prim.Native.Nat.{ℕ, zero, suc, _+_, _-_, _≤_, _<_, pred}
+use mathlib.Core.Path.{_≡_, refl, subst}
+use mathlib.Core.List.{List, _∷_}
+use Prim.Native.Nat.{ℕ, zero, suc, _-_, _<_, pred}
 use native.Mathlib.Decide.{decLt}
 use native.Mathlib.Omega.{arith}
 use lib.ListN.{length}
-use lib.Dec.{ltb, ltb→lt, lt→ltb}
+use lib.Dec.{ltb→lt, lt→ltb}
 use Rattle.rules.specs.Basics.{Is, if_then_else_}
-use Rattle.rules.specs.Tables.{Tables, slip, piece, headOf, holding, vacant, pieceTotal, setSlip}
+use Rattle.rules.specs.Tables.{Tables, piece, headOf, pieceTotal, setSlip}
 use Rattle.rules.specs.Chain.{State}
-use Rattle.rules.specs.Release.{withTables, lowered, another, freed, releaseIn, release, turned}
+use Rattle.rules.specs.Release.{withTables, another, freed, releaseIn, release, turned}
 use Rattle.rules.proofs.Logic.{if-either}
-use Rattle.rules.proofs.Moves.{SoundBy, SoundWith, SoundNow, occ, hit, hit-same, used-in-range, reorder, slip-move, lower-move, free-move}
+use Rattle.rules.proofs.Moves.{SoundBy, SoundWith, hit-same, used-in-range, reorder, slip-move, lower-move, free-move}
 use Rattle.rules.proofs.Rank.{low, low-below, lower-rank}
 
 pub no-link : {rank : ℕ → ℕ} {fl : List ℕ} {T : Tables} → SoundBy rank (0 ∷ fl) T → SoundBy rank fl T

@@ -1,15 +1,15 @@
 -- The free numbers in ascending order, and how many there are. Assumes nothing.
 use mathlib.Core.Path.{_≡_, refl, sym, ap, subst, _∙_}
 use mathlib.Core.Logic.{⊎-elim}
-use mathlib.Core.Bool.{Bool, true, false, not, _&&_}
+use mathlib.Core.Bool.{Bool, not, _&&_}
 use mathlib.Core.List.{List, [], _∷_, _++_, List·Memᴰ, List·Memᴰ·head, List·Memᴰ·tail, List·Memᴰ·not-nil, List·Memᴰ·cases-cons}
 use Prim.Native.Nat.{ℕ, zero, suc, _+_, _≤_, _<_}
 use native.Mathlib.Decide.{ℕ-discrete}
 use native.Mathlib.Omega.{arith}
 use lib.ListN.{length, getD, take}
-use lib.Dec.{eqb, eqb→eq, T-not, not-T}
+use lib.Dec.{eqb→eq, T-not, not-T}
 use Rattle.rules.specs.Basics.{Is, if_then_else_, bit, sumTo, places, passing}
-use Rattle.rules.specs.Tables.{Tables, slip, piece, bufferCount, slipTotal, pieceTotal, bufferTotal}
+use Rattle.rules.specs.Tables.{Tables, slip, piece, slipTotal, pieceTotal, bufferTotal}
 use Rattle.rules.specs.Room.{isVacant, isFree, isUnheld, vacantSlips, freePieces, freeBuffers, newSlip, newBuffers}
 use Rattle.rules.proofs.Logic.{if-T, if-F, if-either, and-intro, and-0, and-1, bit-T, bit-F}
 use Rattle.rules.proofs.Sums.{sumTo-same, sumTo-shift}

@@ -1,19 +1,17 @@
 -- Every operation leaves the tables and storage as long as they were. Assumes nothing.
 use mathlib.Core.Path.{_≡_, refl, ap, _∙_}
-use mathlib.Core.Bool.{Bool, true, _&&_}
+use mathlib.Core.Bool.{Bool, true}
 use mathlib.Core.List.{List, [], _∷_}
-use Prim.Native.Nat.{ℕ, zero, suc, _+_, _-_, _≤_}
-use native.Mathlib.Omega.{arith}
-use lib.ListN.{length, take, drop, length-append, length-take, length-drop, length-set, length-replicate}
-use lib.Dec.{ltb, eqb, leb}
-use Rattle.kinds.specs.Limits.{startOf, sizeOf}
+use Prim.Native.Nat.{ℕ, zero, suc, _-_}
+use lib.ListN.{length, take, length-set}
+use lib.Dec.{eqb, leb}
 use Rattle.rules.specs.Basics.{lastOf}
 use Rattle.rules.specs.Layout.{storageLength}
 use Rattle.rules.specs.Tables.{Piece, Tables, blank, slip, piece, headOf, holding, vacant, bufferTotal, pieceTotal, setSlip, setPiece, setPieceCount}
 use Rattle.rules.specs.Chain.{State, Stretch, spans, chain, lengthOf, firstLength, reads}
 use Rattle.rules.specs.Room.{isUnheld, freePieces, newSlip, newBuffers}
 use Rattle.rules.specs.Release.{withTables, shared, freed, releaseIn, release, turned, relinked}
-use Rattle.rules.specs.Build.{built, builtLink, Plan, plain, made, madeLink, underNew, underOld, behindOwn, buffersFor, filled, stored}
+use Rattle.rules.specs.Build.{built, builtLink, Plan, plain, made, madeLink, underNew, underOld, behindOwn, buffersFor, stored}
 use Rattle.rules.specs.Put.{putAfter}
 use Rattle.rules.specs.Dup.{dupPlan, dupAfter}
 use Rattle.rules.specs.Cut.{cutAfter}
@@ -26,7 +24,7 @@ use Rattle.rules.specs.Step.{Operation, Audit, Put, Free, Dup, Cut, Appe
 use Rattle.rules.proofs.Logic.{if-either}
 use Rattle.rules.proofs.Release.{release-storage, turned-storage}
 use Rattle.rules.proofs.Build.{built-kept}
-use Rattle.rules.proofs.Room.{AllIn, new-buffers-in}
+use Rattle.rules.proofs.Room.{new-buffers-in}
 use Rattle.rules.proofs.Contents.{stored-length}
 
 -- ---- tables

@@ -1,22 +1,18 @@
 -- An operation that is done keeps the tables sound. Assumes nothing.
-use mathlib.Core.Path.{_≡_, subst}
+use mathlib.Core.Path.{_≡_}
 use mathlib.Core.Logic.{_≢_}
 use mathlib.Core.Bool.{_||_}
 use mathlib.Core.List.{List, [], _∷_}
-use Prim.Native.Nat.{ℕ, _+_, _<_}
-use native.Mathlib.Omega.{arith}
-use lib.Dec.{ltb, eqb, eqb-refl}
-use Rattle.kinds.specs.Limits.{bufferSize}
-use Rattle.kinds.specs.declared.Refusal.{Refusal}
-use Rattle.kinds.specs.declared.Refusal.the-variants.{Slip, Same, Long, Range}
-use Rattle.rules.specs.Basics.{Is}
+use Prim.Native.Nat.{ℕ, _<_}
+use lib.Dec.{eqb}
+use Rattle.kinds.specs.declared.Refusal.the-variants.{Slip, Same}
 use Rattle.rules.specs.Tables.{Tables, slip, slipTotal}
-use Rattle.rules.specs.Chain.{State, lengthOf}
-use Rattle.rules.specs.Rule.{Judged, _⇐_, firstCode, unnamed, Rule, codeIn}
+use Rattle.rules.specs.Chain.{State}
+use Rattle.rules.specs.Rule.{Judged, _⇐_, firstCode, unnamed}
 use Rattle.rules.specs.Step.{Operation, Audit, Put, Free, Dup, Cut, Append, Drop, Keep, Pullup, Pack, Length, Read, Show, rule}
 use Rattle.rules.proofs.Logic.{or-none, eq→eqb}
 use Rattle.rules.proofs.Moves.{SoundNow}
-use Rattle.rules.proofs.Codes.{first-zero, Allowed, allowed, named}
+use Rattle.rules.proofs.Codes.{first-zero, Allowed, named}
 use Rattle.rules.proofs.Put.{put-sound}
 use Rattle.rules.proofs.Free.{free-sound}
 use Rattle.rules.proofs.Dup.{dup-sound}

@@ -1,35 +1,34 @@
 -- Any call on any bytes: a no alters nothing, a done call is its rule on bytes, and soundness is kept. Assumes nothing.
 use mathlib.Core.Path.{_≡_, refl, sym, ap, subst, _∙_}
 use mathlib.Core.Logic.{_≢_, _↔_, ⊎-elim}
-use mathlib.Core.Bool.{Bool, true, false, not, _&&_}
-use mathlib.Core.List.{List, [], _∷_}
-use Prim.Native.Nat.{ℕ, zero, suc, _+_, _*_, _≤_, _<_}
+use mathlib.Core.List.{List, []}
+use Prim.Native.Nat.{ℕ, _≤_, _<_}
 use native.Mathlib.Decide.{ℕ-discrete}
 use native.Mathlib.Omega.{arith}
-use lib.ListN.{length, replicate, length-replicate}
+use lib.ListN.{length, length-replicate}
 use lib.Dec.{eqb, eqb→eq, leb, le→leb}
-use Rattle.kinds.specs.Limits.{mostBuffers, mostPieces, mostSlips, bufferSize, counted}
+use Rattle.kinds.specs.Limits.{mostBuffers, mostPieces, mostSlips, counted}
 use Rattle.kinds.specs.declared.Refusal.{Refusal}
 use Rattle.kinds.specs.declared.Refusal.the-variants.{Counts, Torn}
 use Rattle.kinds.specs.Refusal.{refusalCode}
 use Rattle.rules.specs.Basics.{Is, if_then_else_}
 use Rattle.rules.specs.Layout.{storageLength}
-use Rattle.rules.specs.Tables.{Tables, slipTotal, pieceTotal, bufferTotal, vacant, blank, freshTables, bufferCount}
-use Rattle.rules.specs.Bytes.{buffersIn, piecesIn, slipsIn, decode, encode}
+use Rattle.rules.specs.Tables.{Tables, slipTotal, pieceTotal, bufferTotal, blank, freshTables, bufferCount}
+use Rattle.rules.specs.Bytes.{decode, encode}
 use Rattle.rules.specs.Chain.{State, reads, bytesOf}
 use Rattle.rules.specs.Room.{isVacant}
 use Rattle.rules.specs.Sound.{Lent, headerOk, soundTables, sound}
-use Rattle.rules.specs.Rule.{Rule, noView, codeIn}
+use Rattle.rules.specs.Rule.{codeIn}
 use Rattle.rules.specs.Open.{openable}
-use Rattle.rules.specs.Step.{Operation, Call, Open, Do, rule, lentOut, Result, refused, stateIn, done, perform, step, next, run, lentTo}
+use Rattle.rules.specs.Step.{Operation, Call, Open, Do, rule, lentOut, Result, refused, stateIn, done, perform, step, next, lentTo}
 use Rattle.rules.specs.After.{readsAfter, vacantAfter}
-use Rattle.rules.proofs.Logic.{if-T, if-F, if-either, and-intro, and-0, and-1, eq→eqb, is-dec}
+use Rattle.rules.proofs.Logic.{if-T, if-F, if-either, and-intro, and-0, eq→eqb, is-dec}
 use Rattle.rules.proofs.Moves.{SoundNow}
-use Rattle.rules.proofs.Bytes.{Sized, SmallPiece, Header, header-facts, decode-slips, decode-pieces, decode-counts, decode-encode, encode-header, and-is, leb-is, eqb-is}
-use Rattle.rules.proofs.Bounds.{Small, small}
-use Rattle.rules.proofs.Sizes.{Sizes, rule-sizes, rule-storage}
+use Rattle.rules.proofs.Bytes.{Sized, header-facts, decode-slips, decode-pieces, decode-counts, decode-encode, encode-header, and-is, leb-is, eqb-is}
+use Rattle.rules.proofs.Bounds.{small}
+use Rattle.rules.proofs.Sizes.{rule-sizes, rule-storage}
 use Rattle.rules.proofs.Audit.{tables-pass, sound-now, fresh-sound}
-use Rattle.rules.proofs.Codes.{refusal-pos, allowed, first-listed}
+use Rattle.rules.proofs.Codes.{allowed, first-listed}
 use Rattle.rules.proofs.Sound.{rule-sound}
 use Rattle.rules.proofs.After.{reads-ok, wholeOf, held-stays}
 use Rattle.rules.specs.Takes.{Took, target}

@@ -26,7 +26,7 @@ use Rattle.rules.specs.Pullup.{pulled, pullupAfter, pullupWants}
 use Rattle.rules.specs.Pack.{packAfter, packWants}
 use Rattle.rules.specs.Step.{Operation, Audit, Put, Free, Dup, Cut, Append, Drop, Keep, Pullup, Pack, Length, Read, Show, rule}
 use Rattle.rules.specs.Takes.{tookSlips, Took, TakesOk}
-use Rattle.rules.proofs.Logic.{if-either, and-0, and-1, or-cases, eq→eqb, not-zero, not-most, bit-pos, any-at}
+use Rattle.rules.proofs.Logic.{if-either, if-both, and-0, and-1, or-cases, eq→eqb, not-zero, not-most, bit-pos, any-at}
 use Rattle.rules.proofs.Sums.{sumTo-pos}
 use Rattle.rules.proofs.Moves.{SoundBy, SoundWith, SoundNow, lies, buffer-pos, reorder}
 use Rattle.rules.proofs.Room.{AllIn, all-free, take-in, NoneOf, none-not, passing-all, passing-none, passing-front, passing-back, took-are}
@@ -222,11 +222,6 @@ new-laid T k n = ap (passing (isUnheld T)) (laid-buffers (newBuffers T k) n) ∙
 -- ---- each operation
 
 -- what holds of every branch of two choices by the same tests
-if-both : {A B : Type 0} (P : A → B → Type 0) (b : Bool) (m n : A) (x y : B) → (Is b → P m x) → ((Is b → ⊥) → P n y) → P (if b then m else n) (if b then x else y)
-unfolding if_then_else_
-if-both P true m n x y f g = f tt
-if-both P false m n x y f g = g (λ t. t)
-
 if-three : {A B : Type 0} (P : A → B → Type 0) (b c : Bool) (k m n : A) (x y : B) → P k x → P m x → P n y → P (if b then k else if c then m else n) (if b || c then x else y)
 unfolding if_then_else_
 if-three P true c k m n x y p q r = p

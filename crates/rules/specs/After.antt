@@ -9,7 +9,7 @@ use lib.Dec.{eqb}
 use Rattle.rules.specs.Basics.{if_then_else_}
 use Rattle.rules.specs.Chain.{State, reads}
 use Rattle.rules.specs.Room.{isVacant, newSlip}
-use Rattle.rules.specs.Rule.{Rule, View}
+use Rattle.rules.specs.Rule.{View}
 use Rattle.rules.specs.Step.{Operation, Audit, Put, Free, Dup, Cut, Append, Drop, Keep, Pullup, Pack, Length, Read, Show, rule}
 
 -- f, but x at s

@@ -1,6 +1,6 @@
 -- New pieces for a list of stretches, where they are hung, and new bytes in storage.
 use mathlib.Core.List.{List, [], _∷_, _++_}
-use Prim.Native.Nat.{ℕ, zero, suc, _+_, _-_, _/_, min}
+use Prim.Native.Nat.{ℕ, suc, _+_, _-_, _/_, min}
 use lib.ListN.{length, take, drop, replicate}
 use Rattle.kinds.specs.Limits.{bufferSize, sizeOf, startOf}
 use Rattle.rules.specs.Basics.{lastOf}

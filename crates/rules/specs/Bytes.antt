@@ -1,7 +1,6 @@
 -- From bytes to tables and back. All numbers are 16 bits, low byte first.
 use mathlib.Core.List.{List, [], _∷_, _++_}
-use Prim.Native.Nat.{ℕ, _+_, _*_}
-use lib.ListN.{length}
+use Prim.Native.Nat.{ℕ, _+_}
 use Rattle.word.specs.Word.{get16, bytes16}
 use Rattle.rules.specs.Basics.{table}
 use Rattle.rules.specs.Layout.{mark, version, slipAt, pieceAt, countAt}

@@ -1,8 +1,7 @@
 -- Chains: following next, the pieces that a slip's chain has, their stretches, and their bytes.
-use mathlib.Core.Bool.{Bool}
 use mathlib.Core.List.{List, [], _∷_, _++_}
 use Prim.Native.Nat.{ℕ, zero, suc, _+_, _-_, min}
-use lib.ListN.{length, take, drop}
+use lib.ListN.{take, drop}
 use lib.Dec.{eqb, leb}
 use Rattle.kinds.specs.Limits.{startOf}
 use Rattle.rules.specs.Basics.{if_then_else_}

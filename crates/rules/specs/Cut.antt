@@ -1,5 +1,5 @@
 -- cut s, off, len: a new slip on one new piece for each piece that overlaps the range, on the same buffers.
-use mathlib.Core.List.{List, [], _∷_}
+use mathlib.Core.List.{[], _∷_}
 use Prim.Native.Nat.{ℕ, _+_}
 use lib.ListN.{length}
 use lib.Dec.{ltb}

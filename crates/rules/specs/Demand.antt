@@ -8,7 +8,7 @@ use Rattle.kinds.specs.declared.Refusal.the-variants.{Counts, Torn, Slips, Piec
 use Rattle.kinds.specs.Refusal.{refusalCode}
 use Rattle.rules.specs.Bytes.{decode}
 use Rattle.rules.specs.Sound.{Lent, sound}
-use Rattle.rules.specs.Rule.{Rule, Wants, want, _⇐_, firstCode}
+use Rattle.rules.specs.Rule.{Wants, want, _⇐_, firstCode}
 use Rattle.rules.specs.Open.{openable}
 use Rattle.rules.specs.Step.{Call, Open, Do, rule, step, stateIn, next, run}
 use Rattle.rules.specs.Recount.{Recount, recounted, leaves}

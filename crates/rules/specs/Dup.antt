@@ -1,5 +1,5 @@
 -- dup s: a new slip on one new piece equal to the head, sharing its next and buffer (bf_dupacc).
-use mathlib.Core.List.{List, [], _∷_}
+use mathlib.Core.List.{[], _∷_}
 use Prim.Native.Nat.{ℕ, zero, suc}
 use lib.ListN.{length}
 use Rattle.kinds.specs.declared.Refusal.the-variants.{Slip}

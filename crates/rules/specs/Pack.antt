@@ -1,5 +1,5 @@
 -- pack s: the chain's bytes put afresh under the same slip.
-use mathlib.Core.List.{List, [], _∷_}
+use mathlib.Core.List.{[], _∷_}
 use Prim.Native.Nat.{ℕ}
 use lib.ListN.{length}
 use lib.Dec.{leb}

@@ -1,5 +1,5 @@
 -- pullup s, n: the first n bytes in one piece.
-use mathlib.Core.List.{List, [], _∷_, _++_}
+use mathlib.Core.List.{[], _∷_, _++_}
 use Prim.Native.Nat.{ℕ, suc}
 use lib.ListN.{length, take}
 use lib.Dec.{ltb, leb}

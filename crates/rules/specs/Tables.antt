@@ -1,7 +1,7 @@
 -- The pool's three tables as lists, and their entries.
 use mathlib.Core.Bool.{Bool, _&&_}
 use mathlib.Core.List.{List}
-use Prim.Native.Nat.{ℕ, zero, suc, pred}
+use Prim.Native.Nat.{ℕ, suc, pred}
 use lib.ListN.{length, getD, set, replicate}
 use lib.Dec.{eqb}
 

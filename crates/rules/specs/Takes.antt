@@ -1,14 +1,14 @@
 -- Which slips, pieces and buffers an operation takes: the lowest free at entry, in chain order.
 use mathlib.Core.Path.{_≡_}
-use mathlib.Core.Bool.{Bool, not, _&&_}
+use mathlib.Core.Bool.{not, _&&_}
 use mathlib.Core.List.{List, map}
 use Prim.Native.Nat.{ℕ, _≤_}
-use lib.ListN.{length, take}
+use lib.ListN.{take}
 use Rattle.rules.specs.Basics.{places, passing}
 use Rattle.rules.specs.Tables.{Tables, slipTotal, pieceTotal, bufferTotal}
 use Rattle.rules.specs.Chain.{State, Stretch, chain, spans}
 use Rattle.rules.specs.Room.{isVacant, isFree, isUnheld, vacantSlips, freePieces, freeBuffers, newSlip}
-use Rattle.rules.specs.Rule.{Rule, Wants, room}
+use Rattle.rules.specs.Rule.{Wants, room}
 use Rattle.rules.specs.Step.{Operation, Audit, Put, Free, Dup, Cut, Append, Drop, Keep, Pullup, Pack, Length, Read, Show, rule}
 
 -- the slip whose chain gets what is new

@@ -11,12 +11,11 @@ use lib.Seq.{length-take-le, getD-take, getD-set-same, set-set, sets-eq}
 use borrow.Author.Tests.{eqb-true, eqb-false}
 use Rattle.word.specs.Word.{get16, set16, bytes16}
 use Rattle.word.proofs.Laws.{Apart, length-set16, get16-same, get16-other, take-set16}
-use Rattle.rules.specs.Basics.{Is, table}
+use Rattle.rules.specs.Basics.{table}
 use Rattle.rules.specs.Layout.{mark, version, slipAt, pieceAt, countAt, poolLength}
 use Rattle.rules.specs.Tables.{Piece, Tables, blank, slip, piece, bufferCount, slipTotal, pieceTotal, bufferTotal, setSlip, setPiece, freshTables}
 use Rattle.rules.specs.Bytes.{versionIn, buffersIn, piecesIn, slipsIn, pieceIn, decode, encode}
-use Rattle.rules.specs.Sound.{Lent, headerOk}
-use Rattle.rules.proofs.Bytes.{AllBytes, getD-table, table-same, table-is, table-set, run-drop, pieces-drop, Sized, encode-length, encode-totals, decode-encode, decode-slips, decode-pieces, decode-counts, header-facts, fresh-bytes}
+use Rattle.rules.proofs.Bytes.{AllBytes, getD-table, table-same, table-is, table-set, run-drop, pieces-drop, decode-slips, decode-pieces, decode-counts, fresh-bytes}
 use Rattle.storage.proofs.Laws.{lent-zeroed}
 use Rattle.tables.specs.declared.Shape.{Shape}
 use Rattle.tables.specs.Shape.{Fits, Shaped, Holds, setCount}
@@ -272,23 +271,6 @@ fits-by p s l q v n =
     let lo : getD p 3 0 ≡ 1 = omega arith in
     let hi : getD p 4 0 ≡ 0 = omega arith in
     record { head = sym (take-five p (omega arith)) ∙ rw (s, l, q, lo, hi); long = n }
-
--- a good header fits
-pub fits-header : (m : Lent) → Is (headerOk m) → Fits (m .pool)
-fits-header m ok = let h = header-facts m ok in fits-by (m .pool) (h .mark-s) (h .mark-l) (h .mark-p) (h .version-is) (h .pool-long)
-
-encode-head : (T : Tables) → take 5 (encode T) ≡ 83 ∷ 76 ∷ 80 ∷ 1 ∷ 0 ∷ []
-unfolding encode
-encode-head T = refl
-
--- the bytes of tables hold those tables
-pub encoded : (T : Tables) {h : Shape} → Sized T → h .buffers ≡ bufferTotal T → h .pieces ≡ pieceTotal T → h .slips ≡ slipTotal T → Holds (encode T) h T
-encoded T z b p s =
-    let e = encode-totals T z in
-    record {
-      shaped = record { fits = record { head = encode-head T; long = encode-length T ∙ omega arith }; buffers = omega arith; pieces = omega arith; slips = omega arith };
-      is = decode-encode T z;
-    }
 
 -- a pool whose bytes are below 256 is the bytes of the tables that it holds
 pub fits-decode : (p : List ℕ) → AllBytes p → Fits p → encode (decode p) ≡ p

@@ -1,7 +1,7 @@
 -- A pool's shape: its three counts, read once from the header and handed on by value.
 use mathlib.Core.Path.{_≡_}
 use mathlib.Core.List.{List, [], _∷_}
-use Prim.Native.Nat.{ℕ, _≤_}
+use Prim.Native.Nat.{ℕ}
 use lib.ListN.{length, take, set}
 use Rattle.rules.specs.Layout.{poolLength}
 use Rattle.rules.specs.Tables.{Piece, Tables}

@@ -15,14 +15,14 @@ use Rattle.rules.specs.Build.{buffersFor, filled, stored}
 use Rattle.rules.proofs.Moves.{SoundBy}
 use Rattle.rules.proofs.Audit.{tables-now}
 use Rattle.rules.proofs.Chain.{AllUsed}
-use Rattle.rules.proofs.Contents.{Fit, Off, contents-length, filled-length, stored-others}
+use Rattle.rules.proofs.Contents.{Fit, Off, drop-take, contents-length, filled-length, stored-others}
 use Rattle.chain.proofs.Links.{walk-in-use, stretches-in}
 use Rattle.chain.specs.Length.{stretchesFrom}
 use Rattle.room.specs.Free.{firstFrom, lowestFor}
 use Rattle.transfer.specs.declared.Cursor.{Cursor}
 use Rattle.transfer.specs.Behind.{InPiece, behind}
 use Rattle.transfer.proofs.Behind.{Behind, behind-found, start-inside}
-use Rattle.transfer.proofs.Copy.{drop-take, take-most, drop-most, bytesFrom, bytes-count}
+use Rattle.transfer.proofs.Copy.{take-most, drop-most, bytesFrom, bytes-count}
 use Rattle.transfer.proofs.Move.{unheld-other}
 use Rattle.transfer.proofs.Fill.{Filling, filling-first, filling-done, filling-below, filling-passes, filling-on}
 

@@ -1,19 +1,18 @@
 -- Copying a range of a chain, one piece after another. Assumes nothing.
 use mathlib.Core.Path.{_≡_, refl, sym, ap, ap₂, subst, _∙_}
-use mathlib.Core.List.{List, [], _∷_, _++_, append-assoc}
-use Prim.Native.Nat.{ℕ, zero, suc, _+_, _-_, _≤_, _<_, min}
-use native.Mathlib.Nat.{sub-zero, zero-sub, suc-sub-suc}
+use mathlib.Core.List.{List, _∷_, _++_, append-assoc}
+use Prim.Native.Nat.{ℕ, _+_, _-_, _≤_, _<_, min}
 use native.Mathlib.Decide.{decLe}
 use native.Mathlib.Omega.{arith}
 use lib.ListN.{length, take, drop, length-append, length-take, length-drop, drop-of-length-le, take-append-drop}
-use lib.Seq.{length-take-le, take-nil, take-all, take-at, drop-at, take-take, drop-drop, take-add, take-append-le, drop-append-le}
+use lib.Seq.{length-take-le, take-all, take-at, drop-at, take-take, drop-drop, take-add, take-append-le, drop-append-le}
 use Rattle.kinds.specs.Limits.{bufferSize}
 use Rattle.rules.specs.Basics.{Is}
 use Rattle.rules.specs.Tables.{Tables, piece, pieceTotal, bufferTotal}
 use Rattle.rules.specs.Chain.{Stretch, stretch, total, positionOf, bytesOf, contents}
 use Rattle.rules.specs.Sound.{linkOk, SoundTables}
 use Rattle.rules.specs.Read.{copied}
-use Rattle.rules.proofs.Contents.{Fit, bytes-length, contents-length}
+use Rattle.rules.proofs.Contents.{Fit, drop-take, bytes-length, contents-length}
 use Rattle.chain.specs.Length.{stretchesFrom}
 use Rattle.chain.proofs.Links.{InUse, link-leads, length-empty, stretches-on, stretches-in}
 use Rattle.transfer.specs.declared.Cursor.{Cursor}
@@ -22,12 +21,6 @@ use Rattle.transfer.specs.Behind.{InPiece, extentAt, behind, advanced}
 use Rattle.transfer.proofs.Behind.{Behind, behind-none, behind-advanced, advanced-behind}
 
 -- ---- parts of lists
-
-pub drop-take : (m n : ℕ) (l : List ℕ) → drop m (take n l) ≡ take (n - m) (drop m l)
-drop-take zero n l = rw sub-zero
-drop-take (suc m) zero l = rw zero-sub
-drop-take (suc m) (suc n) [] = rw take-nil
-drop-take (suc m) (suc n) (x ∷ l) = rw suc-sub-suc (drop-take m n l)
 
 -- no more is taken or dropped than there is
 pub take-most : (n k : ℕ) (xs : List ℕ) → k ≡ min n (length xs) → take n xs ≡ take k xs

@@ -1,6 +1,6 @@
 // 16-bit numbers in bytes, low byte first (little-endian).
 ghost use mathlib.Core.Path.{_≡_};
-ghost use Prim.Native.Nat.{_+_, _*_, _≤_, _<_};
+ghost use Prim.Native.Nat.{_+_, _*_, _≤_};
 ghost use lib.ListN.{length};
 ghost use Rattle.word.specs.Word.{get16, set16};
 

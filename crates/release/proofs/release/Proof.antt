@@ -1,11 +1,10 @@
 -- `release::release` meets its contract: each turn gives up one of the references that the pieces count. Assumes nothing.
 use borrow.Author.Needs.{needs}
-use mathlib.Core.Path.{_≡_, refl, sym, ap, _∙_}
-use Prim.Native.Nat.{ℕ, _-_}
-use native.Mathlib.Omega.{arith}
+use mathlib.Core.Path.{_≡_, refl, _∙_}
+use Prim.Native.Nat.{_-_}
 use lib.ListN.{length}
 use Rattle.rules.specs.Bytes.{decode}
-use Rattle.tables.specs.Shape.{Shaped, Holds}
+use Rattle.tables.specs.Shape.{Shaped}
 use Rattle.release.proofs.Laws.{Left, references, starts, ends, goes}
 use Rattle.release.proofs.release.Statement.{statement}
 use Rattle.release.proofs.release.Tie as tie

@@ -1,7 +1,7 @@
 -- `release::step` meets its contract. Assumes nothing.
 use borrow.Author.Needs.{needs}
 use native.Mathlib.Omega.{arith}
-use mathlib.Core.Path.{_≡_, sym, ap, _∙_}
+use mathlib.Core.Path.{ap}
 use Prim.Native.Nat.{_<_}
 use Rattle.kinds.specs.declared.BufferNumber.{BufferNumber}
 use Rattle.rules.specs.Bytes.{decode}
