@@ -1,0 +1,138 @@
+//! The documents cite what is there: every definition and statement that docs/PROMISES.md names stands in the file that it names, every
+//! must-fail edit in its folder, and every path of the documents in the repository.
+
+use std::fs;
+use std::path::{Path, PathBuf};
+
+fn root() -> PathBuf {
+    Path::new(env!("CARGO_MANIFEST_DIR")).join("..")
+}
+
+fn read(path: &str) -> String {
+    fs::read_to_string(root().join(path)).unwrap_or_default()
+}
+
+/// What stands between backquotes in a text.
+fn quoted(text: &str) -> impl Iterator<Item = &str> {
+    text.lines()
+        .flat_map(|line| line.split('`').skip(1).step_by(2))
+}
+
+/// The text of the files that a citation's place leads to: `crate src`, `crate File`, or `File` of the rules.
+fn text_at(place: &str) -> String {
+    let (owner, file) = place.split_once(' ').unwrap_or(("rules", place));
+    if file == "src" {
+        return read(&format!("crates/{owner}/src/lib.rt"));
+    }
+    ["specs", "proofs"]
+        .map(|folder| read(&format!("crates/{owner}/{folder}/{file}.antt")))
+        .concat()
+}
+
+/// Whether a text has a name as a whole word.
+fn has_word(text: &str, name: &str) -> bool {
+    let inside = |c: char| c.is_alphanumeric() || c == '-' || c == '_';
+    text.match_indices(name).any(|(at, _)| {
+        !text[..at].ends_with(inside) && !text[at + name.len()..].starts_with(inside)
+    })
+}
+
+/// The promises from their first table on, without the page's own explanations.
+fn promises() -> String {
+    let text = read("docs/PROMISES.md");
+    let start = text.find("\n## ").expect("the page has headings");
+    text[start..].to_string()
+}
+
+/// The names of all must-fail edits.
+fn edits() -> Vec<String> {
+    let crates = fs::read_dir(root().join("crates")).expect("the crates stand beside rust/");
+    crates
+        .filter_map(|entry| fs::read_dir(entry.ok()?.path().join("must-fail")).ok())
+        .flatten()
+        .filter_map(|entry| Some(entry.ok()?.file_name().to_str()?.to_string()))
+        .collect()
+}
+
+#[test]
+fn names_stand_in_the_files_that_are_cited() {
+    let promises = promises();
+    let mut checked = 0;
+    for cited in quoted(&promises) {
+        let Some((place, names)) = cited.split_once(": ") else {
+            continue;
+        };
+        let text = text_at(place);
+        assert!(!text.is_empty(), "no file for `{cited}`");
+        for name in names.split([',', '(', ')']).map(str::trim) {
+            if !name.is_empty() {
+                assert!(has_word(&text, name), "no {name} in {place}");
+                checked += 1;
+            }
+        }
+    }
+    assert!(checked > 500, "only {checked} names were found to check");
+}
+
+#[test]
+fn edits_stand_in_their_folders() {
+    let (promises, edits) = (promises(), edits());
+    let mut checked = 0;
+    for line in promises.lines() {
+        let by_call = line.starts_with("| `slp_") && line.matches('|').count() == 3;
+        for cited in quoted(line) {
+            let edit = cited.ends_with(".edit") && !cited.contains(' ');
+            if edit || by_call && !cited.starts_with("slp_") {
+                let name = format!("{}.edit", cited.trim_end_matches(".edit"));
+                assert!(edits.contains(&name), "no edit {name}");
+                checked += 1;
+            }
+        }
+    }
+    assert!(checked > 50, "only {checked} edits were found to check");
+}
+
+#[test]
+fn every_call_has_two_edits() {
+    let promises = promises();
+    let rows = promises
+        .lines()
+        .filter(|line| line.starts_with("| `slp_") && line.matches('|').count() == 3);
+    let counts: Vec<usize> = rows.map(|row| quoted(row).count() - 1).collect();
+    assert_eq!(counts.len(), 14);
+    assert!(counts.iter().all(|edits| *edits >= 2), "{counts:?}");
+}
+
+/// Where a document's path leads: those below `specs/` and `proofs/` may leave out `crates/`.
+fn path_of(cited: &str) -> Option<PathBuf> {
+    let (top, rest) = cited.split_once('/')?;
+    let listed = [
+        "crates", "rust", "docs", "tools", "tests", "include", "examples",
+    ];
+    let pattern = cited.contains(['*', ' ']) || cited.contains("NAME") || cited.contains("File");
+    if pattern {
+        None
+    } else if listed.contains(&top) {
+        Some(root().join(cited))
+    } else if rest.starts_with("specs/") || rest.starts_with("proofs/") {
+        Some(root().join("crates").join(cited))
+    } else {
+        None
+    }
+}
+
+#[test]
+fn paths_lead_somewhere() {
+    let docs = ["ARCHITECTURE", "DECISIONS", "PERFORMANCE", "PROMISES"];
+    let pages = docs.map(|page| format!("docs/{page}.md"));
+    let mut checked = 0;
+    for page in pages.iter().map(String::as_str).chain(["README.md"]) {
+        let text = read(page);
+        assert!(!text.is_empty(), "no page {page}");
+        for path in quoted(&text).filter_map(path_of) {
+            assert!(path.exists(), "{page}: no {}", path.display());
+            checked += 1;
+        }
+    }
+    assert!(checked > 30, "only {checked} paths were found to check");
+}
