@@ -69,7 +69,7 @@ pub fn copy_part(dst: &mut [u8], at: usize, src: &[u8], from: usize, n: usize)
     copy(&mut dst[at..end], &block[..n]);
 }
 
-// Sets the bytes of buffer `b` from `at` on to the `n` bytes of storage from `from` on: only its stretch is lent to be written (a cluster write from another).
+// Sets the bytes of buffer `b` from `at` on to the `n` bytes of storage from `from` on, by way of a local array, as copy_part: only the buffer's stretch is lent to be written (a cluster write from another).
 pub fn fill_part(storage: &mut [u8], b: BufferNumber, at: usize, from: usize, n: usize)
     requires { ⌜ (startOf (b .0) + sizeOf (b .0) ≤ length (now storage)) × (at + n ≤ sizeOf (b .0)) × (from + n ≤ length (now storage)) ⌝ }
     ensures { λ _. ⌜ now (storage .exit) ≡ take (startOf (b .0) + at) (now (storage .entry)) ++ (take n (drop from (now (storage .entry))) ++ drop (startOf (b .0) + at + n) (now (storage .entry))) ⌝ }
