@@ -19,7 +19,7 @@ use Rattle.rules.specs.Sound.{acyclic}
 use Rattle.rules.proofs.Logic.{bit-T, bit-F, bit-one, is-true, is-false, eq→eqb, all-intro, all-at}
 use Rattle.rules.proofs.Sums.{sumTo-change, sumTo-none, sumTo-ones}
 use Rattle.rules.proofs.Audit.{follow-more}
-use Rattle.audit.specs.Counters.{zeros}
+use Rattle.counts.specs.Counters.{zeros}
 use Rattle.audit.specs.Colours.{coloured, Scanned, Walked}
 
 -- ---- following next

@@ -12,7 +12,7 @@ use Rattle.rules.proofs.Audit.{sound-is}
 use Rattle.rules.proofs.Bytes.{Header, header-facts}
 use Rattle.tables.specs.Shape.{Shaped}
 use Rattle.audit.specs.declared.Audited.{Audited}
-use Rattle.audit.specs.Counters.{Limited, zeros}
+use Rattle.counts.specs.Counters.{Limited, zeros}
 use Rattle.audit.specs.Verdict.{Verdict}
 use Rattle.audit.proofs.Verdict.{lent}
 

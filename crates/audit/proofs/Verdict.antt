@@ -13,8 +13,8 @@ use Rattle.rules.proofs.Logic.{is-true, is-false, and-0}
 use Rattle.rules.proofs.Bytes.{and-is, eqb-is, leb-is, Header, header-facts, header-test, decode-pieces}
 use Rattle.tables.specs.declared.Shape.{Shape}
 use Rattle.tables.proofs.Laws.{fits-by}
-use Rattle.audit.specs.Ranges.{partsOk}
-use Rattle.audit.specs.Counters.{Limited, zeros}
+use Rattle.audit.specs.Header.{partsOk}
+use Rattle.counts.specs.Counters.{Limited, zeros}
 use Rattle.audit.specs.Verdict.{tornAnswer, Verdict}
 
 -- the shape h is the header's

@@ -1,5 +1,4 @@
 -- What the contracts of audit cite.
-pub mod Ranges
-pub mod Counters
+pub mod Header
 pub mod Colours
 pub mod Verdict

@@ -16,7 +16,7 @@ use Rattle.rules.specs.Tables.{Piece, Tables, slip, piece, bufferCount, slipTot
 use Rattle.rules.specs.Bytes.{decode, buffersIn, piecesIn, slipsIn}
 use Rattle.rules.specs.Chain.{chain, lengthOf}
 use Rattle.rules.specs.Room.{isVacant, freePieces}
-use Rattle.audit.specs.Ranges.{markOk}
+use Rattle.audit.specs.Header.{markOk}
 use Rattle.page.specs.Page.{ascii}
 use Rattle.page.specs.Digits.{digits, padded, tagged}
 

@@ -1,5 +1,5 @@
 // A pool drawn as text: a line for each slip, then the buffers and the pieces. Any bytes can be drawn; no walk is longer than the pool's count of pieces.
-use audit::Entry;
+use counts::Entry;
 use kinds::BufferNumber;
 use kinds::PieceNumber;
 use kinds::SlipNumber;
@@ -14,7 +14,7 @@ ghost use Rattle.rules.specs.Chain.{walk, stretches, total, lengthOf};
 ghost use Rattle.rules.specs.Room.{freePieces};
 ghost use Rattle.tables.specs.Shape.{Shaped};
 ghost use Rattle.page.specs.Page.{page, Wrote};
-ghost use Rattle.audit.specs.Counters.{pieceOf};
+ghost use Rattle.counts.specs.Counters.{pieceOf};
 ghost use Rattle.draw.specs.Text.{timesText, pieceText, joinedText, restText, chainText, lengthText, stateText, slipText, slipsText, widthAt, widest, holdText, bufferText, buffersText, stockText, tablesText, poolText, fitsTest};
 
 // The entry of piece `d`, or zeros past the last: a bounded descriptor load.
@@ -31,7 +31,7 @@ fn entry(pool: &[u8], shape: Shape, d: PieceNumber) -> Entry
             next: 0,
         };
     }
-    audit::entry_of(pool, shape, d)
+    counts::entry_of(pool, shape, d)
 }
 
 // Draws a count above 1, as `x2`: the mark of what is shared.

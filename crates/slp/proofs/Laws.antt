@@ -24,7 +24,7 @@ use Rattle.rules.proofs.Codes.{first-none}
 use Rattle.rules.proofs.Step.{step-sound-pool, step-torn}
 use Rattle.tables.proofs.Laws.{fits-decode}
 use Rattle.audit.specs.declared.Audited.{Audited}
-use Rattle.audit.specs.Ranges.{sizesOk}
+use Rattle.audit.specs.Header.{sizesOk}
 use Rattle.audit.specs.Verdict.{Verdict}
 use Rattle.audit.proofs.Laws.{verdict-torn, verdict-is, verdict-sound, verdict-header, verdict-shaped, verdict-limited}
 use Rattle.chain.specs.Opened.{Opened}

@@ -6,8 +6,8 @@ use native.Mathlib.Omega.{arith}
 use borrow.Author.Tests.{not-true, not-false}
 use Rattle.rules.specs.Bytes.{decode}
 use Rattle.audit.specs.Colours.{Scanned}
-use Rattle.audit.proofs.Ranges.{pieces-linked}
-use Rattle.audit.proofs.Counters.{totals}
+use Rattle.counts.proofs.Ranges.{pieces-linked}
+use Rattle.counts.proofs.Counters.{totals}
 use Rattle.audit.proofs.Colours.{scan-start, scan-end}
 use Rattle.audit.proofs.ends.Statement.{statement}
 use Rattle.audit.proofs.ends.Tie as tie

@@ -3,7 +3,7 @@ use mathlib.Core.Path.{sym, _∙_}
 use native.Mathlib.Omega.{arith}
 use borrow.Author.Needs.{needs}
 use borrow.Author.Tests.{not-true, not-false}
-use Rattle.audit.proofs.Ranges.{references-pieces, references-torn, references-held}
+use Rattle.counts.proofs.Ranges.{references-pieces, references-torn, references-held}
 use Rattle.audit.proofs.tables_ok.Statement.{statement}
 use Rattle.audit.proofs.tables_ok.Tie as tie
 

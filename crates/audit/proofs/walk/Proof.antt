@@ -3,7 +3,7 @@ use Prim.Native.Nat.{_-_, _+_}
 use native.Mathlib.Omega.{arith}
 use lib.ListN.{set}
 use Rattle.rules.specs.Bytes.{decode}
-use Rattle.audit.proofs.Counters.{totals}
+use Rattle.counts.proofs.Counters.{totals}
 use Rattle.audit.proofs.Colours.{InWalk, walk-start, walk-on, walk-most, walk-none, walk-seen}
 use Rattle.audit.proofs.walk.Statement.{statement}
 use Rattle.audit.proofs.walk.Tie as tie

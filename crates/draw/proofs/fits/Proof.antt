@@ -5,7 +5,7 @@ use lib.Dec.{eqb}
 use lib.ListN.{length}
 use borrow.Author.Tests.{le-leb, lt-leb, not-true, not-false}
 use Rattle.rules.specs.Layout.{poolLength}
-use Rattle.audit.specs.Ranges.{markOk}
+use Rattle.audit.specs.Header.{markOk}
 use borrow.Author.Needs.{needs}
 use Rattle.draw.proofs.fits.Statement.{statement}
 use Rattle.draw.proofs.fits.Tie as tie

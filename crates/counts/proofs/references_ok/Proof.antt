@@ -1,10 +1,10 @@
--- `audit::references_ok` meets its contract. Assumes nothing.
+-- `counts::references_ok` meets its contract. Assumes nothing.
 use mathlib.Core.Path.{refl, sym, _∙_}
 use borrow.Author.Needs.{needs}
 use borrow.Author.Tests.{not-true, not-false}
-use Rattle.audit.specs.Ranges.{referencesOk}
-use Rattle.audit.proofs.references_ok.Statement.{statement}
-use Rattle.audit.proofs.references_ok.Tie as tie
+use Rattle.counts.specs.Ranges.{referencesOk}
+use Rattle.counts.proofs.references_ok.Statement.{statement}
+use Rattle.counts.proofs.references_ok.Tie as tie
 
 count-slips-requires : tie.Need-count-slips-requires
 count-slips-requires c κs = search needs

@@ -1,10 +1,10 @@
--- `audit::count_link` meets its contract. Assumes nothing.
+-- `counts::count_link` meets its contract. Assumes nothing.
 use native.Mathlib.Omega.{arith}
 use Prim.Native.Nat.{_-_}
 use borrow.Author.Needs.{needs}
-use Rattle.audit.proofs.Counters.{store-tallied}
-use Rattle.audit.proofs.count_link.Statement.{statement}
-use Rattle.audit.proofs.count_link.Tie as tie
+use Rattle.counts.proofs.Counters.{store-tallied}
+use Rattle.counts.proofs.count_link.Statement.{statement}
+use Rattle.counts.proofs.count_link.Tie as tie
 
 returns : tie.Need-returns
 returns c = search needs

@@ -1,11 +1,11 @@
--- `audit::count_entry` meets its contract. Assumes nothing.
+-- `counts::count_entry` meets its contract. Assumes nothing.
 use mathlib.Core.Path.{ap, sym}
 use native.Mathlib.Omega.{arith}
 use borrow.Author.Needs.{needs}
-use Rattle.audit.specs.Counters.{pieceOf, tallied}
-use Rattle.audit.proofs.Counters.{lie-free, lie-used}
-use Rattle.audit.proofs.count_entry.Statement.{statement}
-use Rattle.audit.proofs.count_entry.Tie as tie
+use Rattle.counts.specs.Counters.{pieceOf, tallied}
+use Rattle.counts.proofs.Counters.{lie-free, lie-used}
+use Rattle.counts.proofs.count_entry.Statement.{statement}
+use Rattle.counts.proofs.count_entry.Tie as tie
 
 count-link-requires : tie.Need-count-link-requires
 count-link-requires c κs = search needs

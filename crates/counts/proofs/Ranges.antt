@@ -12,7 +12,7 @@ use Rattle.rules.specs.Sound.{inUse, leads, heads, nexts, linkOk, pieceOk, acyc
 use Rattle.rules.proofs.Logic.{if-T, if-F, and-intro, and-0, and-1, and-parts, bit-T, eq→eqb, not-zero, is-true, same-test, all-intro, all-at}
 use Rattle.rules.proofs.Sums.{sumTo-at}
 use Rattle.rules.proofs.Moves.{heads-at}
-use Rattle.audit.specs.Ranges.{linkInRange, pieceInRange, slipsInRange, piecesInRange, countsAgree, buffersAgree, referencesOk}
+use Rattle.counts.specs.Ranges.{linkInRange, pieceInRange, slipsInRange, piecesInRange, countsAgree, buffersAgree, referencesOk}
 
 -- ---- tests
 

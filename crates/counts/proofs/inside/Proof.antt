@@ -1,10 +1,10 @@
--- `audit::inside` meets its contract. Assumes nothing.
+-- `counts::inside` meets its contract. Assumes nothing.
 use mathlib.Core.Path.{sym, _∙_}
 use borrow.Author.Needs.{needs}
 use borrow.Author.Tests.{le-leb, lt-leb, not-true, not-false}
 use native.Mathlib.Omega.{arith}
-use Rattle.audit.proofs.inside.Statement.{statement}
-use Rattle.audit.proofs.inside.Tie as tie
+use Rattle.counts.proofs.inside.Statement.{statement}
+use Rattle.counts.proofs.inside.Tie as tie
 
 below-requires : tie.Need-below-requires
 below-requires c κs = search needs

@@ -1,10 +1,10 @@
--- `audit::entry_ok` meets its contract. Assumes nothing.
+-- `counts::entry_ok` meets its contract. Assumes nothing.
 use mathlib.Core.Path.{sym, _∙_}
 use borrow.Author.Needs.{needs}
 use lib.Dec.{eqb, eqb→eq}
 use Rattle.rules.proofs.Logic.{if-T, if-F, eq→eqb}
-use Rattle.audit.proofs.entry_ok.Statement.{statement}
-use Rattle.audit.proofs.entry_ok.Tie as tie
+use Rattle.counts.proofs.entry_ok.Statement.{statement}
+use Rattle.counts.proofs.entry_ok.Tie as tie
 
 blank-requires : tie.Need-blank-requires
 blank-requires c κs = search needs

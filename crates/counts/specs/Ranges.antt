@@ -1,31 +1,12 @@
--- The parts of the audit's test, in the order of its passes. Links are held to their range first: that they lead to
+-- What is asked of entries and counts, in the order of the passes. Links are held to their range first: that they lead to
 -- pieces in use follows once the counts agree (proofs/Ranges.antt).
 use mathlib.Core.Bool.{Bool, _&&_}
-use mathlib.Core.List.{List}
 use Prim.Native.Nat.{ℕ, _+_}
-use lib.ListN.{length, getD}
 use lib.Dec.{ltb, eqb, leb}
-use Rattle.kinds.specs.Limits.{mostBuffers, mostPieces, mostSlips, counted, sizeOf}
+use Rattle.kinds.specs.Limits.{sizeOf}
 use Rattle.rules.specs.Basics.{if_then_else_, allTo}
-use Rattle.rules.specs.Layout.{version, poolLength, storageLength}
 use Rattle.rules.specs.Tables.{Piece, Tables, piece, bufferCount, isBlank, headOf, slipTotal, pieceTotal, bufferTotal}
-use Rattle.rules.specs.Bytes.{versionIn}
 use Rattle.rules.specs.Sound.{heads, nexts, lying}
-use Rattle.tables.specs.declared.Shape.{Shape}
-
--- ---- the header
-
--- the pool's mark and version
-abbrev pub markOk : List ℕ → Bool
-markOk p = eqb (getD p 0 0) 83 && (eqb (getD p 1 0) 76 && (eqb (getD p 2 0) 80 && eqb (versionIn p) version))
-
--- B, P and S, the pool's length and the storage's
-abbrev pub sizesOk : ℕ → ℕ → ℕ → ℕ → ℕ → Bool
-sizesOk B P S n st = counted mostBuffers B && (counted mostPieces P && (counted mostSlips S && (eqb n (poolLength B P S) && eqb st (storageLength B))))
-
--- both, for a pool whose header states the shape h, beside storage of n bytes
-abbrev pub partsOk : List ℕ → Shape → ℕ → Bool
-partsOk p h n = markOk p && sizesOk (h .buffers) (h .pieces) (h .slips) (length p) n
 
 -- ---- one entry
 

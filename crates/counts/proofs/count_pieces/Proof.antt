@@ -1,12 +1,12 @@
--- `audit::count_pieces` meets its contract. The invariant: the pieces passed are in range and counted. Assumes nothing.
+-- `counts::count_pieces` meets its contract. The invariant: the pieces passed are in range and counted. Assumes nothing.
 use Prim.Native.Nat.{_≤_, _-_}
 use native.Mathlib.Omega.{arith}
 use borrow.Author.Needs.{needs}
 use borrow.Author.Tests.{not-true, not-false}
 use Rattle.rules.specs.Bytes.{decode}
-use Rattle.audit.proofs.Counters.{totals, PiecesTo, pieces-start, pieces-fit, pieces-on, pieces-end, pieces-torn}
-use Rattle.audit.proofs.count_pieces.Statement.{statement}
-use Rattle.audit.proofs.count_pieces.Tie as tie
+use Rattle.counts.proofs.Counters.{totals, PiecesTo, pieces-start, pieces-fit, pieces-on, pieces-end, pieces-torn}
+use Rattle.counts.proofs.count_pieces.Statement.{statement}
+use Rattle.counts.proofs.count_pieces.Tie as tie
 
 abbrev Inv-loop : tie.InvT-loop
 Inv-loop pool shape refs₀ lies₀ d₀ refs lies d = (d ≤ shape .pieces) × PiecesTo (decode pool) d refs lies

@@ -1,13 +1,13 @@
--- `audit::buffers_agree` meets its contract. The invariant: the counts passed agree. Assumes nothing.
+-- `counts::buffers_agree` meets its contract. The invariant: the counts passed agree. Assumes nothing.
 use Prim.Native.Nat.{ℕ, _≤_, _-_}
 use native.Mathlib.Omega.{arith}
 use Rattle.rules.specs.Tables.{Tables, bufferCount, bufferTotal}
 use Rattle.rules.specs.Bytes.{decode}
 use Rattle.rules.specs.Sound.{lying}
-use Rattle.audit.specs.Ranges.{buffersAgree}
-use Rattle.audit.proofs.Counters.{totals, Agree, agree-start, agree-on, agree-torn, agree-end}
-use Rattle.audit.proofs.buffers_agree.Statement.{statement}
-use Rattle.audit.proofs.buffers_agree.Tie as tie
+use Rattle.counts.specs.Ranges.{buffersAgree}
+use Rattle.counts.proofs.Counters.{totals, Agree, agree-start, agree-on, agree-torn, agree-end}
+use Rattle.counts.proofs.buffers_agree.Statement.{statement}
+use Rattle.counts.proofs.buffers_agree.Tie as tie
 
 abbrev stored : Tables → ℕ → ℕ
 stored T b = bufferCount T b

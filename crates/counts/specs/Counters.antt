@@ -11,8 +11,8 @@ use Rattle.rules.specs.Tables.{Piece, Tables, piece, headOf}
 use Rattle.rules.specs.Sound.{inUse, leads, heads, nexts, lying}
 use Rattle.tables.specs.declared.Shape.{Shape}
 use Rattle.tables.specs.Shape.{Shaped}
-use Rattle.audit.specs.declared.Entry.{Entry}
-use Rattle.audit.specs.Ranges.{slipsInRange, piecesInRange}
+use Rattle.counts.specs.declared.Entry.{Entry}
+use Rattle.counts.specs.Ranges.{slipsInRange, piecesInRange}
 
 -- the pool p has the shape h, within the limits
 pub record Limited (p : List ℕ) (h : Shape) : Type 0 where

@@ -1,7 +1,7 @@
--- `audit::entry_of` meets its contract. Assumes nothing.
+-- `counts::entry_of` meets its contract. Assumes nothing.
 use borrow.Author.Needs.{needs}
-use Rattle.audit.proofs.entry_of.Statement.{statement}
-use Rattle.audit.proofs.entry_of.Tie as tie
+use Rattle.counts.proofs.entry_of.Statement.{statement}
+use Rattle.counts.proofs.entry_of.Tie as tie
 
 piece-count-requires : tie.Need-piece-count-requires
 piece-count-requires c κs = search needs

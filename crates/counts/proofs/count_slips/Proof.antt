@@ -1,12 +1,12 @@
--- `audit::count_slips` meets its contract. The invariant: the slips passed are in range and counted. Assumes nothing.
+-- `counts::count_slips` meets its contract. The invariant: the slips passed are in range and counted. Assumes nothing.
 use mathlib.Core.Path.{ap, _∙_}
 use Prim.Native.Nat.{_≤_, _-_, pred}
 use native.Mathlib.Omega.{arith}
 use borrow.Author.Needs.{needs}
 use Rattle.rules.specs.Bytes.{decode}
-use Rattle.audit.proofs.Counters.{totals, SlipsTo, slips-start, slips-room, slips-on, slips-end, slips-torn}
-use Rattle.audit.proofs.count_slips.Statement.{statement}
-use Rattle.audit.proofs.count_slips.Tie as tie
+use Rattle.counts.proofs.Counters.{totals, SlipsTo, slips-start, slips-room, slips-on, slips-end, slips-torn}
+use Rattle.counts.proofs.count_slips.Statement.{statement}
+use Rattle.counts.proofs.count_slips.Tie as tie
 
 abbrev Inv-loop : tie.InvT-loop
 Inv-loop pool shape refs₀ s₀ refs s = (s ≤ shape .slips) × SlipsTo (decode pool) s refs

@@ -1,8 +1,8 @@
--- `audit::blank` meets its contract. Assumes nothing.
+-- `counts::blank` meets its contract. Assumes nothing.
 use borrow.Author.Tests.{eq-eqb, ne-eqb}
 use native.Mathlib.Omega.{arith}
-use Rattle.audit.proofs.blank.Statement.{statement}
-use Rattle.audit.proofs.blank.Tie as tie
+use Rattle.counts.proofs.blank.Statement.{statement}
+use Rattle.counts.proofs.blank.Tie as tie
 
 returns : tie.Need-returns
 returns c = let e = c .before .before .args .e in rw (ne-eqb (e .count) 0 (c .if1 .taken))

@@ -1,0 +1,3 @@
+-- The laws of counts.
+pub mod Ranges
+pub mod Counters

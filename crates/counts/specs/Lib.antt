@@ -1,0 +1,3 @@
+-- What the contracts of counts cite.
+pub mod Ranges
+pub mod Counters

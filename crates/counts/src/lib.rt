@@ -1,0 +1,216 @@
+// Whether a pool's links and entries are in range and every stored count is the number of its references: a reference count check.
+use kinds::BufferNumber;
+use kinds::PieceNumber;
+use kinds::SlipNumber;
+use tables::Shape;
+ghost use mathlib.Core.Path.{_≡_};
+ghost use mathlib.Core.Bool.{true};
+ghost use Prim.Native.Nat.{pred, _+_, _<_, _≤_};
+ghost use Rattle.kinds.specs.Limits.{mostPieces, mostBuffers};
+ghost use Rattle.rules.specs.Tables.{isBlank, piece};
+ghost use Rattle.rules.specs.Bytes.{decode};
+ghost use Rattle.rules.specs.Sound.{heads, nexts, lying};
+ghost use Rattle.tables.specs.Shape.{Shaped};
+ghost use Rattle.counts.specs.Ranges.{usedInRange, pieceInRange, countsAgree, buffersAgree, referencesOk};
+ghost use Rattle.counts.specs.Counters.{Limited, pieceOf, zeros, tallied, lieOf, Room, Hold, SlipsCounted, PiecesCounted};
+
+// One counter for each piece that a pool may have.
+const PIECES: usize = PieceNumber::MOST as usize;
+
+// One counter for each buffer that a pool may have.
+const BUFFERS: usize = BufferNumber::MOST as usize;
+
+// The five numbers of a piece, loaded.
+pub struct Entry {
+    pub count: u16,
+    pub buffer: BufferNumber,
+    pub offset: u16,
+    pub len: u16,
+    pub next: u16,
+}
+
+// The link that a slip's entry holds.
+fn link_of(raw: u16) -> u16
+    ensures { λ r. ⌜ r ≡ pred raw ⌝ }
+{
+    if raw == 0 {
+        return 0;
+    }
+    raw - 1
+}
+
+// Counts one reference more to the piece that the link `n` leads to.
+fn count_link(refs: &mut [u16; PIECES], n: u16)
+    requires { ⌜ (n ≤ mostPieces) × Room (now refs) ⌝ }
+    ensures { λ _. ⌜ now (refs .exit) ≡ tallied (now (refs .entry)) n ⌝ }
+{
+    if n == 0 {
+        return;
+    }
+    let d = (n - 1) as usize;
+    refs[d] = refs[d] + 1;
+}
+
+// Whether each slip's link is in range, with the pieces that they head counted.
+fn count_slips(pool: &[u8], shape: Shape, refs: &mut [u16; PIECES]) -> bool
+    requires { ⌜ Limited (now pool) shape × (now refs ≡ zeros mostPieces) ⌝ }
+    ensures { λ r. ⌜ SlipsCounted (decode (now (pool .entry))) r (now (refs .exit)) ⌝ }
+{
+    let mut s: u16 = 0;
+    while s < shape.slips {
+        let n = link_of(tables::slip(pool, shape, SlipNumber(s)));
+        if n > shape.pieces {
+            return false;
+        }
+        count_link(refs, n);
+        s += 1;
+    }
+    true
+}
+
+// The entry of piece `d`.
+pub fn entry_of(pool: &[u8], shape: Shape, d: PieceNumber) -> Entry
+    requires { ⌜ Shaped (now pool) shape × (d .0 < shape .pieces) ⌝ }
+    ensures { λ r. ⌜ pieceOf r ≡ piece (decode (now (pool .entry))) (d .0) ⌝ }
+{
+    Entry {
+        count: tables::piece_count(pool, shape, d),
+        buffer: tables::piece_buffer(pool, shape, d),
+        offset: tables::piece_offset(pool, shape, d),
+        len: tables::piece_length(pool, shape, d),
+        next: tables::piece_next(pool, shape, d),
+    }
+}
+
+// Whether an entry is all zero.
+fn blank(e: Entry) -> bool
+    ensures { λ r. ⌜ r ≡ isBlank (pieceOf e) ⌝ }
+{
+    if e.count != 0 {
+        return false;
+    }
+    if e.buffer.0 != 0 {
+        return false;
+    }
+    if e.offset != 0 {
+        return false;
+    }
+    if e.len != 0 {
+        return false;
+    }
+    e.next == 0
+}
+
+// Whether an entry lies inside a buffer of the pool and its next is in range.
+fn inside(e: Entry, shape: Shape) -> bool
+    ensures { λ r. ⌜ r ≡ usedInRange (shape .buffers) (shape .pieces) (pieceOf e) ⌝ }
+{
+    if !e.buffer.below(shape.buffers) {
+        return false;
+    }
+    if e.len < 1 {
+        return false;
+    }
+    if !BufferNumber::holds(e.offset, e.len) {
+        return false;
+    }
+    e.next <= shape.pieces
+}
+
+// Whether an entry is all zero, or in use and in range.
+fn entry_ok(e: Entry, shape: Shape) -> bool
+    ensures { λ r. ⌜ r ≡ pieceInRange (shape .buffers) (shape .pieces) (pieceOf e) ⌝ }
+{
+    if e.count == 0 {
+        return blank(e);
+    }
+    inside(e, shape)
+}
+
+// Counts what a piece in use refers to: its next and its buffer.
+fn count_entry(e: Entry, refs: &mut [u16; PIECES], lies: &mut [u16; BUFFERS])
+    requires { ⌜ (e .next ≤ mostPieces) × (lieOf (pieceOf e) ≤ mostBuffers) × Room (now refs) × Room (now lies) ⌝ }
+    ensures { λ _. ⌜ (now (refs .exit) ≡ tallied (now (refs .entry)) (e .next)) × (now (lies .exit) ≡ tallied (now (lies .entry)) (lieOf (pieceOf e))) ⌝ }
+{
+    count_link(refs, e.next);
+    if e.count < 1 {
+        return;
+    }
+    let b = e.buffer.0 as usize;
+    lies[b] = lies[b] + 1;
+}
+
+// Whether each piece is all zero or in range, with what the pieces in use refer to counted.
+fn count_pieces(
+    pool: &[u8],
+    shape: Shape,
+    refs: &mut [u16; PIECES],
+    lies: &mut [u16; BUFFERS],
+) -> bool
+    requires { ⌜ Limited (now pool) shape × Hold mostPieces (now refs) (heads (decode (now pool))) × (now lies ≡ zeros mostBuffers) ⌝ }
+    ensures { λ r. ⌜ PiecesCounted (decode (now (pool .entry))) r (now (refs .exit)) (now (lies .exit)) ⌝ }
+{
+    let mut d: u16 = 0;
+    while d < shape.pieces {
+        let e = entry_of(pool, shape, PieceNumber(d));
+        if !entry_ok(e, shape) {
+            return false;
+        }
+        count_entry(e, refs, lies);
+        d += 1;
+    }
+    true
+}
+
+// Whether each piece's count is the number of references counted.
+fn counts_agree(pool: &[u8], shape: Shape, refs: &[u16; PIECES]) -> bool
+    requires { ⌜ Limited (now pool) shape × Hold mostPieces (now refs) (λ d. heads (decode (now pool)) d + nexts (decode (now pool)) d) ⌝ }
+    ensures { λ r. ⌜ r ≡ countsAgree (decode (now (pool .entry))) ⌝ }
+{
+    let mut d: u16 = 0;
+    while d < shape.pieces {
+        let count = tables::piece_count(pool, shape, PieceNumber(d));
+        let i = d as usize;
+        if count != refs[i] {
+            return false;
+        }
+        d += 1;
+    }
+    true
+}
+
+// Whether each buffer's count is the number of pieces counted on it.
+fn buffers_agree(pool: &[u8], shape: Shape, lies: &[u16; BUFFERS]) -> bool
+    requires { ⌜ Limited (now pool) shape × Hold mostBuffers (now lies) (lying (decode (now pool))) ⌝ }
+    ensures { λ r. ⌜ r ≡ buffersAgree (decode (now (pool .entry))) ⌝ }
+{
+    let mut b: u16 = 0;
+    while b < shape.buffers {
+        let count = tables::buffer_count(pool, shape, BufferNumber(b));
+        let i = b as usize;
+        if count != lies[i] {
+            return false;
+        }
+        b += 1;
+    }
+    true
+}
+
+// Whether links and entries are in range and every count is the number of its references.
+pub fn references_ok(pool: &[u8], shape: Shape) -> bool
+    requires { ⌜ Limited (now pool) shape ⌝ }
+    ensures { λ r. ⌜ r ≡ referencesOk (decode (now (pool .entry))) ⌝ }
+{
+    let mut refs = [0u16; PIECES];
+    let mut lies = [0u16; BUFFERS];
+    if !count_slips(pool, shape, &mut refs) {
+        return false;
+    }
+    if !count_pieces(pool, shape, &mut refs, &mut lies) {
+        return false;
+    }
+    if !counts_agree(pool, shape, &refs) {
+        return false;
+    }
+    buffers_agree(pool, shape, &lies)
+}
