@@ -20,12 +20,12 @@ use Rattle.rules.proofs.Codes.{named}
 use Rattle.tables.specs.declared.Shape.{Shape}
 use Rattle.tables.specs.Shape.{Holds}
 use Rattle.tables.proofs.Laws.{whole, total-pieces}
-use Rattle.chain.specs.declared.OwnRun.{OwnRun}
+use Rattle.own.specs.declared.OwnRun.{OwnRun}
 use Rattle.chain.specs.Opened.{Opened}
 use Rattle.chain.specs.Length.{stretchesFrom}
-use Rattle.chain.specs.Own.{lastLink, ownRun}
+use Rattle.own.specs.Own.{lastLink, ownRun}
 use Rattle.chain.proofs.Links.{link-leads, link-below, stretches-none}
-use Rattle.chain.proofs.Own.{OwnLaws, own-laws}
+use Rattle.own.proofs.Own.{OwnLaws, own-laws}
 use Rattle.chain.proofs.Parts.{part-all}
 use Rattle.release.specs.Hang.{Hangable, hungTo}
 use Rattle.release.proofs.Behind.{behind-tables, hangable}

@@ -28,7 +28,7 @@ fn join(
     ensures { λ r. ⌜ ((st : List ℕ) → resultOf r (now (pool .exit)) st [] noView ≡ perform (Append (a .0) (b .0)) (lent (now (pool .entry)) st)) ⌝ }
     ensures { λ r. ⌜ Leaves r (stateOf (slip (decode (now (pool .exit))) (a .0))) ⌝ }
 {
-    let own = chain::own_run(pool, shape, head);
+    let own = own::own_run(pool, shape, head);
     let last = own.last;
     let next = own.next;
     if next == 0 {

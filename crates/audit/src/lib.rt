@@ -5,7 +5,7 @@ use kinds::SlipNumber;
 use tables::Shape;
 ghost use mathlib.Core.Path.{_≡_};
 ghost use mathlib.Core.Bool.{true};
-ghost use Prim.Native.Nat.{_+_, _<_, _≤_};
+ghost use Prim.Native.Nat.{_<_, _≤_};
 ghost use lib.ListN.{length};
 ghost use Rattle.rules.specs.Tables.{pieceTotal};
 ghost use Rattle.rules.specs.Bytes.{decode};

@@ -3,5 +3,4 @@ pub mod Laws
 pub mod Forward
 pub mod Line
 pub mod Clone
-pub mod Rest
 pub mod Laid

@@ -2,4 +2,3 @@
 pub mod Links
 pub mod Spots
 pub mod Parts
-pub mod Own

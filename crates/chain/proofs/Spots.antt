@@ -1,6 +1,6 @@
 -- The place found in a chain: it lies inside a piece in use, and what is cut out or left from there is the same. Assumes nothing.
 use mathlib.Core.Path.{_≡_, refl, sym, ap, subst, _∙_}
-use mathlib.Core.Bool.{Bool, true, false}
+use mathlib.Core.Bool.{Bool, true, false, _&&_}
 use mathlib.Core.List.{List, [], _∷_}
 use Prim.Native.Nat.{ℕ, zero, suc, _+_, _-_, _≤_, _<_}
 use native.Mathlib.Decide.{ℕ-discrete, decLe}
@@ -20,6 +20,16 @@ use Rattle.chain.specs.Length.{stretchesFrom}
 use Rattle.chain.specs.Find.{spotOf, pastEnd}
 use Rattle.chain.specs.Rest.{restFrom}
 use Rattle.chain.proofs.Links.{link-leads, walk-none, walk-on, walk-less, stretches-on, stretches-in, length-empty}
+
+-- ---- whether one piece is own
+
+-- none is behind one that is not
+pub own-lost : (T : Tables) (own : Bool) (d : ℕ) → own ≡ false → false ≡ ownAt T own d
+own-lost T own d e = ap (λ (b : Bool). b && eqb (piece T d .count) 1) (sym e)
+
+-- behind own pieces its count, v, tells
+pub own-kept : (T : Tables) (own : Bool) (d v : ℕ) → own ≡ true → v ≡ piece T d .count → eqb v 1 ≡ ownAt T own d
+own-kept T own d v e c = ap (λ (x : ℕ). eqb x 1) c ∙ ap (λ (b : Bool). b && eqb (piece T d .count) 1) (sym e)
 
 -- ---- the place, over the pieces met
 

@@ -4,4 +4,3 @@ pub mod Length
 pub mod Find
 pub mod Rest
 pub mod Part
-pub mod Own

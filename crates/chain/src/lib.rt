@@ -19,26 +19,12 @@ ghost use Rattle.chain.specs.Opened.{Opened};
 ghost use Rattle.chain.specs.Length.{stretchesFrom, LengthIs};
 ghost use Rattle.chain.specs.Find.{spotOf, pastEnd};
 ghost use Rattle.chain.specs.Part.{partOf};
-ghost use Rattle.chain.specs.Own.{single, ownRun, ownPart};
 
 // A place in a chain, the link to a piece, the bytes of it before the place, and whether that piece is own: a cursor.
 pub struct Spot {
     pub link: u16,
     pub into: u32,
     pub own: bool,
-}
-
-// The own pieces of a chain: the link to the last (0 none), and the link after it.
-pub struct OwnRun {
-    pub last: u16,
-    pub next: u16,
-}
-
-// The own pieces that the first bytes of a chain overlap: their bytes, the link to the last (0 none), and the link after it.
-pub struct OwnPart {
-    pub bytes: u32,
-    pub last: u16,
-    pub next: u16,
 }
 
 // What the first bytes of a chain take: how many pieces, and whether it has them (an extent).
@@ -72,7 +58,7 @@ pub fn held(pool: &[u8], shape: Shape, s: SlipNumber) -> bool
 }
 
 // The length of piece `d` in 32 bits, for sums: its data length.
-fn piece_bytes(pool: &[u8], shape: Shape, d: PieceNumber) -> u32
+pub fn piece_bytes(pool: &[u8], shape: Shape, d: PieceNumber) -> u32
     requires { ⌜ Shaped (now pool) shape × (d .0 < shape .pieces) ⌝ }
     ensures { λ r. ⌜ r ≡ piece (decode (now (pool .entry))) (d .0) .len ⌝ }
 {
@@ -227,57 +213,5 @@ pub fn part_of(pool: &[u8], shape: Shape, link: u16, n: u64) -> Part
     Part {
         pieces: pieces,
         enough: true,
-    }
-}
-
-// Whether `link` leads to a piece of count 1: one with a single reference.
-fn single(pool: &[u8], shape: Shape, link: u16) -> bool
-    requires { ⌜ Opened (now pool) shape × Is (linkOk (decode (now pool)) link) ⌝ }
-    ensures { λ r. ⌜ r ≡ single (decode (now (pool .entry))) link ⌝ }
-{
-    if link == 0 {
-        return false;
-    }
-    tables::piece_count(pool, shape, PieceNumber(link - 1)) == 1
-}
-
-// The own pieces of the chain that starts at `link`: those of a single reference.
-pub fn own_run(pool: &[u8], shape: Shape, link: u16) -> OwnRun
-    requires { ⌜ Opened (now pool) shape × Is (linkOk (decode (now pool)) link) ⌝ }
-    ensures { λ r. ⌜ r ≡ ownRun (decode (now (pool .entry))) link ⌝ }
-{
-    let mut last = 0;
-    let mut next = link;
-    while single(pool, shape, next) {
-        last = next;
-        next = tables::piece_next(pool, shape, PieceNumber(next - 1));
-    }
-    OwnRun {
-        last: last,
-        next: next,
-    }
-}
-
-// The own pieces from `link` on, up to the one in which the first `n` bytes end: those of a single reference.
-pub fn own_part(pool: &[u8], shape: Shape, link: u16, n: u32) -> OwnPart
-    requires { ⌜ Opened (now pool) shape × Is (linkOk (decode (now pool)) link) ⌝ }
-    ensures { λ r. ⌜ r ≡ ownPart (decode (now (pool .entry))) link n ⌝ }
-{
-    let mut bytes = 0;
-    let mut last = 0;
-    let mut at = link;
-    while bytes < n {
-        if !single(pool, shape, at) {
-            break;
-        }
-        last = at;
-        let d = PieceNumber(at - 1);
-        bytes += piece_bytes(pool, shape, d);
-        at = tables::piece_next(pool, shape, d);
-    }
-    OwnPart {
-        bytes: bytes,
-        last: last,
-        next: at,
     }
 }

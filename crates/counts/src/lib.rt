@@ -4,7 +4,6 @@ use kinds::PieceNumber;
 use kinds::SlipNumber;
 use tables::Shape;
 ghost use mathlib.Core.Path.{_≡_};
-ghost use mathlib.Core.Bool.{true};
 ghost use Prim.Native.Nat.{pred, _+_, _<_, _≤_};
 ghost use Rattle.kinds.specs.Limits.{mostPieces, mostBuffers};
 ghost use Rattle.rules.specs.Tables.{isBlank, piece};

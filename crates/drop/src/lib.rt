@@ -31,12 +31,12 @@ pub fn drop_first(pool: &mut [u8], shape: Shape, s: SlipNumber, n: u32) -> Outco
     if n == 0 {
         return answer::done(pool, shape, s, 0);
     }
-    let wanted = build::wanted(at.link, at.into, at.own) as usize;
+    let wanted = rest::wanted(at.link, at.into, at.own) as usize;
     let room = room::piece_room(pool, shape, wanted);
     if !room.enough {
         return Outcome::Refused(Refusal::Pieces);
     }
-    let rest = build::settle(pool, shape, at.link, at.into, at.own, room.lowest);
+    let rest = rest::settle(pool, shape, at.link, at.into, at.own, room.lowest);
     release::turn(pool, shape, s, rest + 1);
     answer::done(pool, shape, s, 0)
 }

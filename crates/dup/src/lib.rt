@@ -37,6 +37,6 @@ pub fn dup(pool: &mut [u8], shape: Shape, s: SlipNumber) -> Outcome
     if f == shape.pieces {
         return Outcome::Refused(Refusal::Pieces);
     }
-    build::clone_rest(pool, shape, PieceNumber(head - 1), 0, PieceNumber(f));
+    rest::clone_rest(pool, shape, PieceNumber(head - 1), 0, PieceNumber(f));
     answer::under_new(pool, shape, SlipNumber(t), f + 1)
 }

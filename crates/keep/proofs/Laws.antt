@@ -34,14 +34,14 @@ use Rattle.rules.proofs.Sizes.{kept-storage}
 use Rattle.tables.specs.declared.Shape.{Shape}
 use Rattle.tables.specs.Shape.{Holds}
 use Rattle.tables.proofs.Laws.{whole, total-pieces}
-use Rattle.chain.specs.declared.OwnPart.{OwnPart}
+use Rattle.own.specs.declared.OwnPart.{OwnPart}
 use Rattle.chain.specs.declared.Part.{Part}
 use Rattle.chain.specs.Opened.{Opened}
 use Rattle.chain.specs.Length.{stretchesFrom}
-use Rattle.chain.specs.Own.{lastLink, ownPart}
+use Rattle.own.specs.Own.{lastLink, ownPart}
 use Rattle.chain.specs.Part.{partOf}
 use Rattle.chain.proofs.Links.{link-leads, link-below}
-use Rattle.chain.proofs.Own.{OwnLaws, own-laws}
+use Rattle.own.proofs.Own.{OwnLaws, own-laws}
 use Rattle.release.specs.Hang.{Hangable, hungTo}
 use Rattle.release.proofs.Behind.{behind-tables, hangable}
 use Rattle.answer.specs.Result.{lent, resultOf}

@@ -16,7 +16,7 @@ use Rattle.rules.specs.Bytes.{decode}
 use Rattle.tables.specs.declared.Shape.{Shape}
 use Rattle.tables.specs.Shape.{Shaped, Holds}
 use Rattle.tables.proofs.Laws.{whole}
-use Rattle.chain.specs.Own.{lastLink}
+use Rattle.own.specs.Own.{lastLink}
 use Rattle.keep.specs.Shorten.{shortenedBy}
 
 -- ---- what is cut out, behind the first j stretches

@@ -48,7 +48,7 @@ pub fn keep(pool: &mut [u8], shape: Shape, s: SlipNumber, n: u32) -> Outcome
     if end.link == 0 {
         return answer::done(pool, shape, s, 0);
     }
-    let own = chain::own_part(pool, shape, head, n);
+    let own = own::own_part(pool, shape, head, n);
     if n <= own.bytes {
         shorten(pool, shape, own.last, own.bytes - n);
         release::hang(pool, shape, s, own.last, 0);

@@ -34,7 +34,7 @@ fn make_first(pool: &mut [u8], shape: Shape, at: Spot, f: u16, b: BufferNumber, 
     requires { ⌜ (length (restFrom (decode (now pool)) (at .own) (at .link) (at .into) .more) < length (freePieces (decode (now pool)))) × (f ≡ firstFrom (isFree (decode (now pool))) 0 (pieceTotal (decode (now pool)))) ⌝ }
     ensures { λ r. ⌜ Holds (now (pool .exit)) shape (made (pulledFrom (decode (now (pool .entry))) at (b .0) n) (freePieces (decode (now (pool .entry))))) × (r ≡ madeLink (pulledFrom (decode (now (pool .entry))) at (b .0) n) (freePieces (decode (now (pool .entry))))) ⌝ }
 {
-    let rest = build::settle(pool, shape, at.link, at.into, at.own, f + 1);
+    let rest = rest::settle(pool, shape, at.link, at.into, at.own, f + 1);
     build::take_piece(pool, shape, PieceNumber(f), b, 0, n, rest);
     f + 1
 }
@@ -80,7 +80,7 @@ pub fn pullup(pool: &mut [u8], shape: Shape, storage: &mut [u8], s: SlipNumber, 
     if chain::in_first(pool, shape, head, n) {
         return answer::done(pool, shape, s, 0);
     }
-    let wanted = build::wanted(at.link, at.into, at.own) as usize + 1;
+    let wanted = rest::wanted(at.link, at.into, at.own) as usize + 1;
     let pieces = room::piece_room(pool, shape, wanted);
     if !pieces.enough {
         return Outcome::Refused(Refusal::Pieces);

@@ -10,7 +10,7 @@ use Rattle.rules.specs.Chain.{State}
 use Rattle.rules.specs.Build.{behindOwn}
 use Rattle.rules.proofs.Moves.{SoundWith}
 use Rattle.rules.proofs.Build.{OwnList, tail-sound}
-use Rattle.chain.specs.Own.{lastLink}
+use Rattle.own.specs.Own.{lastLink}
 use Rattle.release.specs.Release.{Releasable, turnedTo, relinkedTo}
 use Rattle.release.specs.Hang.{Hangable, hungTo}
 use Rattle.release.proofs.Laws.{turned-tables, relinked-tables}

@@ -2,7 +2,7 @@
 use borrow.Author.Needs.{needs}
 use borrow.Author.Tests.{not-true, not-false}
 use Rattle.rules.specs.Bytes.{decode}
-use Rattle.chain.proofs.Own.{own-lost, own-kept}
+use Rattle.chain.proofs.Spots.{own-lost, own-kept}
 use Rattle.chain.proofs.own_at.Statement.{statement}
 use Rattle.chain.proofs.own_at.Tie as tie
 

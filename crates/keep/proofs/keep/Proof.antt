@@ -16,7 +16,7 @@ use Rattle.rules.specs.Keep.{keptNotOwn}
 use Rattle.rules.specs.Rule.{unnamed}
 use Rattle.rules.proofs.Logic.{not-less}
 use Rattle.tables.proofs.Laws.{whole, total-slips}
-use Rattle.chain.specs.Own.{ownPart}
+use Rattle.own.specs.Own.{ownPart}
 use Rattle.chain.proofs.Spots.{past-range, at-end, before-end}
 use Rattle.room.specs.Free.{lowestFor}
 use Rattle.room.proofs.Free.{room-lowest, room-enough}

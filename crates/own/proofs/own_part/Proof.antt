@@ -1,4 +1,4 @@
--- `chain::own_part` meets its contract: the own pieces passed, and those that the bytes left overlap from the link reached on, are those asked for. Assumes nothing.
+-- `own::own_part` meets its contract: the own pieces passed, and those that the bytes left overlap from the link reached on, are those asked for. Assumes nothing.
 use mathlib.Core.Path.{_≡_, sym, ap, subst, _∙_}
 use mathlib.Core.Bool.{true}
 use Prim.Native.Nat.{ℕ, _+_, _-_, _*_, _≤_}
@@ -11,13 +11,13 @@ use Rattle.rules.specs.Bytes.{decode}
 use Rattle.rules.specs.Chain.{total}
 use Rattle.rules.specs.Sound.{linkOk}
 use Rattle.tables.proofs.Laws.{whole, total-pieces}
 use Rattle.chain.specs.Length.{stretchesFrom}
-use Rattle.chain.specs.Own.{single, ownPart}
+use Rattle.own.specs.Own.{single, ownPart}
 use Rattle.chain.proofs.Links.{InUse, link-leads, stretches-small}
 use Rattle.chain.proofs.Parts.{part-total}
-use Rattle.chain.proofs.Own.{ownPartFrom, own-part-start, own-part-stop, own-part-full, own-part-more, single-link}
-use Rattle.chain.proofs.own_part.Statement.{statement}
-use Rattle.chain.proofs.own_part.Tie as tie
+use Rattle.own.proofs.Own.{ownPartFrom, own-part-start, own-part-stop, own-part-full, own-part-more, single-link}
+use Rattle.own.proofs.own_part.Statement.{statement}
+use Rattle.own.proofs.own_part.Tie as tie
 
 abbrev Inv-loop : tie.InvT-loop
 Inv-loop pool shape link n bytes₀ last₀ at₀ bytes last at =

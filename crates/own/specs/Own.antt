@@ -7,9 +7,9 @@ use lib.Dec.{eqb}
 use Rattle.rules.specs.Basics.{lastOf}
 use Rattle.rules.specs.Tables.{Tables, piece, pieceTotal}
 use Rattle.rules.specs.Chain.{follow, ownPieces, stretches, total, cutOut}
-use Rattle.chain.specs.declared.OwnRun.{OwnRun}
-use Rattle.chain.specs.declared.OwnPart.{OwnPart}
+use Rattle.own.specs.declared.OwnRun.{OwnRun}
+use Rattle.own.specs.declared.OwnPart.{OwnPart}
 use Rattle.chain.specs.Length.{stretchesFrom}
 
 -- the link n leads to a piece of count 1
 abbrev pub single : Tables → ℕ → Bool

@@ -1,4 +1,4 @@
--- `build::settle` meets its contract, case by case. Assumes nothing.
+-- `rest::settle` meets its contract, case by case. Assumes nothing.
 use borrow.Author.Needs.{needs}
 use mathlib.Core.Path.{_≡_}
 use mathlib.Core.List.{List}
@@ -9,12 +9,12 @@ use Rattle.rules.specs.Build.{Plan}
 use Rattle.tables.proofs.Laws.{whole, total-pieces}
 use Rattle.chain.specs.Rest.{restFrom}
 use Rattle.chain.proofs.Links.{InUse, link-leads}
 use Rattle.build.specs.Clone.{Copyable}
 use Rattle.build.proofs.Laws.{opened-piece, opened-sharable, opened-copyable}
 use Rattle.build.proofs.Line.{freeFrom, link-fits}
-use Rattle.build.proofs.Rest.{copyPlan, rest-none, rest-border, rest-own, rest-copy, made-plain, made-one, one-free}
-use Rattle.build.proofs.settle.Statement.{statement}
-use Rattle.build.proofs.settle.Tie as tie
+use Rattle.rest.proofs.Rest.{copyPlan, rest-none, rest-border, rest-own, rest-copy, made-plain, made-one, one-free}
+use Rattle.rest.proofs.settle.Statement.{statement}
+use Rattle.rest.proofs.settle.Tie as tie
 
 -- the plan of what stays, and the free pieces
 abbrev planOf : (c : tie.Start) → Plan

@@ -1,11 +1,11 @@
--- `build::shorten` meets its contract. Assumes nothing.
+-- `rest::shorten` meets its contract. Assumes nothing.
 use borrow.Author.Needs.{needs}
 use native.Mathlib.Omega.{arith}
 use Rattle.rules.specs.Bytes.{decode}
 use Rattle.tables.proofs.Laws.{whole, total-pieces}
-use Rattle.build.proofs.Rest.{shorten-done}
-use Rattle.build.proofs.shorten.Statement.{statement}
-use Rattle.build.proofs.shorten.Tie as tie
+use Rattle.rest.proofs.Rest.{shorten-done}
+use Rattle.rest.proofs.shorten.Statement.{statement}
+use Rattle.rest.proofs.shorten.Tie as tie
 
 piece-count-requires : tie.Need-piece-count-requires
 piece-count-requires c κs = search needs

@@ -1,10 +1,10 @@
--- `build::wanted` meets its contract. Assumes nothing.
+-- `rest::wanted` meets its contract. Assumes nothing.
 use mathlib.Core.Path.{sym, ap}
 use lib.ListN.{length}
 use Rattle.rules.specs.Build.{Plan}
-use Rattle.build.proofs.Rest.{rest-none, rest-border, rest-own, rest-copy}
-use Rattle.build.proofs.wanted.Statement.{statement}
-use Rattle.build.proofs.wanted.Tie as tie
+use Rattle.rest.proofs.Rest.{rest-none, rest-border, rest-own, rest-copy}
+use Rattle.rest.proofs.wanted.Statement.{statement}
+use Rattle.rest.proofs.wanted.Tie as tie
 
 returns : tie.Need-returns
 returns c = let a = c .before .args in λ T. sym (ap (λ (p : Plan). length (p .more)) (rest-none T (a .own) (a .link) (a .into) (c .if1 .taken)))

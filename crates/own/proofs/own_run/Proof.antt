@@ -1,4 +1,4 @@
--- `chain::own_run` meets its contract: the own pieces passed, and those from the link reached on, are those asked for. Assumes nothing.
+-- `own::own_run` meets its contract: the own pieces passed, and those from the link reached on, are those asked for. Assumes nothing.
 use mathlib.Core.Path.{_≡_, sym, ap, subst, _∙_}
 use mathlib.Core.Bool.{true}
 use Prim.Native.Nat.{ℕ, _-_, _<_}
@@ -10,11 +10,11 @@ use Rattle.rules.specs.Bytes.{decode}
 use Rattle.rules.specs.Chain.{walk}
 use Rattle.rules.specs.Sound.{linkOk}
 use Rattle.tables.proofs.Laws.{whole, total-pieces}
-use Rattle.chain.specs.Own.{single, ownRun}
+use Rattle.own.specs.Own.{single, ownRun}
 use Rattle.chain.proofs.Links.{InUse, link-leads, walk-less}
-use Rattle.chain.proofs.Own.{ownFrom, own-start, own-stop, own-more, single-link}
-use Rattle.chain.proofs.own_run.Statement.{statement}
-use Rattle.chain.proofs.own_run.Tie as tie
+use Rattle.own.proofs.Own.{ownFrom, own-start, own-stop, own-more, single-link}
+use Rattle.own.proofs.own_run.Statement.{statement}
+use Rattle.own.proofs.own_run.Tie as tie
 
 abbrev Inv-loop : tie.InvT-loop
 Inv-loop pool shape link last₀ next₀ last next = let T = decode pool in Is (linkOk T next) × (ownFrom last T next ≡ ownRun T link)

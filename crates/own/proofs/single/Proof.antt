@@ -1,12 +1,12 @@
--- `chain::single` meets its contract. Assumes nothing.
+-- `own::single` meets its contract. Assumes nothing.
 use borrow.Author.Needs.{needs}
 use native.Mathlib.Omega.{arith}
 use Rattle.rules.specs.Bytes.{decode}
 use Rattle.tables.proofs.Laws.{whole, total-pieces}
 use Rattle.chain.proofs.Links.{link-leads}
-use Rattle.chain.proofs.Own.{single-is}
-use Rattle.chain.proofs.single.Statement.{statement}
-use Rattle.chain.proofs.single.Tie as tie
+use Rattle.own.proofs.Own.{single-is}
+use Rattle.own.proofs.single.Statement.{statement}
+use Rattle.own.proofs.single.Tie as tie
 
 returns : tie.Need-returns
 returns c = search needs

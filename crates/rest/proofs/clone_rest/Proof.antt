@@ -1,4 +1,4 @@
--- `build::clone_rest` meets its contract. Assumes nothing.
+-- `rest::clone_rest` meets its contract. Assumes nothing.
 use borrow.Author.Needs.{needs}
 use mathlib.Core.Path.{ap}
 use Prim.Native.Nat.{_<_}
@@ -6,9 +6,9 @@ use native.Mathlib.Omega.{arith}
 use Rattle.kinds.specs.declared.BufferNumber.{BufferNumber}
 use Rattle.rules.specs.Bytes.{decode}
 use Rattle.tables.proofs.Laws.{whole, total-pieces, total-buffers}
-use Rattle.build.proofs.Rest.{shared-count, rest-done}
-use Rattle.build.proofs.clone_rest.Statement.{statement}
-use Rattle.build.proofs.clone_rest.Tie as tie
+use Rattle.rest.proofs.Rest.{shared-count, rest-done}
+use Rattle.rest.proofs.clone_rest.Statement.{statement}
+use Rattle.rest.proofs.clone_rest.Tie as tie
 
 -- piece d is below P
 below : (c : tie.Start) → c .args .d .0 < c .args .shape .pieces

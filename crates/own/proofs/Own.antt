@@ -1,6 +1,6 @@
 -- The own pieces of a chain, met one by one. Assumes nothing.
 use mathlib.Core.Path.{_≡_, refl, sym, ap, subst, _∙_}
-use mathlib.Core.Bool.{Bool, true, false, _&&_}
+use mathlib.Core.Bool.{Bool, true, false}
 use mathlib.Core.List.{List, [], _∷_, _++_}
 use Prim.Native.Nat.{ℕ, zero, suc, _+_, _-_, _<_}
 use native.Mathlib.Omega.{arith}
@@ -11,17 +11,16 @@ use Rattle.rules.specs.Basics.{Is, if_then_else_, lastOf}
 use Rattle.rules.specs.Tables.{Tables, piece, pieceTotal}
 use Rattle.rules.specs.Chain.{follow, walk, ownPieces, stretches, total, cutOut}
 use Rattle.rules.specs.Sound.{linkOk, SoundTables}
-use Rattle.rules.specs.Drop.{ownAt}
 use Rattle.rules.proofs.Logic.{if-either}
 use Rattle.rules.proofs.Meets.{meets-one}
 use Rattle.rules.proofs.Hang.{Run, run-split, stretches-append, stretches-length}
-use Rattle.chain.specs.declared.OwnRun.{OwnRun}
-use Rattle.chain.specs.declared.OwnPart.{OwnPart}
+use Rattle.own.specs.declared.OwnRun.{OwnRun}
+use Rattle.own.specs.declared.OwnPart.{OwnPart}
 use Rattle.chain.specs.Length.{stretchesFrom}
-use Rattle.chain.specs.Own.{single, lastLink, ownRun, ownPart}
+use Rattle.own.specs.Own.{single, lastLink, ownRun, ownPart}
 use Rattle.chain.proofs.Links.{walk-on, follow-good, walk-meets}
 use Rattle.chain.proofs.Spots.{cutOut-none}
 use Rattle.chain.proofs.Parts.{part-first}
 
 -- the link to the last of the pieces, l where there is none
 abbrev pub lastOr : ℕ → List ℕ → ℕ
@@ -163,16 +162,6 @@ pub own-part-more : (b l m n : ℕ) (T : Tables) → SoundTables T → Is (linkO
 own-part-more b l m n T S t h e =
     let rest = length (cutOut (stretchesFrom T (piece T (n - 1) .next)) 0 (m - piece T (n - 1) .len)) in
     ap (λ (k : ℕ). bytesRun b l T n (ownPieces k T n)) (part-first T n m S t (single-link n T e) h) ∙ own-first b l rest n T e
-
--- ---- whether one piece is own
-
--- none is behind one that is not
-pub own-lost : (T : Tables) (own : Bool) (d : ℕ) → own ≡ false → false ≡ ownAt T own d
-own-lost T own d e = ap (λ (b : Bool). b && eqb (piece T d .count) 1) (sym e)
-
--- behind own pieces its count, v, tells
-pub own-kept : (T : Tables) (own : Bool) (d v : ℕ) → own ≡ true → v ≡ piece T d .count → eqb v 1 ≡ ownAt T own d
-own-kept T own d v e c = ap (λ (x : ℕ). eqb x 1) c ∙ ap (λ (b : Bool). b && eqb (piece T d .count) 1) (sym e)
 
 -- ---- the own pieces in sound tables
 

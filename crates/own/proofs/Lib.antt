@@ -1,0 +1,2 @@
+-- The laws of own.
+pub mod Own

@@ -1,0 +1,2 @@
+-- What the contracts of own cite.
+pub mod Own

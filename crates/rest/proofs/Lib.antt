@@ -1,0 +1,2 @@
+-- The laws of rest.
+pub mod Rest
