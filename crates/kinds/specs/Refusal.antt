@@ -1,7 +1,7 @@
 -- The codes of the refusals.
 use Prim.Native.Nat.{ℕ}
 use Rattle.kinds.specs.declared.Refusal.{Refusal}
-use Rattle.kinds.specs.declared.Refusal.the-variants.{Counts, Torn, Slip, Same, Long, Range, Narrow, Slips, Pieces, Buffers}
+use Rattle.kinds.specs.declared.Refusal.the-variants.{Counts, Torn, Slip, Same, Long, Range, Narrow, Slips, Pieces, Buffers, WireList}
 
 -- the code of a refusal: an error number
 abbrev pub refusalCode : Refusal → ℕ
@@ -15,3 +15,4 @@ refusalCode Narrow = 7
 refusalCode Slips = 8
 refusalCode Pieces = 9
 refusalCode Buffers = 10
+refusalCode WireList = 11

@@ -35,6 +35,7 @@ pub enum Refusal {
     Slips,
     Pieces,
     Buffers,
+    WireList,
 }
 
 // What a done step answers: the state its slip is left in, and the number (a success value).
@@ -191,6 +192,7 @@ pub fn refusal_code(r: Refusal) -> u16
         Refusal::Slips => 8,
         Refusal::Pieces => 9,
         Refusal::Buffers => 10,
+        Refusal::WireList => 11,
     }
 }
 

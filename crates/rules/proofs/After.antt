@@ -25,7 +25,7 @@ use Rattle.rules.specs.Drop.{dropped, dropAfter}
 use Rattle.rules.specs.Keep.{kept, keptOwn, keptNotOwn, keptBy, keepAfter}
 use Rattle.rules.specs.Pullup.{pulled, pullupAfter, pullupWants}
 use Rattle.rules.specs.Pack.{packAfter, packWants}
-use Rattle.rules.specs.Step.{Operation, Audit, Put, Free, Dup, Cut, Append, Drop, Keep, Pullup, Pack, Length, Read, Show, rule}
+use Rattle.rules.specs.Step.{Operation, Audit, Put, Free, Dup, Cut, Append, Drop, Keep, Pullup, Pack, Length, Read, Show, WireList, rule}
 use Rattle.rules.specs.After.{at, readsAfter, vacantAfter, ReadsOk}
 use Rattle.rules.proofs.Logic.{if-T, if-F, if-either, is-true, is-false, eq→eqb, not-most, or-cases}
 use Rattle.rules.proofs.Moves.{SoundBy, SoundWith, SoundNow, buffer-pos, reorder, slip-move}
@@ -408,6 +408,7 @@ reads-ok (Pack s) S h f a = (let r = pack-reading s S h f a in record { bytes = 
 reads-ok (Length s) S h f a = record { bytes = λ t. refl; vacancy = λ t. refl }
 reads-ok (Read s off n out) S h f a = record { bytes = λ t. refl; vacancy = λ t. refl }
 reads-ok (Show s n scratch) S h f a = record { bytes = λ t. refl; vacancy = λ t. refl }
+reads-ok (WireList s list) S h f a = record { bytes = λ t. refl; vacancy = λ t. refl }
 
 -- ---- bytes that stay
 
@@ -455,3 +456,4 @@ module _ (S : State) (f : Fit (bufferTotal (S .tables)) (S .storage)) (b : ℕ) 
   held-stays (Length s) = refl
   held-stays (Read s off n out) = refl
   held-stays (Show s n scratch) = refl
+  held-stays (WireList s list) = refl

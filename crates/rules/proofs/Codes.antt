@@ -8,13 +8,13 @@ use native.Mathlib.Decide.{ℕ-discrete, decLt}
 use native.Mathlib.Omega.{arith}
 use lib.Dec.{T-not, not-T, leb, leb→le, ltb, ltb→lt, lt→ltb, eqb, eqb→eq}
 use Rattle.kinds.specs.declared.Refusal.{Refusal}
-use Rattle.kinds.specs.declared.Refusal.the-variants.{Counts, Torn, Slip, Same, Long, Range, Narrow, Slips, Pieces, Buffers}
+use Rattle.kinds.specs.declared.Refusal.the-variants.{Counts, Torn, Slip, Same, Long, Range, Narrow, Slips, Pieces, Buffers, WireList}
 use Rattle.kinds.specs.Refusal.{refusalCode}
 use Rattle.rules.specs.Basics.{Is, if_then_else_}
 use Rattle.rules.specs.Tables.{Tables, slip, slipTotal}
 use Rattle.rules.specs.Chain.{State}
 use Rattle.rules.specs.Rule.{Judged, _⇐_, firstCode, unnamed, Wants, want, room, Rule, full, codeIn}
-use Rattle.rules.specs.Step.{Operation, Audit, Put, Free, Dup, Cut, Append, Drop, Keep, Pullup, Pack, Length, Read, Show, rule}
+use Rattle.rules.specs.Step.{Operation, Audit, Put, Free, Dup, Cut, Append, Drop, Keep, Pullup, Pack, Length, Read, Show, WireList, rule}
 use Rattle.rules.proofs.Logic.{if-T, if-F, if-either, and-0, and-1, not-not, not-zero, not-most, eq→eqb}
 
 pub refusal-pos : (r : Refusal) → 0 < refusalCode r
@@ -28,6 +28,7 @@ refusal-pos Narrow = omega arith
 refusal-pos Slips = omega arith
 refusal-pos Pieces = omega arith
 refusal-pos Buffers = omega arith
+refusal-pos WireList = omega arith
 
 -- a code that is given is a refusal's
 pub first-listed : (js : List Judged) → firstCode js ≢ 0 → (r : Refusal) × (firstCode js ≡ refusalCode r)
@@ -173,6 +174,7 @@ lowest-first (Pack s) S = omega arith
 lowest-first (Length s) S = omega arith
 lowest-first (Read s off n out) S = omega arith
 lowest-first (Show s n scratch) S = omega arith
+lowest-first (WireList s list) S = omega arith
 
 pub judged-early : (o : Operation) (S : State) → (firstCode (rule o S .judged) ≢ refusalCode Torn) × (firstCode (rule o S .judged) < refusalCode Slips)
 judged-early o S =

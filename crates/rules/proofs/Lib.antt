@@ -27,6 +27,8 @@ pub mod Pack
 pub mod Length
 pub mod Read
 pub mod Show
+pub mod List
+pub mod Gather
 -- all calls together
 pub mod Codes
 pub mod Sound

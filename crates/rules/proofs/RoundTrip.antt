@@ -1,30 +1,36 @@
--- What the answered slips and all other slips read, and that what is put is read again, in bytes. Assumes nothing.
-use mathlib.Core.Path.{_≡_, refl, sym, ap, subst, _∙_}
+-- What the answered slips and all other slips read, and that what is put, or listed, is read again, in bytes. Assumes nothing.
+use mathlib.Core.Path.{_≡_, refl, sym, ap, ap₂, subst, _∙_}
 use mathlib.Core.Logic.{_≢_, inl, inr}
 use mathlib.Core.Bool.{false, not, _&&_}
 use mathlib.Core.List.{List, [], _++_}
-use Prim.Native.Nat.{ℕ, _+_, _≤_, _<_}
+use Prim.Native.Nat.{ℕ, _+_, _*_, _≤_, _<_}
+use native.Mathlib.Decide.{decLt}
 use native.Mathlib.Omega.{arith}
 use lib.ListN.{length, take, drop}
 use lib.Seq.{take-length}
-use lib.Dec.{ltb, lt→ltb, T-not, not-T}
+use lib.Dec.{ltb, ltb→lt, lt→ltb, T-not, not-T}
+use Rattle.kinds.specs.declared.Refusal.the-variants.{Slip, Range, Narrow}
 use Rattle.rules.specs.Basics.{Is}
-use Rattle.rules.specs.Tables.{Tables, slip, slipTotal}
+use Rattle.rules.specs.Tables.{Tables, slip, slipTotal, bufferTotal}
 use Rattle.rules.specs.Bytes.{decode}
-use Rattle.rules.specs.Chain.{State, reads}
+use Rattle.rules.specs.Chain.{State, spans, total, lengthOf, reads}
 use Rattle.rules.specs.Room.{isVacant, vacantSlips, newSlip}
 use Rattle.rules.specs.Sound.{Lent, sound}
-use Rattle.rules.specs.Rule.{unnamed}
+use Rattle.rules.specs.Rule.{_⇐_, unnamed, room}
 use Rattle.rules.specs.Read.{copied}
-use Rattle.rules.specs.Step.{Operation, Audit, Put, Free, Dup, Cut, Append, Drop, Keep, Pullup, Pack, Length, Read, Show, Do, rule, Result, stateIn, done, step, next}
+use Rattle.rules.specs.Gather.{gather}
+use Rattle.rules.specs.Step.{Operation, Audit, Put, Free, Dup, Cut, Append, Drop, Keep, Pullup, Pack, Length, Read, Show, WireList, Do, rule, Result, stateIn, done, step, next}
 use Rattle.rules.specs.After.{at, readsAfter, vacantAfter, Names}
 use Rattle.rules.proofs.Logic.{and-intro, not-zero, eq→eqb}
 use Rattle.rules.proofs.Moves.{in-range}
 use Rattle.rules.proofs.Room.{new-slip-ok}
+use Rattle.rules.proofs.Chain.{spans-good}
 use Rattle.rules.proofs.Audit.{sound-now}
-use Rattle.rules.proofs.Codes.{first-none, Allowed, allowed, no-cause}
+use Rattle.rules.proofs.Codes.{first-zero, first-yes, first-no, first-none, none-full, Allowed, allowed, no-cause}
 use Rattle.rules.proofs.After.{at-here, at-there, reads-length}
-use Rattle.rules.proofs.Step.{code-is, did, sound-within, step-keeps, slips-read, slips-vacant}
+use Rattle.rules.proofs.List.{list-exact}
+use Rattle.rules.proofs.Gather.{gather-records, gather-short}
+use Rattle.rules.proofs.Step.{alters-nothing, code-is, did, sound-within, step-keeps, slips-read, slips-vacant}
 
 -- ---- what a done call answers
 
@@ -86,6 +92,43 @@ put-read input out m e l =
     let c = read-done (step (Do (Put input)) m .number) 0 (length input) out (next (Do (Put input)) m) t (put-held input m e) (omega (arith, ap length q)) l in
     (c, output-is _ _ c ∙ ap (λ xs. copied xs out) (ap (take (length input)) q ∙ take-length input))
 
+-- ---- what list lists is read by gather
+
+-- List, then gather over just the records written and the same storage, gives what read gives of the whole chain: code, number and output.
+pub list-gather : (s : ℕ) (list out : List ℕ) (m : Lent) → step (Do (WireList s list)) m .code ≡ 0
+    → let w = step (Do (WireList s list)) m in
+    let r = step (Do (Read s 0 (lengthOf (decode (m .pool)) s) out)) m in
+    gather (m .storage) (take (2 * w .number) (w .output)) out ≡ record { code = r .code; number = r .number; output = r .output }
+unfolding rule
+list-gather s list out m e =
+    let T = decode (m .pool) in
+    let S = stateIn m in
+    let xs = spans T s in
+    let n = total xs in
+    let o = Read s 0 n out in
+    let d = did (WireList s list) m e in
+    let t = d .was-sound in
+    let a = allowed (rule (WireList s list) S) T (d .allowed-code) in
+    let named = first-zero (Slip ⇐ unnamed T s) _ (a .early) .0 in
+    let in-range : Is (ltb n (0 + n)) → ⊥ = λ q. omega (arith, ltb→lt n (0 + n) q) in
+    let f = sound-within m t .storage-fits in
+    let g = spans-good T s (sound-now m t) in
+    let written = ap₂ (λ (k : ℕ) (l : List ℕ). take (2 * k) l) (number-is (WireList s list) m e) (output-is (WireList s list) m e) ∙ list-exact s list S a .front in
+    let judged = code-is o m t ∙ first-no (Slip ⇐ unnamed T s) _ named ∙ first-no (Range ⇐ ltb n (0 + n)) _ in-range in
+    ap (λ (l : List ℕ). gather (m .storage) l out) written
+    ∙ elim (decLt (length out) n) [
+      | yes h ↦ (
+          let c = judged ∙ first-yes (Narrow ⇐ ltb (length out) n) _ (lt→ltb (length out) n h) in
+          let r = alters-nothing (Do o) m (λ z. omega arith) in
+          gather-short (bufferTotal T) (m .storage) out xs f g h ∙ sym (λ i. record { code = c i; number = r i .number; output = r i .output }))
+      | no h ↦ (
+          let l : n ≤ length out = omega arith in
+          let c = judged ∙ first-no (Narrow ⇐ ltb (length out) n) _ (λ q. omega (arith, ltb→lt (length out) n q)) ∙ none-full (room T) in
+          let whole : take n (reads S s) ≡ reads S s = ap (λ (k : ℕ). take k (reads S s)) (sym (reads-length S (sound-now m t) f s)) ∙ take-length (reads S s) in
+          gather-records (bufferTotal T) (m .storage) out xs f g l
+          ∙ sym (λ i. record { code = c i; number = number-is o m c i; output = (output-is o m c ∙ ap (λ (q : List ℕ). copied q out) whole) i }))
+    ]
+
 -- ---- the slips that a call does not name
 
 -- a new slip was vacant, so a held slip is not it
@@ -109,6 +152,7 @@ others-same (Pack s) S a t n v = (refl, refl)
 others-same (Length s) S a t n v = (refl, refl)
 others-same (Read s off k out) S a t n v = (refl, refl)
 others-same (Show s k scratch) S a t n v = (refl, refl)
+others-same (WireList s list) S a t n v = (refl, refl)
 
 module _ (o : Operation) (m : Lent) (e : step (Do o) m .code ≡ 0) (t : ℕ) (n : Names o t → ⊥) (v : Is (not (isVacant (decode (m .pool)) t))) where
   -- every held slip that a done call does not name reads as before

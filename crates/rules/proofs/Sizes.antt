@@ -20,7 +20,7 @@ use Rattle.rules.specs.Drop.{dropHere, dropPlan, dropped, dropAfter, own
 use Rattle.rules.specs.Keep.{kept, keptOwn, keptNotOwn, shortened, keptBy, keepAfter}
 use Rattle.rules.specs.Pullup.{pulled, pullupAfter}
 use Rattle.rules.specs.Pack.{packAfter}
-use Rattle.rules.specs.Step.{Operation, Audit, Put, Free, Dup, Cut, Append, Drop, Keep, Pullup, Pack, Length, Read, Show, rule}
+use Rattle.rules.specs.Step.{Operation, Audit, Put, Free, Dup, Cut, Append, Drop, Keep, Pullup, Pack, Length, Read, Show, WireList, rule}
 use Rattle.rules.proofs.Logic.{if-either}
 use Rattle.rules.proofs.Release.{release-storage, turned-storage}
 use Rattle.rules.proofs.Build.{built-kept}
@@ -172,6 +172,7 @@ rule-sizes (Pack s) S =
 rule-sizes (Length s) S = same (S .tables)
 rule-sizes (Read s off n out) S = same (S .tables)
 rule-sizes (Show s n scratch) S = same (S .tables)
+rule-sizes (WireList s list) S = same (S .tables)
 
 -- ---- storage: what is written stays inside its buffers
 
@@ -225,3 +226,4 @@ rule-storage (Pack s) S h =
 rule-storage (Length s) S h = refl
 rule-storage (Read s off n out) S h = refl
 rule-storage (Show s n scratch) S h = refl
+rule-storage (WireList s list) S h = refl

@@ -9,7 +9,7 @@ use Rattle.kinds.specs.declared.Refusal.the-variants.{Slip, Same}
 use Rattle.rules.specs.Tables.{Tables, slip, slipTotal}
 use Rattle.rules.specs.Chain.{State}
 use Rattle.rules.specs.Rule.{Judged, _⇐_, firstCode, unnamed}
-use Rattle.rules.specs.Step.{Operation, Audit, Put, Free, Dup, Cut, Append, Drop, Keep, Pullup, Pack, Length, Read, Show, rule}
+use Rattle.rules.specs.Step.{Operation, Audit, Put, Free, Dup, Cut, Append, Drop, Keep, Pullup, Pack, Length, Read, Show, WireList, rule}
 use Rattle.rules.proofs.Logic.{or-none, eq→eqb}
 use Rattle.rules.proofs.Moves.{SoundNow}
 use Rattle.rules.proofs.Codes.{first-zero, Allowed, named}
@@ -50,3 +50,4 @@ rule-sound (Pack s) S h a = pack-sound s S (first-named (S .tables) s _ (a .earl
 rule-sound (Length s) S h a = h
 rule-sound (Read s off n out) S h a = h
 rule-sound (Show s n scratch) S h a = h
+rule-sound (WireList s list) S h a = h

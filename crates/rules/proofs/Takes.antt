@@ -24,7 +24,7 @@ use Rattle.rules.specs.Drop.{dropped, dropAfter}
 use Rattle.rules.specs.Keep.{kept, keptOwn, keptNotOwn, keepAfter}
 use Rattle.rules.specs.Pullup.{pulled, pullupAfter, pullupWants}
 use Rattle.rules.specs.Pack.{packAfter, packWants}
-use Rattle.rules.specs.Step.{Operation, Audit, Put, Free, Dup, Cut, Append, Drop, Keep, Pullup, Pack, Length, Read, Show, rule}
+use Rattle.rules.specs.Step.{Operation, Audit, Put, Free, Dup, Cut, Append, Drop, Keep, Pullup, Pack, Length, Read, Show, WireList, rule}
 use Rattle.rules.specs.Takes.{tookSlips, Took, TakesOk}
 use Rattle.rules.proofs.Logic.{if-either, if-both, and-0, and-1, or-cases, eq→eqb, not-zero, not-most, bit-pos, any-at}
 use Rattle.rules.proofs.Sums.{sumTo-pos}
@@ -390,3 +390,4 @@ takes (Pack s) S h a =
 takes (Length s) S h a = nothing-taken (S .tables) s h
 takes (Read s off n out) S h a = nothing-taken (S .tables) s h
 takes (Show s n scratch) S h a = nothing-taken (S .tables) s h
+takes (WireList s list) S h a = nothing-taken (S .tables) s h

@@ -10,7 +10,7 @@ use Rattle.rules.specs.Basics.{if_then_else_}
 use Rattle.rules.specs.Chain.{State, reads}
 use Rattle.rules.specs.Room.{isVacant, newSlip}
 use Rattle.rules.specs.Rule.{View}
-use Rattle.rules.specs.Step.{Operation, Audit, Put, Free, Dup, Cut, Append, Drop, Keep, Pullup, Pack, Length, Read, Show, rule}
+use Rattle.rules.specs.Step.{Operation, Audit, Put, Free, Dup, Cut, Append, Drop, Keep, Pullup, Pack, Length, Read, Show, WireList, rule}
 
 -- f, but x at s
 abbrev pub at : {A : Type 0} → ℕ → A → (ℕ → A) → ℕ → A
@@ -32,6 +32,7 @@ readsAfter (Pack s) S = reads S
 readsAfter (Length s) S = reads S
 readsAfter (Read s off n out) S = reads S
 readsAfter (Show s n scratch) S = reads S
+readsAfter (WireList s list) S = reads S
 
 -- whether slip t is vacant after it
 unfoldable pub vacantAfter : Operation → State → ℕ → Bool
@@ -48,6 +49,7 @@ vacantAfter (Pack s) S = isVacant (S .tables)
 vacantAfter (Length s) S = isVacant (S .tables)
 vacantAfter (Read s off n out) S = isVacant (S .tables)
 vacantAfter (Show s n scratch) S = isVacant (S .tables)
+vacantAfter (WireList s list) S = isVacant (S .tables)
 
 -- The claim about an operation that is done, proved in proofs/After.antt.
 pub record ReadsOk (o : Operation) (S : State) : Type 0 where
@@ -69,6 +71,7 @@ Names (Pack s) t = t ≡ s
 Names (Length s) t = t ≡ s
 Names (Read s off n out) t = t ≡ s
 Names (Show s n scratch) t = t ≡ s
+Names (WireList s list) t = t ≡ s
 
 -- the n bytes that a view shows
 abbrev pub seen : View → ℕ → List ℕ → List ℕ → List ℕ

@@ -23,6 +23,8 @@ pub mod Pack
 pub mod Length
 pub mod Read
 pub mod Show
+pub mod List
+pub mod Gather
 pub mod Step
 pub mod Recount
 pub mod Demand

@@ -24,6 +24,7 @@ use Rattle.rules.specs.Pack.{pack}
 use Rattle.rules.specs.Length.{chainLength}
 use Rattle.rules.specs.Read.{read}
 use Rattle.rules.specs.Show.{show}
+use Rattle.rules.specs.List.{wireList}
 
 -- The calls that ask a sound pool, with what they are lent besides pool and storage.
 pub data Operation : Type 0 where
@@ -40,6 +41,7 @@ pub data Operation : Type 0 where
   Length : ℕ → Operation
   Read : ℕ → ℕ → ℕ → List ℕ → Operation
   Show : ℕ → ℕ → List ℕ → Operation
+  WireList : ℕ → List ℕ → Operation
 
 -- A call opens the pool anew with counts B, P and S, or does an operation.
 pub data Call : Type 0 where
@@ -61,8 +63,9 @@ rule (Pack s) S = pack s S
 rule (Length s) S = chainLength s S
 rule (Read s off n out) S = read s off n out S
 rule (Show s n scratch) S = show s n scratch S
+rule (WireList s list) S = wireList s list S
 
--- the lent output or scratch
+-- the lent output, scratch or list
 abbrev pub lentOut : Operation → List ℕ
 lentOut Audit = []
 lentOut (Put input) = []
@@ -77,6 +80,7 @@ lentOut (Pack s) = []
 lentOut (Length s) = []
 lentOut (Read s off n out) = out
 lentOut (Show s n scratch) = scratch
+lentOut (WireList s list) = list
 
 -- what a call is lent besides pool and storage
 abbrev pub lentTo : Call → List ℕ

@@ -9,7 +9,7 @@ use Rattle.rules.specs.Tables.{Tables, slipTotal, pieceTotal, bufferTota
 use Rattle.rules.specs.Chain.{State, Stretch, chain, spans}
 use Rattle.rules.specs.Room.{isVacant, isFree, isUnheld, vacantSlips, freePieces, freeBuffers, newSlip}
 use Rattle.rules.specs.Rule.{Wants, room}
-use Rattle.rules.specs.Step.{Operation, Audit, Put, Free, Dup, Cut, Append, Drop, Keep, Pullup, Pack, Length, Read, Show, rule}
+use Rattle.rules.specs.Step.{Operation, Audit, Put, Free, Dup, Cut, Append, Drop, Keep, Pullup, Pack, Length, Read, Show, WireList, rule}
 
 -- the slip whose chain gets what is new
 abbrev pub target : Operation → Tables → ℕ
@@ -26,6 +26,7 @@ target (Pack s) T = s
 target (Length s) T = s
 target (Read s off n out) T = s
 target (Show s n scratch) T = s
+target (WireList s list) T = s
 
 -- those free in T and no longer in T′
 abbrev pub tookSlips : Tables → Tables → List ℕ

@@ -1,0 +1,39 @@
+-- list: the records that it writes, and what of the list stays. Assumes nothing.
+use mathlib.Core.Path.{_≡_, refl}
+use mathlib.Core.List.{List, [], _∷_}
+use Prim.Native.Nat.{ℕ, _*_}
+use native.Mathlib.Omega.{arith}
+use lib.ListN.{length, take, drop}
+use Rattle.rules.specs.Chain.{State, Stretch, chain, spans}
+use Rattle.rules.specs.List.{records}
+use Rattle.rules.specs.Step.{WireList, rule}
+use Rattle.rules.proofs.Hang.{stretches-length}
+use Rattle.rules.proofs.Codes.{Allowed, no-cause}
+use Rattle.rules.proofs.Read.{copied-front, copied-rest, copied-length}
+
+-- a record has two numbers
+pub records-length : (xs : List Stretch) → length (records xs) ≡ 2 * length xs
+unfolding records
+records-length [] = refl
+records-length (x ∷ xs) = omega (arith, records-length xs)
+
+-- What list gives: a record for each piece in chain order, at the front of the list, whose rest is unchanged.
+pub record ListExact (s : ℕ) (list : List ℕ) (S : State) : Type 0 where
+  pub one-each : rule (WireList s list) S .number ≡ length (chain (S .tables) s)
+  pub as-long : length (rule (WireList s list) S .output) ≡ length list
+  pub front : take (2 * rule (WireList s list) S .number) (rule (WireList s list) S .output) ≡ records (spans (S .tables) s)
+  pub rest : drop (2 * rule (WireList s list) S .number) (rule (WireList s list) S .output) ≡ drop (2 * rule (WireList s list) S .number) list
+
+-- a done list gives that
+pub list-exact : (s : ℕ) (list : List ℕ) (S : State) → Allowed (rule (WireList s list) S) (S .tables) → ListExact s list S
+unfolding rule
+list-exact s list S a =
+    let c = simp no-cause at (a .early) in
+    let xs = spans (S .tables) s in
+    let e = records-length xs in
+    record {
+      one-each = stretches-length (S .tables) (chain (S .tables) s);
+      as-long = copied-length (2 * length xs) (records xs) list e (omega arith);
+      front = copied-front (2 * length xs) (records xs) list e;
+      rest = copied-rest (2 * length xs) (records xs) list e;
+    }

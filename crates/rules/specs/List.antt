@@ -1,0 +1,26 @@
+-- list s into a lent list of numbers: one record for each piece in chain order, and the rest of the list is unchanged.
+use mathlib.Core.List.{List, [], _∷_}
+use Prim.Native.Nat.{ℕ}
+use lib.ListN.{length}
+use lib.Dec.{ltb}
+use Rattle.kinds.specs.declared.Refusal.the-variants.{Slip, Narrow}
+use Rattle.rules.specs.Chain.{State, Stretch, spans, positionOf}
+use Rattle.rules.specs.Rule.{Rule, _⇐_, unnamed, want, noView}
+use Rattle.rules.specs.Read.{copied}
+
+-- the records of stretches, two numbers each: the position in storage, then the length (a scatter list)
+unfoldable pub records : List Stretch → List ℕ
+records [] = []
+records (x ∷ xs) = positionOf x ∷ x .len ∷ records xs
+
+abbrev pub wireList : ℕ → List ℕ → State → Rule
+wireList s list S =
+    let xs = spans (S .tables) s in
+    record {
+      judged = (Slip ⇐ unnamed (S .tables) s) ∷ (Narrow ⇐ ltb (length list) (length (records xs))) ∷ [];
+      wants = want 0 0 0;
+      after = S;
+      number = length xs;
+      output = copied (records xs) list;
+      view = noView;
+    }
