@@ -2,9 +2,10 @@
 use mathlib.Core.Path.{_≡_, refl, sym, ap, subst, _∙_}
 use mathlib.Core.Bool.{Bool, true, false}
 use mathlib.Core.List.{List, []}
-use Prim.Native.Nat.{ℕ, _<_, _^_}
+use Prim.Native.Nat.{ℕ, _/_, _<_, _^_}
 use native.Mathlib.Omega.{arith}
-use lib.ListN.{length}
+use lib.ListN.{length, take}
+use lib.Seq.{take-length}
 use Rattle.kinds.specs.declared.Refusal.the-variants.{Counts, Torn}
 use Rattle.kinds.specs.declared.Outcome.{Outcome}
 use Rattle.kinds.specs.declared.Outcome.the-variants.{Refused}
@@ -14,20 +15,24 @@ use Rattle.kinds.specs.Outcome.{answerOf}
 use Rattle.rules.specs.Basics.{Is}
 use Rattle.rules.specs.Layout.{poolLength, storageLength}
 use Rattle.rules.specs.Tables.{freshTables}
-use Rattle.rules.specs.Bytes.{encode}
+use Rattle.rules.specs.Bytes.{decode, encode}
 use Rattle.rules.specs.Rule.{noView}
 use Rattle.rules.specs.Open.{openable}
-use Rattle.rules.specs.Step.{Operation, Audit, Show, Open, Do, rule, lentOut, refused, done, perform, step}
+use Rattle.rules.specs.Read.{copied}
+use Rattle.rules.specs.List.{records}
+use Rattle.rules.specs.Step.{Operation, Audit, Show, WireList, Open, Do, rule, lentOut, refused, done, perform, step}
 use Rattle.rules.proofs.Logic.{if-T, if-F}
 use Rattle.rules.proofs.Bytes.{AllBytes, and-is, eqb-is, leb-is}
 use Rattle.rules.proofs.Codes.{first-none}
 use Rattle.rules.proofs.Step.{step-sound-pool, step-torn}
-use Rattle.tables.proofs.Laws.{fits-decode}
+use Rattle.tables.proofs.Laws.{whole, total-slips, fits-decode}
 use Rattle.audit.specs.declared.Audited.{Audited}
 use Rattle.audit.specs.Header.{sizesOk}
 use Rattle.audit.specs.Verdict.{Verdict}
 use Rattle.audit.proofs.Laws.{verdict-torn, verdict-is, verdict-sound, verdict-header, verdict-shaped, verdict-limited}
 use Rattle.chain.specs.Opened.{Opened}
+use Rattle.chain.specs.Length.{stretchesFrom}
+use Rattle.chain.proofs.Links.{stretches-none}
 use Rattle.look.specs.declared.Place.{Place}
 use Rattle.look.specs.declared.Place.the-variants.{Storage, Scratch}
 use Rattle.look.specs.declared.Shown as look
@@ -35,9 +40,13 @@ use Rattle.look.specs.Place.{viewAt, Lies}
 use Rattle.answer.specs.Result as seen
 use Rattle.answer.specs.Result.{lent}
 use Rattle.look.specs.Show.{Seen}
-use Rattle.answer.proofs.Perform.{perform-none}
+use Rattle.answer.proofs.Perform.{perform-none, named-below}
+use Rattle.list.specs.declared.Begun as list
+use Rattle.list.specs.Begin.{begun}
+use Rattle.list.proofs.Laws.{begun-fits, list-performs}
 use Rattle.slp.specs.declared.Shown.{Shown}
 use Rattle.slp.specs.Result.{resultOf, shownAs, shownOf}
+use Rattle.slp.specs.Begin.{Begins}
 
 -- ---- show's answer
 
@@ -92,6 +101,36 @@ module _ {p : List ℕ} (st : List ℕ) {r : Audited} (v : Verdict p (length st)
     audit-done b =
         (λ i. record { code = 0; number = 0; pool = sym (fits-decode p b (opened .shaped .fits)) i; storage = st; output = []; view = noView })
         ∙ perform-none Audit (lent p st) refl first-none ∙ sound-step Audit
+
+-- ---- the records of slp_stretches
+
+module _ {p : List ℕ} (st : List ℕ) (s room : ℕ) {h : Audited} (v : Verdict p (length st) h) where
+  -- none where the pool is torn
+  pub begins-torn : {a : Answer} → h .sound ≡ false → a ≡ record { code = refusalCode Torn; number = 0 } → Begins p st s room (record { answer = a; shape = h .shape; link = 0 })
+  unfolding records
+  begins-torn {a} q e = record {
+    opened = λ n. absurd (n refl);
+    good = tt;
+    fits = omega (arith, ap length (stretches-none (decode p)));
+    answers = λ l _. ap (λ xs. resultOf a p st (copied (records xs) l) noView) (stretches-none (decode p)) ∙ torn-answer st v q (WireList s l) e;
+  }
+
+  -- else those that list begins
+  pub begins-sound : {a : Answer} {b : list.Begun} → AllBytes p → h .sound ≡ true → b ≡ begun (decode p) s room → a ≡ answerOf (b .outcome)
+      → Begins p st s room (record { answer = a; shape = h .shape; link = b .link })
+  begins-sound {a} {b} bytes q e f =
+      let T = decode p in
+      let o = opened st v q in
+      let w = begun-fits T s room e (λ u. o .sound .slips-ok s (omega (arith, named-below (o .shaped) s u, total-slips (whole (o .shaped))))) in
+      record {
+        opened = λ _. o;
+        good = w .0;
+        fits = omega (arith, w .1, w .2);
+        answers = λ l n.
+            let half : length l / 2 ≡ room = omega arith in
+            let all : take (b .pieces) (stretchesFrom T (b .link)) ≡ stretchesFrom T (b .link) = ap (λ k. take k (stretchesFrom T (b .link))) (w .1) ∙ take-length (stretchesFrom T (b .link)) in
+            answered st v q (b .outcome) (WireList s l) f (list-performs p st l s (fits-decode p bytes (o .shaped .fits)) (e ∙ ap (begun T s) (sym half)) (ap (λ xs. copied (records xs) l) (sym all)) .0);
+      }
 
 -- ---- open
 

@@ -1,2 +1,3 @@
 -- The laws of slp.
 pub mod Laws
+pub mod Records

@@ -1,2 +1,4 @@
 -- What the contracts of slp cite.
 pub mod Result
+pub mod Begin
+pub mod Numbers

@@ -1,8 +1,10 @@
-// The calls of the C driver: each audits the lent pool and then does its operation.
+// The calls of the C driver: each that is lent a pool audits it and then does its operation.
+use gather::Gathered;
 use kinds::Answer;
 use kinds::Outcome;
 use kinds::Refusal;
 use kinds::SlipNumber;
+use list::Stretch;
 use look::Place;
 use tables::Shape;
 ghost use mathlib.Core.Path.{_≡_};
@@ -10,10 +12,14 @@ ghost use mathlib.Core.List.{[]};
 ghost use Prim.Native.Nat.{_<_, _^_};
 ghost use Rattle.kinds.specs.Refusal.{refusalCode};
 ghost use Rattle.rules.specs.Rule.{noView};
-ghost use Rattle.rules.specs.Step.{Audit, Put, Free, Dup, Cut, Append, Drop, Keep, Pullup, Pack, Length, Read, Show, Open, Do, step};
+ghost use Rattle.rules.specs.Gather.{gather};
+ghost use Rattle.rules.specs.Step.{Audit, Put, Free, Dup, Cut, Append, Drop, Keep, Pullup, Pack, Length, Read, Show, WireList, Open, Do, step};
 ghost use Rattle.look.specs.Place.{viewAt};
 ghost use Rattle.answer.specs.Result.{lent};
+ghost use Rattle.gather.specs.Sum.{gatheredOf};
 ghost use Rattle.slp.specs.Result.{resultOf, shownAs, shownOf};
+ghost use Rattle.slp.specs.Begin.{Begins};
+ghost use Rattle.slp.specs.Numbers.{numbers};
 
 // What show answers to C: the view is `number` bytes from `start` on, of the scratch if `in_scratch` is 1, else of storage.
 #[repr(C)]
@@ -22,6 +28,13 @@ pub struct Shown {
     pub number: u32,
     pub in_scratch: u16,
     pub start: u32,
+}
+
+// What slp_stretches answers, the pool's shape, and the link to its first record, 0 where there is none.
+struct Begun {
+    answer: Answer,
+    shape: Shape,
+    link: u16,
 }
 
 // The answer of a call that is refused.
@@ -271,4 +284,71 @@ pub extern "C" fn slp_show(
     }
     let shape = audited.shape;
     shown_of(look::show(pool, shape, storage, SlipNumber(slip), n, scratch))
+}
+
+// list: where the pieces of a chain lie in storage, two numbers each, to the front of a lent list.
+#[no_mangle]
+pub extern "C" fn slp_list(pool: &[u8], storage: &[u8], slip: u16, list: &mut [u32]) -> Answer
+    ensures { λ r. ⌜ resultOf r (now (pool .entry)) (now (storage .entry)) (now (list .exit)) noView ≡ step (Do (WireList slip (now (list .entry)))) (lent (now (pool .entry)) (now (storage .entry))) ⌝ }
+{
+    let audited = audit::audit(pool, storage.len());
+    if !audited.sound {
+        return refused(Refusal::Torn);
+    }
+    let shape = audited.shape;
+    kinds::answer_of(list::list(pool, shape, SlipNumber(slip), list))
+}
+
+// gather: the bytes that the records of a list name, copied out of storage to the front of a lent output, with no pool.
+#[no_mangle]
+pub extern "C" fn slp_gather(storage: &[u8], list: &[u32], output: &mut [u8]) -> Gathered
+    ensures { λ r. ⌜ gatheredOf r (now (output .exit)) ≡ gather (now (storage .entry)) (now (list .entry)) (now (output .entry)) ⌝ }
+{
+    gather::gather(storage, list, output)
+}
+
+// What slp_stretches answers, and where its records start: audited and judged before any is written.
+fn begin(pool: &[u8], storage: &[u8], slip: u16, room: usize) -> Begun
+    ensures { λ r. ⌜ Begins (now (pool .entry)) (now (storage .entry)) slip room r ⌝ }
+{
+    let audited = audit::audit(pool, storage.len());
+    let shape = audited.shape;
+    if !audited.sound {
+        return Begun {
+            answer: refused(Refusal::Torn),
+            shape: shape,
+            link: 0,
+        };
+    }
+    let b = list::begin(pool, shape, SlipNumber(slip), room);
+    let outcome = b.outcome;
+    let link = b.link;
+    Begun {
+        answer: kinds::answer_of(outcome),
+        shape: shape,
+        link: link,
+    }
+}
+
+// stretches: list over a lent slice of records instead of numbers.
+#[no_mangle]
+pub extern "C" fn slp_stretches(
+    pool: &[u8],
+    storage: &[u8],
+    slip: u16,
+    list: &mut [Stretch],
+) -> Answer
+    ensures { λ r. ⌜ resultOf r (now (pool .entry)) (now (storage .entry)) (numbers (now (list .exit))) noView ≡ step (Do (WireList slip (numbers (now (list .entry))))) (lent (now (pool .entry)) (now (storage .entry))) ⌝ }
+{
+    let b = begin(pool, storage, slip, list.len());
+    let shape = b.shape;
+    let mut at = b.link;
+    let mut k = 0;
+    while at != 0 {
+        let r = list::first(pool, shape, at);
+        list[k] = r.stretch;
+        at = r.next;
+        k += 1;
+    }
+    b.answer
 }

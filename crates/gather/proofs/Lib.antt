@@ -1,0 +1,2 @@
+-- The laws of gather.
+pub mod Laws

@@ -1,0 +1,2 @@
+-- What the contracts of gather cite.
+pub mod Sum

@@ -1,0 +1,3 @@
+-- The laws of list.
+pub mod Reached
+pub mod Laws
