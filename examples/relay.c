@@ -1,6 +1,6 @@
 /*
- * A relay in a page: two payment messages come in, lose the header of the line they came on, are joined without copying a byte, looked at and
- * handed on whole. An account number in the first is shared, and outlives the message that it came in.
+ * A relay in a page: two payment messages come in, lose the header of the line they came on, are joined without copying a byte, looked at,
+ * listed for the network card and handed on whole. An account number in the first is shared, and outlives the message that it came in.
  */
 #include <slp.h>
 
@@ -22,9 +22,9 @@ static uint8_t storage[SLP_STORAGE_LENGTH(BUFFERS)];
 static uint32_t refused(const char *what, uint16_t code)
 {
     static const char *const word[] = {
-        "DONE", "COUNTS", "TORN", "SLIP", "SAME", "LONG", "RANGE", "NARROW", "SLIPS", "PIECES", "BUFFERS"};
+        "DONE", "COUNTS", "TORN", "SLIP", "SAME", "LONG", "RANGE", "NARROW", "SLIPS", "PIECES", "BUFFERS", "LIST"};
     printf("%-44s refused: %u %s\n", what, (unsigned)code, word[code]);
-    if (code < SLP_SLIPS) exit(1);
+    if (code < SLP_SLIPS || code > SLP_BUFFERS) exit(1);
     return NONE;
 }
 
@@ -54,6 +54,14 @@ static void look(uint16_t slip, uint32_t n)
     const uint8_t *view = (v.in_scratch ? scratch : storage) + v.start;
     printf("  slip %u begins, in %s at %u: %.*s\n", (unsigned)slip, v.in_scratch ? "the scratch" : "storage", (unsigned)v.start,
            (int)v.number, (const char *)view);
+}
+
+/* Lists a chain for the card, which takes the bytes from storage itself: where each stretch begins, and how long it is. */
+static void to_card(uint16_t slip)
+{
+    slp_stretch list[PIECES];
+    uint32_t n = done("list it for the card: stretches", slp_stretches(LENT, slip, list, PIECES));
+    for (uint32_t i = 0; i < n; i++) printf("  %u bytes at %u\n", (unsigned)list[i].length, (unsigned)list[i].position);
 }
 
 /* Hands a chain on: all its bytes, copied out in order. */
@@ -92,6 +100,7 @@ int main(void)
     done("append the second to the first", slp_append(LENT, a, b));
     look(a, 10);
     look(a, 59);
+    to_card(a);
     hand_on(a);
 
     done("free the joined message", slp_free(LENT, a));

@@ -5,14 +5,21 @@
  * pieces over buffers of 512 bytes, several pieces may share one buffer, and counts in the pool say who holds what. The caller knows a
  * chain by its slip number alone. A slip is vacant, or holds an empty chain, or heads a piece.
  *
- * Slices. A slice is a pointer, then its length in bytes. It may be empty: then the pointer is not read and may be null.
+ * Slices. A slice is a pointer, then its length: in bytes or, of a list, in its numbers or records. It may be empty: then the pointer is not
+ * read and may be null.
  *
  * Answers. Every call answers a code and a number. Code 0 is done. Any other code is a no: the number is 0, and pool, storage and
  * everything else that was lent are unchanged. Ask the code first, since 0 is also the number of a slip. Where several codes apply, the
  * lowest is given. Room is counted when the call begins; what it gives back is room for the next one.
  *
- * Any bytes may be lent, of any length: every call but slp_open tests the pool first (2 TORN). What no call can test, and the caller keeps:
- *   - a pointer is what it says: as many bytes as its length stand there, readable, and writable where it isn't const;
+ * Wire lists. A record is a stretch of storage: where it begins and how many bytes it has. slp_list and slp_stretches write one for each piece
+ * of a chain, for a card that reads storage itself; slp_gather copies the bytes out as such a card does. The bytes that a record names stay as
+ * they are while any piece lies on their buffer.
+ *
+ * Any bytes may be lent, of any length: every call tests the pool first (2 TORN), but for slp_open and for slp_gather, which has no pool. What
+ * no call can test, and the caller keeps:
+ *   - a pointer is what it says: as many elements as its length stand there, aligned as their type asks, readable, and writable where it
+ *     isn't const;
  *   - pool, storage and whatever else a call is lent stand apart: no two of them overlap;
  *   - until a call is back, nobody else writes what it was lent, or reads what it may write.
  *
@@ -43,15 +50,16 @@ extern "C" {
 enum slp_code {
     SLP_DONE = 0,     /* done */
     SLP_COUNTS = 1,   /* open: a count outside its range, or a lent length not the one it asks */
-    SLP_TORN = 2,     /* any other call: the pool isn't sound */
+    SLP_TORN = 2,     /* any other call that has a pool: the pool isn't sound */
     SLP_SLIP = 3,     /* a named slip is S or more, or vacant */
     SLP_SAME = 4,     /* append names one slip twice */
     SLP_LONG = 5,     /* pullup or show asks more than 512 */
     SLP_RANGE = 6,    /* the asked bytes reach past the chain's end, as whole numbers */
-    SLP_NARROW = 7,   /* the lent output can't take the bytes to be copied */
+    SLP_NARROW = 7,   /* the lent output, scratch or list can't take the bytes or records */
     SLP_SLIPS = 8,    /* a new slip is wanted and none is vacant */
     SLP_PIECES = 9,   /* more new pieces wanted than free */
-    SLP_BUFFERS = 10  /* more new buffers wanted than free */
+    SLP_BUFFERS = 10, /* more new buffers wanted than free */
+    SLP_LIST = 11     /* gather: a record is of no length or leaves storage, as whole numbers */
 };
 
 /* What a call answers: one of the codes, and a number. */
@@ -62,6 +70,12 @@ typedef struct { uint16_t code; uint32_t number; } slp_answer;
  * is empty, at the start of storage. In storage it stays as it is while any piece lies on its buffer.
  */
 typedef struct { uint16_t code; uint32_t number; uint16_t in_scratch; uint32_t start; } slp_shown;
+
+/* A record of a wire list: `length` bytes of storage from `position` on. */
+typedef struct { uint32_t position; uint32_t length; } slp_stretch;
+
+/* What slp_gather answers: one of the codes, and a count of bytes. A list may repeat itself, so the count may pass 32 bits. */
+typedef struct { uint16_t code; uint64_t number; } slp_gathered;
 
 /* Writes the fresh pool, whatever the bytes were; answers 0. No: 1 COUNTS. */
 slp_answer slp_open(uint8_t *pool, size_t pool_length, uint8_t *storage, size_t storage_length,
@@ -110,6 +124,21 @@ slp_answer slp_read(const uint8_t *pool, size_t pool_length, const uint8_t *stor
  * No: 2 TORN, 3 SLIP, 5 LONG, 6 RANGE, 7 NARROW (a scratch that is needed and too short). */
 slp_shown slp_show(const uint8_t *pool, size_t pool_length, const uint8_t *storage, size_t storage_length,
                    uint16_t slip, uint32_t n, uint8_t *scratch, size_t scratch_length);
+
+/* Writes one record of two numbers for each piece, in chain order, to the front of the list: position in storage (512 times the buffer's number,
+ * and the offset), then length; answers how many records. Numbers past them are unchanged; a lone last number is no record.
+ * No: 2 TORN, 3 SLIP, 7 NARROW (a list too short for all records). */
+slp_answer slp_list(const uint8_t *pool, size_t pool_length, const uint8_t *storage, size_t storage_length,
+                    uint16_t slip, uint32_t *list, size_t numbers);
+
+/* Copies the bytes of the list's records, two numbers each, in order to the front of the output; answers how many. A lone last number is no
+ * record. No: 7 NARROW (the lengths' sum, as a whole number, is more than the output's length), 11 LIST. */
+slp_gathered slp_gather(const uint8_t *storage, size_t storage_length, const uint32_t *list, size_t numbers,
+                        uint8_t *output, size_t output_length);
+
+/* As slp_list, into a list of records; answers how many. Records past them are unchanged. No: 2 TORN, 3 SLIP, 7 NARROW. */
+slp_answer slp_stretches(const uint8_t *pool, size_t pool_length, const uint8_t *storage, size_t storage_length,
+                         uint16_t slip, slp_stretch *list, size_t records);
 
 #ifdef __cplusplus
 }

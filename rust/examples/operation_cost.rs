@@ -2,8 +2,8 @@
 //!
 //! `operation_cost WHO CASE TIMES`: WHO is `library` (audit and operation), `audit` (slp_audit alone on the same
 //! pool), `yardstick` (the same operation written by hand, unaudited), `audited` (the audit by hand and then the same)
-//! or `empty` (a call that does nothing). Every call starts from the case's pool, storage and output, which are copied back in each run alike. Before that the library
-//! and the yardstick do the case once, and must leave the very same bytes and answer.
+//! or `empty` (a call that does nothing). Every call starts from the case's pool, storage, output and list, which are copied back in each run alike. Before that the library
+//! and the yardstick do the case once, and must leave the very same bytes, list and answer. Gather has no pool, so `library` and `audited` audit nothing there.
 //!
 //! Without arguments it lists the cases, one a line: name, operation and what is done.
 
@@ -12,7 +12,7 @@ mod by_hand;
 use std::env;
 use std::hint::black_box;
 
-use fulcrumnest::{Answer, Shown};
+use fulcrumnest::{Answer, Gathered, Shown, Stretch};
 
 /// The shape of every case's pool.
 const BUFFERS: usize = 128;
@@ -29,22 +29,27 @@ struct Lent {
     storage: Vec<u8>,
     data: Vec<u8>,
     output: Vec<u8>,
+    list: Vec<u32>,
+    records: Vec<Stretch>,
     slip: u16,
     other: u16,
     offset: u32,
     n: u32,
     answer: Answer,
     shown: Shown,
+    gathered: Gathered,
 }
 
 impl Lent {
-    /// A pool and its storage, with no data, no output and arguments 0.
+    /// A pool and its storage, with no data, no output, no list and arguments 0.
     fn new(pool: Vec<u8>) -> Lent {
         Lent {
             pool,
             storage: (0..512 * BUFFERS).map(|i| (i % 251) as u8).collect(),
             data: Vec::new(),
             output: Vec::new(),
+            list: Vec::new(),
+            records: Vec::new(),
             slip: 0,
             other: 0,
             offset: 0,
@@ -56,6 +61,7 @@ impl Lent {
                 in_scratch: 0,
                 start: 0,
             },
+            gathered: Gathered { code: 0, number: 0 },
         }
     }
 
@@ -67,6 +73,15 @@ impl Lent {
     fn output(self, n: usize) -> Lent {
         let output = vec![0xEE; n];
         Lent { output, ..self }
+    }
+
+    fn list(self, list: Vec<u32>) -> Lent {
+        Lent { list, ..self }
+    }
+
+    fn records(self, n: usize) -> Lent {
+        let records = vec![Stretch::default(); n];
+        Lent { records, ..self }
     }
 
     fn other(self, other: u16) -> Lent {
@@ -81,11 +96,13 @@ impl Lent {
         Lent { n, ..self }
     }
 
-    /// Pool, storage and output become those of the case again.
+    /// Pool, storage, output and list become those of the case again.
     fn reset(&mut self, case: &Lent) {
         self.pool.copy_from_slice(&case.pool);
         self.storage.copy_from_slice(&case.storage);
         self.output.copy_from_slice(&case.output);
+        self.list.copy_from_slice(&case.list);
+        self.records.copy_from_slice(&case.records);
     }
 }
 
@@ -248,6 +265,17 @@ const LENGTH: Operation = operation!(l.answer = length(&l.pool, &l.storage, l.sl
 const READ: Operation =
     operation!(l.answer = read(&l.pool, &l.storage, l.slip, l.offset, l.n, &mut l.output));
 const SHOW: Operation = operation!(l.shown = show(&l.pool, &l.storage, l.slip, l.n, &mut l.output));
+const LIST: Operation = operation!(l.answer = list(&l.pool, &l.storage, l.slip, &mut l.list));
+const STRETCHES: Operation =
+    operation!(l.answer = stretches(&l.pool, &l.storage, l.slip, &mut l.records));
+
+/// Gather asks no pool: there is nothing to audit.
+const GATHER: Operation = Operation {
+    name: "gather",
+    library: |l| l.gathered = fulcrumnest::calls::gather(&l.storage, &l.list, &mut l.output),
+    yardstick: |l| l.gathered = by_hand::gather(&l.storage, &l.list, &mut l.output),
+    audited: |l| l.gathered = by_hand::gather(&l.storage, &l.list, &mut l.output),
+};
 
 /// What is done in a case of an operation, and what the call is lent.
 type States = Vec<(&'static str, Lent)>;
@@ -399,6 +427,30 @@ fn shows() -> States {
     ]
 }
 
+fn lists() -> States {
+    let list = |pieces: usize| own(pieces, PIECE, NONE).list(vec![0; 2 * pieces]);
+    vec![("4 pieces", list(4)), ("100 pieces", list(100))]
+}
+
+fn stretches() -> States {
+    let records = |pieces: usize| own(pieces, PIECE, NONE).records(pieces);
+    vec![("4 pieces", records(4)), ("100 pieces", records(100))]
+}
+
+fn gathers() -> States {
+    // The list of a chain whose pieces lie each on the next buffer.
+    let gather = |records: usize, length: usize| {
+        let list = (0..records as u32).flat_map(|d| [512 * d, length as u32]);
+        let lent = own(records, length, NONE).list(list.collect());
+        lent.output(records * length)
+    };
+    vec![
+        ("1,024 bytes of 4 records", gather(4, PIECE)),
+        ("25,600 bytes of 100 records", gather(100, PIECE)),
+        ("500 bytes of 100 records of 5", gather(100, 5)),
+    ]
+}
+
 /// One operation on one state of what it is lent.
 struct Case {
     name: String,
@@ -409,7 +461,7 @@ struct Case {
 
 /// Every case, named by its operation and its place among those of the operation.
 fn cases() -> Vec<Case> {
-    let all: [(Operation, fn() -> States); 12] = [
+    let all: [(Operation, fn() -> States); 15] = [
         (PUT, puts),
         (FREE, frees),
         (DUP, dups),
@@ -422,6 +474,9 @@ fn cases() -> Vec<Case> {
         (LENGTH, lengths),
         (READ, reads),
         (SHOW, shows),
+        (LIST, lists),
+        (GATHER, gathers),
+        (STRETCHES, stretches),
     ];
     let mut cases = Vec::new();
     for (operation, states) in all {
@@ -454,7 +509,8 @@ fn compare(case: &Case) {
     (case.operation.library)(&mut one);
     (case.operation.yardstick)(&mut two);
     assert!(one == two, "{}: library and yardstick differ", case.name);
-    assert_eq!((one.answer.code, one.shown.code), (0, 0), "{}", case.name);
+    let codes = (one.answer.code, one.shown.code, one.gathered.code);
+    assert_eq!(codes, (0, 0, 0), "{}", case.name);
     assert!(sound(&one), "{}: the pool left", case.name);
     // All that was free is taken: the pool was full but for exactly that.
     let slips = (0..SLIPS).map(slip_at);

@@ -1,10 +1,10 @@
-//! The fourteen calls as the library has them: each lends its slices and hands back the answer as
-//! it came, a code and a number. [`Pool`](crate::Pool) is what stands on them.
+//! The calls as the library has them: each lends its slices and hands back the answer as it came, a
+//! code and a number. [`Pool`](crate::Pool) and [`gather`](crate::gather) are what stands on them.
 //!
 //! Any bytes may be lent, of any length: the library judges them itself. An empty slice goes over
 //! with a dangling pointer, which is never read.
 
-use crate::ffi::{self, Answer, Shown};
+use crate::ffi::{self, Answer, Gathered, Shown, Stretch};
 
 // In every call below the pointers and lengths are those of live slices that stand apart from each
 // other, because Rust lends no byte twice while one loan may write it; that is all the calls ask.
@@ -202,6 +202,51 @@ pub fn show(pool: &[u8], storage: &[u8], slip: u16, n: u32, scratch: &mut [u8]) 
             n,
             scratch.as_mut_ptr(),
             scratch.len(),
+        )
+    }
+}
+
+/// Writes one record of two numbers for each piece to the front of the list, position in storage
+/// and length, and answers how many records they are.
+pub fn list(pool: &[u8], storage: &[u8], slip: u16, list: &mut [u32]) -> Answer {
+    unsafe {
+        ffi::slp_list(
+            pool.as_ptr(),
+            pool.len(),
+            storage.as_ptr(),
+            storage.len(),
+            slip,
+            list.as_mut_ptr(),
+            list.len(),
+        )
+    }
+}
+
+/// Copies the bytes of the list's records to the front of the output and answers how many they are.
+pub fn gather(storage: &[u8], list: &[u32], output: &mut [u8]) -> Gathered {
+    unsafe {
+        ffi::slp_gather(
+            storage.as_ptr(),
+            storage.len(),
+            list.as_ptr(),
+            list.len(),
+            output.as_mut_ptr(),
+            output.len(),
+        )
+    }
+}
+
+/// As [`list`], into a list of records.
+pub fn stretches(pool: &[u8], storage: &[u8], slip: u16, list: &mut [Stretch]) -> Answer {
+    unsafe {
+        ffi::slp_stretches(
+            pool.as_ptr(),
+            pool.len(),
+            storage.as_ptr(),
+            storage.len(),
+            slip,
+            list.as_mut_ptr(),
+            list.len(),
         )
     }
 }

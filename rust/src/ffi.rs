@@ -3,9 +3,9 @@
 //! # Safety
 //!
 //! Each function asks of its caller that every pointer, with the length behind it, is a live slice
-//! (an empty one may come with any pointer, also null), that no two of them overlap, and that
-//! nobody else writes them, or reads what the call may write, until it is back. Nothing is asked of
-//! the bytes.
+//! (its length in elements; an empty one may come with any pointer, also null), that no two of them
+//! overlap, and that nobody else writes them, or reads what the call may write, until it is back.
+//! Nothing is asked of the bytes and numbers in them.
 
 /// An answer: a code (0 is done) and one number (0 with any other code).
 #[repr(C)]
@@ -13,7 +13,7 @@
 pub struct Answer {
     /// 0, or the code of a [`Refusal`](crate::Refusal).
     pub code: u16,
-    /// What the call answers: a slip, a byte count or 0.
+    /// What the call answers: a slip, a count of bytes or of records, or 0.
     pub number: u32,
 }
 
@@ -31,9 +31,31 @@ pub struct Shown {
     pub start: u32,
 }
 
-// C gives both structs these sizes; another layout here would read answers wrongly.
+/// A record of a wire list: `length` bytes of storage from `position` on.
+#[repr(C)]
+#[derive(Clone, Copy, Debug, Default, PartialEq, Eq, Hash)]
+pub struct Stretch {
+    /// Where it begins in storage.
+    pub position: u32,
+    /// How many bytes it has.
+    pub length: u32,
+}
+
+/// The answer of gather; a list may repeat itself, so the count may pass 32 bits.
+#[repr(C)]
+#[derive(Clone, Copy, Debug, PartialEq, Eq)]
+pub struct Gathered {
+    /// 0, or the code of a [`Refusal`](crate::Refusal).
+    pub code: u16,
+    /// How many bytes were copied.
+    pub number: u64,
+}
+
+// C gives the structs these sizes; another layout here would read answers and lists wrongly.
 const _: () = assert!(core::mem::size_of::<Answer>() == 8);
 const _: () = assert!(core::mem::size_of::<Shown>() == 16);
+const _: () = assert!(core::mem::size_of::<Stretch>() == 8);
+const _: () = assert!(core::mem::size_of::<Gathered>() == 16);
 
 extern "C" {
     /// [`calls::open`](crate::calls::open)
@@ -176,4 +198,36 @@ extern "C" {
         scratch: *mut u8,
         scratch_length: usize,
     ) -> Shown;
+
+    /// [`calls::list`](crate::calls::list)
+    pub fn slp_list(
+        pool: *const u8,
+        pool_length: usize,
+        storage: *const u8,
+        storage_length: usize,
+        slip: u16,
+        list: *mut u32,
+        numbers: usize,
+    ) -> Answer;
+
+    /// [`calls::gather`](crate::calls::gather)
+    pub fn slp_gather(
+        storage: *const u8,
+        storage_length: usize,
+        list: *const u32,
+        numbers: usize,
+        output: *mut u8,
+        output_length: usize,
+    ) -> Gathered;
+
+    /// [`calls::stretches`](crate::calls::stretches)
+    pub fn slp_stretches(
+        pool: *const u8,
+        pool_length: usize,
+        storage: *const u8,
+        storage_length: usize,
+        slip: u16,
+        list: *mut Stretch,
+        records: usize,
+    ) -> Answer;
 }

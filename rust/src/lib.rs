@@ -2,9 +2,10 @@
 //! again while a message still lies in it.
 //!
 //! The caller lends two slices: a pool, which holds the tables, and storage, which holds the
-//! buffers. [`Pool`] makes the fourteen calls on them; a chain is known by its [`Slip`], and a call
-//! that can't be done says why ([`Refusal`]) and changes nothing. [`Picture`] draws what a pool
-//! holds.
+//! buffers. [`Pool`] makes the calls on them; a chain is known by its [`Slip`], and a call that
+//! can't be done says why ([`Refusal`]) and changes nothing. A card that reads storage itself is
+//! given a chain's wire list ([`Pool::list`], [`Pool::stretches`]), and [`gather`] reads one.
+//! [`Picture`] draws what a pool holds.
 //!
 //! ```
 //! use fulcrumnest::{pool_length, storage_length, Pool, Refusal, Shape};
@@ -43,11 +44,13 @@ mod refusal;
 mod shape;
 mod svg;
 mod tables;
+mod wire;
 
 pub use fault::Fault;
-pub use ffi::{Answer, Shown};
+pub use ffi::{Answer, Gathered, Shown, Stretch};
 pub use picture::Picture;
 pub use pool::{Pool, Slip};
 pub use refusal::Refusal;
 pub use shape::{pool_length, storage_length, Shape, BUFFER_LENGTH};
 pub use svg::Svg;
+pub use wire::gather;

@@ -3,7 +3,7 @@
 use std::fmt;
 
 use crate::calls;
-use crate::ffi::Answer;
+use crate::ffi::{Answer, Stretch};
 use crate::picture::Picture;
 use crate::refusal::Refusal;
 use crate::shape::Shape;
@@ -121,6 +121,11 @@ impl<'a> Pool<'a> {
             pieces: word(7),
             slips: word(9),
         }
+    }
+
+    /// Storage as it lies: where the records of a wire list lead.
+    pub fn storage(&self) -> &[u8] {
+        self.storage
     }
 
     /// The pool as a picture, to be printed or drawn.
@@ -412,6 +417,55 @@ impl<'a> Pool<'a> {
         let shown = calls::show(self.pool, self.storage, slip.0, n, scratch);
         shown.result()?;
         Ok(shown.view(self.storage, scratch))
+    }
+
+    /// Writes the chain's wire list to the front of the lent one and hands that front back: one
+    /// record for each piece in chain order, two numbers each, position in storage and length.
+    /// Numbers past it are unchanged; a lone last number is no record.
+    ///
+    /// Refused with [`Slip`](Refusal::Slip) or [`Narrow`](Refusal::Narrow).
+    /// [`gather`](crate::gather) copies the bytes out from such a list.
+    ///
+    /// ```
+    /// # use fulcrumnest::{Pool, Refusal, Shape};
+    /// # let shape = Shape { buffers: 4, pieces: 6, slips: 4 };
+    /// # let (mut pool, mut storage) = ([0; 87], [0; 2048]);
+    /// # let mut pool = Pool::open(&mut pool, &mut storage, shape)?;
+    /// let slip = pool.put(&[7; 600])?;
+    /// let part = pool.cut(slip, 500, 50)?;
+    /// let mut list = [0; 5];
+    /// assert_eq!(pool.list(part, &mut list)?, [500, 12, 512, 38]);
+    /// assert_eq!(pool.list(part, &mut list[..3]), Err(Refusal::Narrow));
+    /// # Ok::<(), Refusal>(())
+    /// ```
+    pub fn list<'l>(&self, slip: Slip, list: &'l mut [u32]) -> Result<&'l [u32], Refusal> {
+        let records = calls::list(self.pool, self.storage, slip.0, list).result()?;
+        Ok(&list[..2 * records as usize])
+    }
+
+    /// The same wire list in records, for a card that wants them so.
+    ///
+    /// Refused with [`Slip`](Refusal::Slip) or [`Narrow`](Refusal::Narrow).
+    ///
+    /// ```
+    /// # use fulcrumnest::{Pool, Refusal, Shape, Stretch};
+    /// # let shape = Shape { buffers: 4, pieces: 6, slips: 4 };
+    /// # let (mut pool, mut storage) = ([0; 87], [0; 2048]);
+    /// # let mut pool = Pool::open(&mut pool, &mut storage, shape)?;
+    /// let slip = pool.put(&[7; 600])?;
+    /// let mut list = [Stretch::default(); 6];
+    /// let records = pool.stretches(slip, &mut list)?;
+    /// assert_eq!(records[0], Stretch { position: 0, length: 512 });
+    /// assert_eq!(records[1..], [Stretch { position: 512, length: 88 }]);
+    /// # Ok::<(), Refusal>(())
+    /// ```
+    pub fn stretches<'l>(
+        &self,
+        slip: Slip,
+        list: &'l mut [Stretch],
+    ) -> Result<&'l [Stretch], Refusal> {
+        let records = calls::stretches(self.pool, self.storage, slip.0, list).result()?;
+        Ok(&list[..records as usize])
     }
 }
 

@@ -3,10 +3,10 @@
 use std::error::Error;
 use std::fmt;
 
-use crate::ffi::{Answer, Shown};
+use crate::ffi::{Answer, Gathered, Shown};
 
-/// Why a call was refused. A refused call has changed nothing: not the pool, not storage, and no
-/// byte of an output or a scratch.
+/// Why a call was refused. A refused call has changed nothing: not the pool, not storage, and
+/// nothing of an output, a scratch or a list.
 ///
 /// Where several apply, the first of this list is given. It is printed with its code, its word and
 /// its meaning:
@@ -23,7 +23,7 @@ use crate::ffi::{Answer, Shown};
 pub enum Refusal {
     /// open: a count outside its range, or a lent length not the one it asks.
     Counts = 1,
-    /// Any other call: the pool isn't sound.
+    /// Any other call that has a pool: the pool isn't sound.
     Torn = 2,
     /// A named slip is S or more (S: how many slips the pool has), or vacant.
     Slip = 3,
@@ -33,7 +33,7 @@ pub enum Refusal {
     Long = 5,
     /// The asked bytes reach past the chain's end; offset and length are added as whole numbers.
     Range = 6,
-    /// The lent output or scratch can't take the bytes to be copied.
+    /// The lent output or scratch can't take the bytes to be copied, or the lent list the records.
     Narrow = 7,
     /// A new slip is wanted and none is vacant.
     Slips = 8,
@@ -41,6 +41,9 @@ pub enum Refusal {
     Pieces = 9,
     /// More new buffers are wanted than free.
     Buffers = 10,
+    /// gather: a record is of no length or leaves storage; position and length are added as whole
+    /// numbers.
+    List = 11,
 }
 
 impl Refusal {
@@ -56,6 +59,7 @@ impl Refusal {
         Refusal::Slips,
         Refusal::Pieces,
         Refusal::Buffers,
+        Refusal::List,
     ];
 
     /// The refusal of this code; none for 0, which is done, and for codes that no call gives.
@@ -88,6 +92,7 @@ impl Refusal {
             Refusal::Slips => "SLIPS",
             Refusal::Pieces => "PIECES",
             Refusal::Buffers => "BUFFERS",
+            Refusal::List => "LIST",
         }
     }
 
@@ -102,10 +107,11 @@ impl Refusal {
             Refusal::Same => "append names one slip twice",
             Refusal::Long => "pullup or show asks more than 512",
             Refusal::Range => "the asked bytes reach past the chain's end, as whole numbers",
-            Refusal::Narrow => "the lent output can't take the bytes to be copied",
+            Refusal::Narrow => "the lent output, scratch or list can't take the bytes or records",
             Refusal::Slips => "a new slip is wanted and none is vacant",
             Refusal::Pieces => "more new pieces wanted than free",
             Refusal::Buffers => "more new buffers wanted than free",
+            Refusal::List => "gather: a record is of no length or leaves storage, as whole numbers",
         }
     }
 }
@@ -119,7 +125,7 @@ impl fmt::Display for Refusal {
 impl Error for Refusal {}
 
 /// The number that comes with code 0, or the refusal.
-fn result(code: u16, number: u32) -> Result<u32, Refusal> {
+fn result<N>(code: u16, number: N) -> Result<N, Refusal> {
     match code {
         0 => Ok(number),
         no => Err(Refusal::from_code(no).unwrap_or_else(|| panic!("{no} is no call's code"))),
@@ -133,6 +139,17 @@ impl Answer {
     ///
     /// Where the code is one that no call gives.
     pub fn result(self) -> Result<u32, Refusal> {
+        result(self.code, self.number)
+    }
+}
+
+impl Gathered {
+    /// The byte count of a done gather, or the refusal.
+    ///
+    /// # Panics
+    ///
+    /// Where the code is one that no call gives.
+    pub fn result(self) -> Result<u64, Refusal> {
         result(self.code, self.number)
     }
 }

@@ -8,9 +8,10 @@ use std::error::Error;
 use common::desk::data;
 use common::model::{Call, Outcome, View, NO_VIEW};
 use common::random::SHAPES;
-use common::sequence::{run_lists, setting};
+use common::sequence::{pools, run_lists, setting};
+use common::wire;
 use fulcrumnest::{
-    pool_length, storage_length, Fault, Picture, Pool, Refusal, Shape, Slip, BUFFER_LENGTH,
+    pool_length, storage_length, Fault, Picture, Pool, Refusal, Shape, Slip, Stretch, BUFFER_LENGTH,
 };
 
 const SHAPE: Shape = Shape {
@@ -400,6 +401,77 @@ fn views_are_handed_back() {
     });
 }
 
+#[test]
+fn list() {
+    with(4, 6, 4, |mut pool| {
+        let slip = pool.put(&data(600)).unwrap();
+        let part = pool.cut(slip, 500, 50).unwrap();
+        let mut numbers = [0x99; 7];
+        let written = pool.list(part, &mut numbers).unwrap();
+        assert_eq!(written, [500, 12, 512, 38]);
+        assert_eq!(numbers[4..], [0x99; 3]);
+        let mut numbers = [0x99; 3];
+        assert_eq!(pool.list(slip, &mut numbers), Err(Refusal::Narrow));
+        assert_eq!(pool.list(Slip(2), &mut numbers), Err(Refusal::Slip));
+        assert_eq!(pool.list(Slip(4), &mut []), Err(Refusal::Slip));
+        assert_eq!(numbers, [0x99; 3]);
+        let empty = pool.put(&[]).unwrap();
+        assert_eq!(pool.list(empty, &mut []).unwrap(), [0; 0]);
+        assert_eq!(pool.list(empty, &mut numbers).unwrap(), [0; 0]);
+    });
+}
+
+#[test]
+fn stretches() {
+    let stretch = |position, length| Stretch { position, length };
+    with(4, 6, 4, |mut pool| {
+        let slip = pool.put(&data(600)).unwrap();
+        let part = pool.cut(slip, 500, 50).unwrap();
+        let old = stretch(7, 9);
+        let mut records = [old; 3];
+        let written = pool.stretches(part, &mut records).unwrap();
+        assert_eq!(written, [stretch(500, 12), stretch(512, 38)]);
+        assert_eq!(records[2], old);
+        let mut records = [old];
+        assert_eq!(pool.stretches(slip, &mut records), Err(Refusal::Narrow));
+        assert_eq!(pool.stretches(Slip(2), &mut records), Err(Refusal::Slip));
+        assert_eq!(records, [old]);
+        let empty = pool.put(&[]).unwrap();
+        assert_eq!(pool.stretches(empty, &mut []).unwrap(), []);
+    });
+}
+
+/// The bytes of a list, by the pool's storage and by the lent memory when the pool is given up.
+#[test]
+fn gather() {
+    let mut memory = Memory::new(SHAPE);
+    let mut pool = memory.open(SHAPE);
+    let slip = pool.put(&data(600)).unwrap();
+    let part = pool.cut(slip, 500, 50).unwrap();
+    let (mut numbers, mut output) = ([0; 8], [0x99; 52]);
+    let list = pool.list(part, &mut numbers).unwrap();
+    let copied = fulcrumnest::gather(pool.storage(), list, &mut output).unwrap();
+    assert_eq!(copied, &data(600)[500..550]);
+    assert_eq!(output[50..], [0x99; 2]);
+    let copied = fulcrumnest::gather(&memory.storage, list, &mut output).unwrap();
+    assert_eq!(copied, &data(600)[500..550]);
+
+    let mut output = [0x99; 9];
+    for (list, refusal) in [
+        (&[0, 10][..], Refusal::Narrow),
+        (&[0, 10, 0, 0], Refusal::Narrow),
+        (&[0, u32::MAX, 0, 1], Refusal::Narrow),
+        (&[0, 0], Refusal::List),
+        (&[0, 1, 2047, 2], Refusal::List),
+        (&[u32::MAX, 1], Refusal::List),
+    ] {
+        let refused = fulcrumnest::gather(&memory.storage, list, &mut output);
+        assert_eq!(refused, Err(refusal), "{list:?}");
+    }
+    assert_eq!(output, [0x99; 9]);
+    assert_eq!(fulcrumnest::gather(&[], &[7], &mut []).unwrap(), b"");
+}
+
 /// A refused call leaves every byte of pool and storage.
 #[test]
 fn refusals_change_nothing() {
@@ -417,6 +489,8 @@ fn refusals_change_nothing() {
     assert_eq!(pool.keep(slip, 601), Err(Refusal::Range));
     assert_eq!(pool.pullup(slip, 513), Err(Refusal::Long));
     assert_eq!(pool.pack(slip), Err(Refusal::Pieces));
+    assert_eq!(pool.list(slip, &mut [0; 3]), Err(Refusal::Narrow));
+    assert_eq!(pool.storage(), before.1);
     assert_eq!((memory.pool, memory.storage), before);
 }
 
@@ -429,10 +503,11 @@ fn texts() {
         "4 SAME: append names one slip twice",
         "5 LONG: pullup or show asks more than 512",
         "6 RANGE: the asked bytes reach past the chain's end, as whole numbers",
-        "7 NARROW: the lent output can't take the bytes to be copied",
+        "7 NARROW: the lent output, scratch or list can't take the bytes or records",
         "8 SLIPS: a new slip is wanted and none is vacant",
         "9 PIECES: more new pieces wanted than free",
         "10 BUFFERS: more new buffers wanted than free",
+        "11 LIST: gather: a record is of no length or leaves storage, as whole numbers",
     ];
     for (refusal, text) in Refusal::ALL.iter().copied().zip(texts) {
         assert_eq!(refusal.to_string(), text);
@@ -443,7 +518,7 @@ fn texts() {
     assert_eq!(Refusal::ALL.len(), texts.len());
     assert!(Refusal::ALL.windows(2).all(|pair| pair[0] < pair[1]));
     assert_eq!(Refusal::from_code(0), None);
-    assert_eq!(Refusal::from_code(11), None);
+    assert_eq!(Refusal::from_code(12), None);
     assert_eq!(Slip(3).to_string(), "slip 3");
     with(4, 6, 4, |pool| {
         let text = "Pool { shape: Shape { buffers: 4, pieces: 6, slips: 4 }, .. }";
@@ -468,8 +543,13 @@ fn errors_pass() -> Result<(), Box<dyn Error>> {
 /// One call by the safe interface on copies of the lent bytes.
 fn step(pool: &[u8], storage: &[u8], call: &Call) -> Outcome {
     let (mut pool, mut storage) = (pool.to_vec(), storage.to_vec());
-    let mut lent = call.lent().to_vec();
-    let answer = answer(&mut pool, &mut storage, &mut lent, call);
+    let (mut lent, mut list) = (call.lent().to_vec(), call.list());
+    let answer = match call {
+        Call::List { .. } | Call::Stretches { .. } | Call::Gather { .. } => {
+            listing(&mut pool, &mut storage, &mut lent, &mut list, call)
+        }
+        _ => answer(&mut pool, &mut storage, &mut lent, call),
+    };
     let (code, (number, view)) = match answer {
         Ok(done) => (0, done),
         Err(refusal) => (refusal.code(), (0, NO_VIEW)),
@@ -481,7 +561,40 @@ fn step(pool: &[u8], storage: &[u8], call: &Call) -> Outcome {
         pool,
         storage,
         lent,
+        list,
     }
+}
+
+/// A call that is lent a list.
+fn listing(
+    pool: &mut [u8],
+    storage: &mut [u8],
+    lent: &mut [u8],
+    list: &mut [u32],
+    call: &Call,
+) -> Result<(u64, View), Refusal> {
+    let number = match call {
+        Call::List { slip, .. } => {
+            let numbers = Pool::attach(pool, storage)?.list(Slip(*slip), list)?.len();
+            assert_eq!(numbers % 2, 0);
+            numbers / 2
+        }
+        Call::Stretches { slip, .. } => {
+            let record = |two: &[u32]| Stretch {
+                position: two[0],
+                length: two[1],
+            };
+            let mut records: Vec<Stretch> = list.chunks(2).map(record).collect();
+            let pool = Pool::attach(pool, storage)?;
+            let written = pool.stretches(Slip(*slip), &mut records).map(<[_]>::len);
+            for (two, record) in list.chunks_mut(2).zip(records) {
+                two.copy_from_slice(&[record.position, record.length]);
+            }
+            written?
+        }
+        _ => fulcrumnest::gather(storage, list, lent)?.len(),
+    };
+    Ok((number as u64, NO_VIEW))
 }
 
 fn answer(
@@ -540,6 +653,9 @@ fn answer(
             let start = (view.as_ptr() as usize - from) as u64;
             return Ok((view.len() as u64, View { in_scratch, start }));
         }
+        Call::List { .. } | Call::Stretches { .. } | Call::Gather { .. } => {
+            unreachable!("made above")
+        }
     };
     Ok((number, NO_VIEW))
 }
@@ -553,4 +669,14 @@ fn random_lists() {
     let seed = setting("FULCRUMNEST_SEED", 2_000_000);
     let tally = run_lists(Some(step), seed, calls, SHAPES);
     assert_eq!(tally.calls, calls);
+}
+
+/// Gathers by the safe interface, and the law that joins list, stretches and gather.
+#[test]
+fn random_gathers() {
+    let calls = setting("FULCRUMNEST_CALLS", 1_000_000) / 40;
+    let seed = setting("FULCRUMNEST_SEED", 2_000_000);
+    wire::all_met(wire::run_gathers(step, seed, calls), calls);
+    let laws = pools(40, 40).map(|(_, mut list)| wire::law(step, &mut list));
+    assert!(laws.map(|times| times[0].min(times[1])).sum::<u64>() > 100);
 }

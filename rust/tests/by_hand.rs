@@ -7,57 +7,106 @@ mod common;
 use common::model::{Call, Outcome, View, NO_VIEW, TRUE};
 use common::random::SHAPES;
 use common::sequence::{run_lists, setting};
+use common::wire;
+use fulcrumnest::{Answer, Shown, Stretch};
+
+/// The records that numbers make, two by two.
+fn records(numbers: &[u32]) -> Vec<Stretch> {
+    let record = |two: &[u32]| Stretch {
+        position: two[0],
+        length: two[1],
+    };
+    numbers.chunks(2).map(record).collect()
+}
+
+/// All that a call is lent, copied, and the view that show answers.
+struct Lent {
+    pool: Vec<u8>,
+    storage: Vec<u8>,
+    lent: Vec<u8>,
+    list: Vec<u32>,
+    view: View,
+}
 
 /// One call by hand; open is the model's. The pool is sound: its list starts from a done open.
 fn step(pool: &[u8], storage: &[u8], call: &Call) -> Outcome {
-    let (mut new, mut bytes, mut lent) = (pool.to_vec(), storage.to_vec(), call.lent().to_vec());
-    let (p, s, l) = (&mut new[..], &mut bytes[..], &mut lent[..]);
-    let mut view = NO_VIEW;
-    // The pool is sound, and storage is of its length.
-    let answer = unsafe {
-        match call {
-            Call::Open { .. } => return TRUE.step(pool, storage, call),
-            Call::Audit => by_hand::audit(p, s),
-            Call::Put { data } => by_hand::put(p, s, data),
-            Call::Free { slip } => by_hand::free(p, s, *slip),
-            Call::Dup { slip } => by_hand::dup(p, s, *slip),
-            Call::Cut {
-                slip,
-                offset,
-                length,
-            } => by_hand::cut(p, s, *slip, *offset, *length),
-            Call::Append { a, b } => by_hand::append(p, s, *a, *b),
-            Call::Drop { slip, n } => by_hand::drop(p, s, *slip, *n),
-            Call::Keep { slip, n } => by_hand::keep(p, s, *slip, *n),
-            Call::Pullup { slip, n } => by_hand::pullup(p, s, *slip, *n),
-            Call::Pack { slip } => by_hand::pack(p, s, *slip),
-            Call::Length { slip } => by_hand::length(p, s, *slip),
-            Call::Read {
-                slip,
-                offset,
-                length,
-                ..
-            } => by_hand::read(p, s, *slip, *offset, *length, l),
-            Call::Show { slip, n, .. } => {
-                let shown = by_hand::show(p, s, *slip, *n, l);
-                view = View {
-                    in_scratch: shown.in_scratch == 1,
-                    start: shown.start as u64,
-                };
-                fulcrumnest::Answer {
-                    code: shown.code,
-                    number: shown.number,
-                }
-            }
+    let mut all = Lent {
+        pool: pool.to_vec(),
+        storage: storage.to_vec(),
+        lent: call.lent().to_vec(),
+        list: call.list(),
+        view: NO_VIEW,
+    };
+    let (code, number) = match call {
+        Call::Open { .. } => return TRUE.step(pool, storage, call),
+        Call::Gather { .. } => {
+            let gathered = by_hand::gather(&all.storage, &all.list, &mut all.lent);
+            (gathered.code, gathered.number)
+        }
+        _ => {
+            // The pool is sound, and storage is of its length.
+            let answer = unsafe { answer(&mut all, call) };
+            (answer.code, answer.number as u64)
         }
     };
     Outcome {
-        code: answer.code,
-        number: answer.number as u64,
-        view,
-        pool: new,
-        storage: bytes,
-        lent,
+        code,
+        number,
+        view: all.view,
+        pool: all.pool,
+        storage: all.storage,
+        lent: all.lent,
+        list: all.list,
+    }
+}
+
+/// A call on a sound pool.
+unsafe fn answer(all: &mut Lent, call: &Call) -> Answer {
+    let (p, s, l) = (&mut all.pool[..], &mut all.storage[..], &mut all.lent[..]);
+    match call {
+        Call::Open { .. } | Call::Gather { .. } => unreachable!("made above"),
+        Call::Audit => by_hand::audit(p, s),
+        Call::Put { data } => by_hand::put(p, s, data),
+        Call::Free { slip } => by_hand::free(p, s, *slip),
+        Call::Dup { slip } => by_hand::dup(p, s, *slip),
+        Call::Cut {
+            slip,
+            offset,
+            length,
+        } => by_hand::cut(p, s, *slip, *offset, *length),
+        Call::Append { a, b } => by_hand::append(p, s, *a, *b),
+        Call::Drop { slip, n } => by_hand::drop(p, s, *slip, *n),
+        Call::Keep { slip, n } => by_hand::keep(p, s, *slip, *n),
+        Call::Pullup { slip, n } => by_hand::pullup(p, s, *slip, *n),
+        Call::Pack { slip } => by_hand::pack(p, s, *slip),
+        Call::Length { slip } => by_hand::length(p, s, *slip),
+        Call::Read {
+            slip,
+            offset,
+            length,
+            ..
+        } => by_hand::read(p, s, *slip, *offset, *length, l),
+        Call::Show { slip, n, .. } => shown(by_hand::show(p, s, *slip, *n, l), &mut all.view),
+        Call::List { slip, .. } => by_hand::list(p, s, *slip, &mut all.list),
+        Call::Stretches { slip, .. } => {
+            let mut written = records(&all.list);
+            let answer = by_hand::stretches(p, s, *slip, &mut written);
+            let numbers = written.iter().flat_map(|r| [r.position, r.length]);
+            all.list = numbers.collect();
+            answer
+        }
+    }
+}
+
+/// The answer of a show, its view apart.
+fn shown(shown: Shown, view: &mut View) -> Answer {
+    *view = View {
+        in_scratch: shown.in_scratch == 1,
+        start: shown.start as u64,
+    };
+    Answer {
+        code: shown.code,
+        number: shown.number,
     }
 }
 
@@ -74,4 +123,12 @@ fn random_lists() {
             assert_eq!(*times == 0, code == 2, "code {code} came {times} times");
         }
     }
+}
+
+/// Gathers from any storage: code, number and every byte.
+#[test]
+fn random_gathers() {
+    let calls = setting("FULCRUMNEST_MODEL_CALLS", 300_000) / 4;
+    let seed = setting("FULCRUMNEST_SEED", 2_000_000);
+    wire::all_met(wire::run_gathers(step, seed, calls), calls);
 }

@@ -1,5 +1,5 @@
-//! All fourteen calls of the library beside the model: the paper's cases, long random lists compared
-//! after every call with the recount, and damaged pools.
+//! All calls of the library beside the model: the paper's cases, long random lists compared after
+//! every call with the recount, and damaged pools.
 #![cfg(fulcrumnest_lib)]
 
 mod common;

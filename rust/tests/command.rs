@@ -164,6 +164,9 @@ read 0 4 11
 show 0 7
 show 0 9
 show 2 0
+list 0
+list 2
+list 3
 dup 0
 cut 0 1 2
 keep 0 8
@@ -190,6 +193,11 @@ show 0 7 -> 7 in storage from 0
 show 0 9 -> 9 in scratch
   0  70 61 79 20 23 20 37 22 5C                       pay # 7\"\\
 show 2 0 -> 0 in storage from 0
+list 0 -> 2
+  0 7
+  512 9
+list 2 -> 0
+list 3 -> 3 SLIP
 dup 0 -> slip 1
 cut 0 1 2 -> slip 3
 keep 0 8 -> done
@@ -219,6 +227,8 @@ fn bad_lines() {
         ("audit 0", "audit takes nothing, 1 given"),
         ("cut 0 500", "cut takes SLIP OFFSET LENGTH, 2 given"),
         ("append 1", "append takes SLIP SLIP, 1 given"),
+        ("list", "list takes SLIP, 0 given"),
+        ("list 0 1", "list takes SLIP, 2 given"),
         ("free x", "free: SLIP 'x' is not a whole number"),
         ("free -1", "free: SLIP '-1' is not a whole number"),
         ("free +1", "free: SLIP '+1' is not a whole number"),
@@ -284,6 +294,8 @@ fn bad_files() {
         &["audit", &file, &none],
         &["draw", &none, &file],
         &["draw", "--svg", &file, &none],
+        &["list", &none, &file, "0"],
+        &["list", &file, &none, "0"],
     ] {
         let left = slp(arguments, b"");
         let start = format!("{none}: can't be read: ");
@@ -303,6 +315,7 @@ fn bad_arguments() {
     let save = "it is 'slp save FILE POOL STORAGE [--draw]'";
     let audit = "it is 'slp audit POOL STORAGE'";
     let draw = "it is 'slp draw POOL STORAGE [--svg]'";
+    let list = "it is 'slp list POOL STORAGE SLIP'";
     for (arguments, what) in [
         (&[][..], "no command; 'slp help' lists them".to_string()),
         (
@@ -326,6 +339,23 @@ fn bad_arguments() {
             &["draw", "a", "b", "--"],
             format!("'--' is no flag here; {draw}"),
         ),
+        (&["list", "a", "b"], format!("too few names; {list}")),
+        (
+            &["list", "a", "b", "1", "2"],
+            format!("too many names; {list}"),
+        ),
+        (
+            &["list", "a", "b", "1", "--draw"],
+            format!("'--draw' is no flag here; {list}"),
+        ),
+        (
+            &["list", "a", "b", "x"],
+            "list: SLIP 'x' is not a whole number".to_string(),
+        ),
+        (
+            &["list", "a", "b", "65536"],
+            "list: SLIP '65536' is above 65535".to_string(),
+        ),
     ] {
         let left = slp(arguments, b"");
         assert_eq!(left.err, format!("slp: {what}\n"));
@@ -339,7 +369,7 @@ fn help() {
     assert_eq!((left.err.as_str(), left.status), ("", 0));
     for name in [
         "pool", "audit", "put", "free", "dup", "cut", "append", "drop", "keep", "pullup", "pack",
-        "length", "read", "show",
+        "length", "read", "show", "list",
     ] {
         let call = |line: &str| line.split_whitespace().next() == Some(name);
         assert!(left.out.lines().any(call), "{name}");
@@ -395,6 +425,49 @@ pieces   5 in use, 1 free
     let left = slp(&["audit", &storage, &pool], b"");
     let torn = "audit -> 2 TORN\n  the pool doesn't begin with the mark SLP\n";
     assert_eq!((left.out.as_str(), left.status), (torn, 1));
+}
+
+/// The wire lists of a saved pool, and what is said where there is none.
+#[test]
+fn list() {
+    let place = directory("list");
+    let (pool, storage) = (named(&place, "pool"), named(&place, "storage"));
+    let calls = b"pool 4 6 4\nput 600\ncut 0 500 50\ndup 0\ncut 0 600 0\nfree 2\n";
+    let left = slp(&["save", "-", &pool, &storage], calls);
+    assert_eq!((left.err.as_str(), left.status), ("", 0));
+    let before = (fs::read(&pool).unwrap(), fs::read(&storage).unwrap());
+    // Slip 3 is empty.
+    for (slip, records) in [
+        ("0", "0 512\n512 88\n"),
+        ("1", "500 12\n512 38\n"),
+        ("3", ""),
+    ] {
+        let left = slp(&["list", &pool, &storage, slip], b"");
+        assert_eq!((left.out.as_str(), left.err.as_str()), (records, ""));
+        assert_eq!(left.status, 0);
+    }
+    // Slip 2 is vacant, slip 4 is none.
+    for slip in ["2", "4", "65535"] {
+        let left = slp(&["list", &pool, &storage, slip], b"");
+        let what = "3 SLIP: a named slip is S or more, or vacant";
+        assert_eq!(left.err, format!("{pool}: list {slip}: {what}\n"));
+        assert_eq!((left.out.as_str(), left.status), ("", 2));
+    }
+    assert_eq!(fs::read(&pool).unwrap(), before.0);
+    assert_eq!(fs::read(&storage).unwrap(), before.1);
+
+    // Torn, with what was found, also where the slip is none.
+    fs::write(&pool, [&before.0[..86], &[7]].concat()).unwrap();
+    for slip in ["0", "9"] {
+        let left = slp(&["list", &pool, &storage, slip], b"");
+        let what = "2 TORN: the pool isn't sound; buffer 3 has count 1792, pieces 0";
+        assert_eq!(left.err, format!("{pool}: list {slip}: {what}\n"));
+        assert_eq!((left.out.as_str(), left.status), ("", 2));
+    }
+    let left = slp(&["list", &storage, &pool, "0"], b"");
+    let what = "2 TORN: the pool isn't sound; the pool doesn't begin with the mark SLP";
+    assert_eq!(left.err, format!("{storage}: list 0: {what}\n"));
+    assert_eq!((left.out.as_str(), left.status), ("", 2));
 }
 
 #[test]

@@ -1,5 +1,5 @@
-//! The library's five looking calls (open, audit, length, read, show) against the model, on sound
-//! pools with all kinds of shared chains and on pools damaged in every way.
+//! The library's looking calls (open, audit, length, read, show, list, stretches) against the
+//! model, on sound pools with all kinds of shared chains and on pools damaged in every way.
 #![cfg(fulcrumnest_lib)]
 
 mod common;
@@ -12,7 +12,7 @@ use common::damage;
 use common::library;
 use common::model::{Call, Slip, Tables, TRUE};
 use common::random::{self, Random, Shape, SHAPES};
-use common::sequence::{setting, List};
+use common::sequence::{pools, setting, List};
 use fulcrumnest::{calls, ffi};
 
 /// Makes calls of library and model on the same bytes and counts them.
@@ -55,36 +55,24 @@ impl Pair {
         wanted.code
     }
 
-    /// Audit, length, read and show, each once.
+    /// Audit, length, read, show, list and stretches, each once.
     fn compare_all(&mut self, from: &str, random: &mut Random, pool: &[u8], storage: &[u8]) {
         let code = self.compare(from, pool, storage, &Call::Audit);
-        // Where the pool is torn the arguments don't matter.
         let tables = Tables::parse(pool, storage).filter(|_| code == 0);
-        let (slip, reading, showing) = match &tables {
+        let (slip, calls) = match &tables {
             Some(tables) => {
                 let slip = held_slip(random, tables);
-                (
-                    slip,
-                    random::read(random, tables, slip, 20),
-                    random::show(random, tables, slip, 20),
-                )
+                (slip, looks(random, tables, slip))
             }
             None => {
                 let slip = random.below(3) as u16;
-                let reading = Call::Read {
-                    slip,
-                    offset: random.below(3) as u32,
-                    length: random.below(9) as u32,
-                    output: random.bytes(8),
-                };
-                let n = random.below(9) as u32;
-                let scratch = random.bytes(8);
-                (slip, reading, Call::Show { slip, n, scratch })
+                (slip, any_looks(random, slip))
             }
         };
         self.compare(from, pool, storage, &Call::Length { slip });
-        self.compare(from, pool, storage, &reading);
-        self.compare(from, pool, storage, &showing);
+        for call in &calls {
+            self.compare(from, pool, storage, call);
+        }
     }
 
     fn print(&self, what: &str) {
@@ -98,6 +86,40 @@ impl Pair {
     }
 }
 
+/// A call of each kind that is lent something to write, for a sound pool.
+fn looks(random: &mut Random, tables: &Tables, slip: u16) -> [Call; 4] {
+    [
+        random::read(random, tables, slip, 20),
+        random::show(random, tables, slip, 20),
+        random::list(random, tables, slip),
+        random::stretches(random, tables, slip),
+    ]
+}
+
+/// The same where the pool is torn, so that no argument matters.
+fn any_looks(random: &mut Random, slip: u16) -> [Call; 4] {
+    let reading = Call::Read {
+        slip,
+        offset: random.below(3) as u32,
+        length: random.below(9) as u32,
+        output: random.bytes(8),
+    };
+    let n = random.below(9) as u32;
+    let scratch = random.bytes(8);
+    let showing = Call::Show { slip, n, scratch };
+    let numbers = random.below(6) as usize;
+    let listing = Call::List {
+        slip,
+        list: random.numbers(numbers),
+    };
+    let records = random.below(4) as usize;
+    let stretches = Call::Stretches {
+        slip,
+        list: vec![[7, 9]; records],
+    };
+    [reading, showing, listing, stretches]
+}
+
 fn held_slip(random: &mut Random, tables: &Tables) -> u16 {
     let held: Vec<u16> = (0..tables.slips.len())
         .filter(|i| tables.slips[*i] != Slip::Vacant)
@@ -107,18 +129,6 @@ fn held_slip(random: &mut Random, tables: &Tables) -> u16 {
         return random.below(tables.slips.len() as u64 + 2) as u16;
     }
     random.pick(&held)
-}
-
-/// Pools that the model's random lists leave: shapes, seeds and lengths of list.
-fn pools(count: u64, calls: u64) -> impl Iterator<Item = (u64, List)> {
-    let first = setting("FULCRUMNEST_SEED", 10_000);
-    let times = setting("FULCRUMNEST_TIMES", 1).max(1);
-    (0..count * times).map(move |i| {
-        let shape = SHAPES.get(i as usize).copied();
-        let mut list = List::start(first + i, shape);
-        list.run(calls + 3 * list.shape.1 as u64);
-        (first + i, list)
-    })
 }
 
 /// Every slip, every border and every kind of output and scratch, on sound pools.
@@ -406,15 +416,20 @@ fn open_of_every_shape() {
     assert!(pair.sound > 200 && pair.torn > 1_000);
 }
 
+/// A pool whose slip 0 is empty, whose slip 1 has 600 bytes, and whose slip 2 is vacant.
+fn empty_and_held() -> List {
+    let mut list = List::start(1, Some((2, 3, 3)));
+    for data in [Vec::new(), vec![5; 600]] {
+        let put = TRUE.step(&list.pool, &list.storage, &Call::Put { data });
+        list.take(put);
+    }
+    list
+}
+
 /// Empty slices with a null pointer are lent like any others.
 #[test]
 fn null_pointers() {
-    let mut list = List::start(1, Some((2, 3, 3)));
-    let empty = TRUE.step(&list.pool, &list.storage, &Call::Put { data: Vec::new() });
-    list.take(empty);
-    let put = Call::Put { data: vec![5; 600] };
-    let held = TRUE.step(&list.pool, &list.storage, &put);
-    list.take(held);
+    let list = empty_and_held();
     let (mut pool, storage) = (list.pool.clone(), list.storage.clone());
     let (at, size) = (pool.as_ptr(), pool.len());
     let (stored, room) = (storage.as_ptr(), storage.len());
@@ -470,6 +485,54 @@ fn null_pointers() {
         assert_eq!((shown.code, shown.number), (2, 0));
     }
     assert_eq!((pool, storage), (list.pool, list.storage));
+}
+
+/// List and stretches with a null pointer for an empty list.
+#[test]
+fn null_pointers_of_lists() {
+    let list = empty_and_held();
+    let (at, size) = (list.pool.as_ptr(), list.pool.len());
+    let (stored, room) = (list.storage.as_ptr(), list.storage.len());
+    let pair = |answer: ffi::Answer| (answer.code, answer.number);
+    // The pointers come from live slices or are null with length 0.
+    unsafe {
+        for (slip, wanted) in [(0, (0, 0)), (1, (7, 0)), (2, (3, 0))] {
+            let answer = ffi::slp_list(at, size, stored, room, slip, null_mut(), 0);
+            assert_eq!(pair(answer), wanted);
+            let answer = ffi::slp_stretches(at, size, stored, room, slip, null_mut(), 0);
+            assert_eq!(pair(answer), wanted);
+        }
+        let answer = ffi::slp_list(null(), 0, null(), 0, 0, null_mut(), 0);
+        assert_eq!(pair(answer), (2, 0));
+        let answer = ffi::slp_stretches(null(), 0, null(), 0, 0, null_mut(), 0);
+        assert_eq!(pair(answer), (2, 0));
+    }
+}
+
+/// Gather with a null pointer for each of its empty slices.
+#[test]
+fn null_pointers_of_gather() {
+    let (storage, list) = ([1u8, 2, 3], [1u32, 2]);
+    let (stored, listed) = (storage.as_ptr(), list.as_ptr());
+    let mut output = [9u8; 4];
+    let out = output.as_mut_ptr();
+    let pair = |gathered: ffi::Gathered| (gathered.code, gathered.number);
+    // The pointers come from live slices or are null with length 0.
+    unsafe {
+        let none = ffi::slp_gather(null(), 0, null(), 0, null_mut(), 0);
+        assert_eq!(pair(none), (0, 0));
+        let unlisted = ffi::slp_gather(stored, 3, null(), 0, out, 4);
+        assert_eq!(pair(unlisted), (0, 0));
+        let unstored = ffi::slp_gather(null(), 0, listed, 2, out, 4);
+        assert_eq!(pair(unstored), (11, 0));
+        let narrow = ffi::slp_gather(stored, 3, listed, 2, null_mut(), 0);
+        assert_eq!(pair(narrow), (7, 0));
+        let lone = ffi::slp_gather(stored, 3, listed, 1, null_mut(), 0);
+        assert_eq!(pair(lone), (0, 0));
+        let done = ffi::slp_gather(stored, 3, listed, 2, out, 4);
+        assert_eq!(pair(done), (0, 2));
+    }
+    assert_eq!(output, [2, 3, 9, 9]);
 }
 
 /// The view that show answers holds the bytes that read gives.

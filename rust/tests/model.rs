@@ -1,4 +1,5 @@
-//! The model against the paper: its rows, edges and readings, and the recount of demand 3.
+//! The model against the paper: its rows, edges and readings, the recount of demand 3, and the law
+//! of the wire list.
 
 mod common;
 
@@ -6,9 +7,10 @@ use std::time::Instant;
 
 use common::desk::by_model;
 use common::model::{Call, Tables, TRUE};
-use common::random::SHAPES;
+use common::random::{self, SHAPES};
 use common::recount::recount;
-use common::sequence::{demand_three, run_lists, setting, List};
+use common::sequence::{demand_three, pools, run_lists, setting, List};
+use common::wire;
 
 paper_cases!(by_model);
 
@@ -102,4 +104,50 @@ fn full_exactly_when() {
         refused.code = code;
         assert!(demand_three(&before, &put(513), &refused).is_err());
     }
+}
+
+/// List and stretches never say full and change nothing, in full pools too.
+#[test]
+fn lists_only_look() {
+    let mut codes = [0; 12];
+    for seed in 0..200 {
+        let mut list = List::start(seed, None);
+        list.run(80);
+        let before = recount(&list.pool).expect("the model's own pool");
+        let tables = Tables::parse(&list.pool, &list.storage).expect("sound");
+        for slip in 0..=list.shape.2 {
+            for call in [
+                random::list(&mut list.random, &tables, slip),
+                random::stretches(&mut list.random, &tables, slip),
+            ] {
+                assert_eq!(before.full(&call), None);
+                let after = TRUE.step(&list.pool, &list.storage, &call);
+                demand_three(&before, &call, &after).expect("demand 3");
+                assert_eq!(after.pool, list.pool);
+                assert_eq!(after.storage, list.storage);
+                codes[after.code as usize] += 1;
+            }
+        }
+    }
+    let met: Vec<usize> = (0..12).filter(|code| codes[*code] > 0).collect();
+    assert_eq!(met, [0, 3, 7]);
+}
+
+/// The law of the wire list on the pools that random lists leave.
+#[test]
+fn law_of_the_wire_list() {
+    let mut times = [0; 2];
+    for (_, mut list) in pools(100, 40) {
+        let more = wire::law(by_model, &mut list);
+        times = [times[0] + more[0], times[1] + more[1]];
+    }
+    assert!(times[0] > 1_000 && times[1] > 1_000, "{times:?}");
+}
+
+/// The random gathers, on which the library is tried, come to every code of gather.
+#[test]
+fn random_gathers() {
+    let calls = setting("FULCRUMNEST_MODEL_CALLS", 300_000) / 4;
+    let seed = setting("FULCRUMNEST_SEED", 1);
+    wire::all_met(wire::run_gathers(by_model, seed, calls), calls);
 }

@@ -4,57 +4,84 @@ mod common;
 
 use common::compare;
 use common::damage;
-use common::model::{Call, Model, Mutation, MUTATIONS, TRUE};
-use common::random::Random;
+use common::model::{Call, Model, Mutation, Outcome, MUTATIONS, TRUE};
+use common::random::{self, Random};
 use common::sequence::List;
 
 /// No mutant may need more calls than this.
 const BOUND: u64 = 60_000;
 
-/// After how many calls the mutant gives itself away, and by which call.
-fn caught_after(mutation: Mutation, first_seed: u64) -> Option<(u64, String)> {
-    let mutant = Model { mutation };
-    let differ = |pool: &[u8], storage: &[u8], call: &Call| {
+/// A mutant beside the rules, and how many calls both have made.
+struct Suspect {
+    mutant: Model,
+    calls: u64,
+}
+
+impl Suspect {
+    /// Makes a call by the rules and by the mutant from the same bytes, so that the first
+    /// difference is the mutant's own.
+    fn differs(&mut self, pool: &[u8], storage: &[u8], call: &Call) -> (bool, Outcome) {
+        self.calls += 1;
         let wanted = TRUE.step(pool, storage, call);
-        let got = mutant.step(pool, storage, call);
+        let got = self.mutant.step(pool, storage, call);
         (compare::outcomes(&wanted, &got).is_some(), wanted)
-    };
-    let mut calls = 0;
-    let mut seed = first_seed;
-    while calls < BOUND {
-        // Both start each call from the same bytes, so the first difference is the mutant's own.
-        let mut list = List::start(seed, None);
+    }
+
+    /// The first call of a random list that tells them apart, and then of random gathers, which
+    /// come in no list, since they are lent no pool.
+    fn by_list(&mut self, list: &mut List) -> Option<String> {
         for _ in 0..200 {
             let call = list.call();
-            calls += 1;
-            let (different, wanted) = differ(&list.pool, &list.storage, &call);
+            let (different, wanted) = self.differs(&list.pool, &list.storage, &call);
             if different {
-                return Some((calls, call.brief()));
+                return Some(call.brief());
             }
             list.take(wanted);
         }
-        // What the audit passes wrongly shows on damaged pools only.
-        if seed % 16 == 0 && list.shape.1 <= 20 {
-            let mut found = None;
-            let mut audit = |what: &str, pool: &[u8], storage: &[u8]| {
-                let (buffers, pieces, slips) = list.shape;
-                let opening = Call::Open {
-                    buffers,
-                    pieces,
-                    slips,
-                };
-                for call in [Call::Audit, opening] {
-                    calls += 1;
-                    if found.is_none() && differ(pool, storage, &call).0 {
-                        found = Some((calls, format!("{}: {what}", call.brief())));
-                    }
-                }
+        let mut gathers = (0..20).map(|_| random::gather(&mut list.random, list.storage.len()));
+        gathers
+            .find(|call| self.differs(&list.pool, &list.storage, call).0)
+            .map(|call| call.brief())
+    }
+
+    /// The first damage of a pool that tells them apart, by audit or open.
+    fn by_damage(&mut self, list: &List, seed: u64) -> Option<String> {
+        let mut found = None;
+        let mut audit = |what: &str, pool: &[u8], storage: &[u8]| {
+            let (buffers, pieces, slips) = list.shape;
+            let opening = Call::Open {
+                buffers,
+                pieces,
+                slips,
             };
-            let mut random = Random::new(seed);
-            damage::every_damage(&mut random, &list.pool, &list.storage, &mut audit);
-            if found.is_some() {
-                return found;
+            for call in [Call::Audit, opening] {
+                if found.is_none() && self.differs(pool, storage, &call).0 {
+                    found = Some(format!("{}: {what}", call.brief()));
+                }
             }
+        };
+        let mut random = Random::new(seed);
+        damage::every_damage(&mut random, &list.pool, &list.storage, &mut audit);
+        found
+    }
+}
+
+/// After how many calls the mutant gives itself away, and by which call.
+fn caught_after(mutation: Mutation, first_seed: u64) -> Option<(u64, String)> {
+    let mut suspect = Suspect {
+        mutant: Model { mutation },
+        calls: 0,
+    };
+    let mut seed = first_seed;
+    while suspect.calls < BOUND {
+        let mut list = List::start(seed, None);
+        let mut found = suspect.by_list(&mut list);
+        // What the audit passes wrongly shows on damaged pools only.
+        if found.is_none() && seed % 16 == 0 && list.shape.1 <= 20 {
+            found = suspect.by_damage(&list, seed);
+        }
+        if let Some(call) = found {
+            return Some((suspect.calls, call));
         }
         seed += 1;
     }

@@ -1,6 +1,7 @@
 /*
  * The calls from C, beside document 01: the ten marked rows of its morning with answers and every byte, its edges, the refusals, the two views
- * of show, and the macros of slp.h. What is lent stands in memory of exactly its length, so that a checker of memory sees one byte too far.
+ * of show, the wire lists and their reader, and the macros of slp.h. What is lent stands in memory of exactly its length, so that a checker of
+ * memory sees one byte too far.
  * C11 and C++17 alike. Exit status 0 only where every check holds.
  */
 #include <slp.h>
@@ -10,12 +11,15 @@
 #include <stdlib.h>
 #include <string.h>
 
-/* C's layout of the two answers, and the macros where a constant is wanted. */
+/* C's layout of the answers and of a record, and the macros where a constant is wanted. */
 static_assert(sizeof(slp_answer) == 8 && offsetof(slp_answer, number) == 4, "slp_answer");
 static_assert(sizeof(slp_shown) == 16 && offsetof(slp_shown, in_scratch) == 8 && offsetof(slp_shown, start) == 12, "slp_shown");
+static_assert(sizeof(slp_gathered) == 16 && offsetof(slp_gathered, number) == 8 && sizeof(((slp_gathered *)0)->number) == 8, "slp_gathered");
+static_assert(sizeof(slp_stretch) == 8 && offsetof(slp_stretch, position) == 0 && offsetof(slp_stretch, length) == 4, "slp_stretch");
 static_assert(SLP_POOL_LENGTH(4, 6, 4) == 87 && SLP_STORAGE_LENGTH(4) == 2048, "lengths");
 static_assert(SLP_DONE == 0 && SLP_COUNTS == 1 && SLP_TORN == 2 && SLP_SLIP == 3 && SLP_SAME == 4 && SLP_LONG == 5, "codes 0 to 5");
-static_assert(SLP_RANGE == 6 && SLP_NARROW == 7 && SLP_SLIPS == 8 && SLP_PIECES == 9 && SLP_BUFFERS == 10, "codes 6 to 10");
+static_assert(SLP_RANGE == 6 && SLP_NARROW == 7 && SLP_SLIPS == 8 && SLP_PIECES == 9 && SLP_BUFFERS == 10 && SLP_LIST == 11,
+              "codes 6 to 11");
 #if SLP_POOL_LENGTH(SLP_MOST_BUFFERS, SLP_MOST_PIECES, SLP_MOST_SLIPS) != 2955 || SLP_STORAGE_LENGTH(SLP_MOST_BUFFERS) != 65536
 #error "the lengths of the largest pool"
 #endif
@@ -64,6 +68,9 @@ typedef struct {
     uint8_t *output;
 } box;
 #define LENT(b) (b).pool, (b).pool_length, (b).storage, (b).storage_length
+/* The output as a lent list, of 16 numbers or 8 records. */
+#define NUMBERS(b) ((uint32_t *)(void *)(b).output)
+#define RECORDS(b) ((slp_stretch *)(void *)(b).output)
 
 /* A box for these counts, opened over old bytes; its storage and output hold old bytes still. */
 static box fresh(uint16_t buffers, uint16_t pieces, uint16_t slips)
@@ -130,6 +137,16 @@ static slp_answer refused_show(slp_shown v)
     return a;
 }
 
+/* The code of a gather, whose number is 0 with a no. */
+static slp_answer refused_gather(slp_gathered g)
+{
+    slp_answer a;
+    CHECK(g.number == 0);
+    a.code = g.code;
+    a.number = 0;
+    return a;
+}
+
 /* The call is done and answers the number. */
 static void check_done(slp_answer a, uint32_t number, int line, const char *call)
 {
@@ -157,6 +174,30 @@ static int reads(box b, uint16_t slip, uint32_t n, uint32_t from)
         && memcmp(out, data + from, n) == 0;
     free(out);
     free(data);
+    return as_wanted;
+}
+
+/* Whether memory is the wanted numbers, then old ones. */
+static int listed(const void *list, const uint32_t *wanted, size_t numbers, size_t old)
+{
+    const uint8_t *bytes = (const uint8_t *)list;
+    for (size_t i = 4 * numbers; i < 4 * (numbers + old); i++) {
+        if (bytes[i] != OLD) return 0;
+    }
+    return memcmp(bytes, wanted, 4 * numbers) == 0;
+}
+
+/* Whether a slip's wire list is these records, in numbers and in records, and what is lent past them stays as it is. */
+static int lists(box b, uint16_t slip, size_t records, const uint32_t *wanted)
+{
+    uint32_t *list = (uint32_t *)(void *)lend(4 * (2 * records + 1), OLD);
+    slp_stretch *stretches = (slp_stretch *)(void *)lend(8 * (records + 1), OLD);
+    slp_answer flat = slp_list(LENT(b), slip, list, 2 * records + 1);
+    slp_answer whole = slp_stretches(LENT(b), slip, stretches, records + 1);
+    int as_wanted = flat.code == SLP_DONE && flat.number == records && listed(list, wanted, 2 * records, 1)
+        && whole.code == SLP_DONE && whole.number == records && listed(stretches, wanted, 2 * records, 2);
+    free(list);
+    free(stretches);
     return as_wanted;
 }
 
@@ -294,6 +335,110 @@ static void morning(void)
     free(storage);
 }
 
+/* The wire lists of the morning's slips, row by row: position 512 * buffer + offset, then length. */
+static void morning_lists(void)
+{
+    static const uint32_t whole[4] = {0, 512, 512, 88}, part[4] = {500, 12, 512, 38}, rest[2] = {520, 80};
+    static const uint32_t joined[6] = {500, 12, 512, 38, 520, 80}, kept[4] = {500, 12, 512, 28};
+    static const uint32_t pulled[4] = {1024, 20, 520, 20}, packed[2] = {0, 40};
+    box b = fresh(4, 6, 4);
+    for (int row = 1; row <= 10; row++) {
+        row_call(row, b);
+        box before = copy_of(b);
+        if (row <= 3) CHECK(lists(b, 0, 2, whole));
+        if (row >= 2 && row <= 5) CHECK(lists(b, 1, 2, part));
+        if (row == 3 || row == 4) CHECK(lists(b, 2, 2, whole));
+        if (row == 5) CHECK(lists(b, 2, 1, rest));
+        if (row == 6) CHECK(lists(b, 1, 3, joined));
+        if (row == 7) CHECK(lists(b, 1, 2, kept));
+        if (row == 8) CHECK(lists(b, 1, 2, pulled));
+        if (row == 9) CHECK(lists(b, 1, 1, packed));
+        CHECK(same(b, before));
+        give_back(before);
+    }
+    give_back(b);
+}
+
+/* Lists too short, of a slip that is none, and of an empty chain; 3 comes before 7. */
+static void edges_of_lists(void)
+{
+    static const uint32_t whole[4] = {0, 512, 512, 88};
+    box b = fresh(4, 6, 4);
+    put(b, 600);
+    put(b, 0);
+    for (size_t n = 0; n < 4; n++) REFUSES(SLP_NARROW, b, slp_list(LENT(b), 0, NUMBERS(b), n));
+    for (size_t n = 0; n < 2; n++) REFUSES(SLP_NARROW, b, slp_stretches(LENT(b), 0, RECORDS(b), n));
+    REFUSES(SLP_NARROW, b, slp_list(LENT(b), 0, NULL, 0));
+    REFUSES(SLP_NARROW, b, slp_stretches(LENT(b), 0, NULL, 0));
+    REFUSES(SLP_SLIP, b, slp_list(LENT(b), 2, NULL, 0));
+    REFUSES(SLP_SLIP, b, slp_stretches(LENT(b), 4, NULL, 0));
+    for (size_t n = 0; n < 3; n++) IDLE(b, slp_list(LENT(b), 1, NUMBERS(b), n));
+    for (size_t n = 0; n < 3; n++) IDLE(b, slp_stretches(LENT(b), 1, RECORDS(b), n));
+    IDLE(b, slp_list(LENT(b), 1, NULL, 0));
+    IDLE(b, slp_stretches(LENT(b), 1, NULL, 0));
+    ANSWERS(2, slp_list(LENT(b), 0, NUMBERS(b), 4));
+    CHECK(listed(b.output, whole, 4, 12));
+    memset(b.output, OLD, OUTPUT);
+    ANSWERS(2, slp_stretches(LENT(b), 0, RECORDS(b), 2));
+    CHECK(listed(b.output, whole, 4, 12) && RECORDS(b)[1].position == 512 && RECORDS(b)[1].length == 88);
+    give_back(b);
+}
+
+/* A gather from the box's storage into its output. */
+static slp_gathered gather(box b, const uint32_t *list, size_t numbers, size_t output)
+{
+    return slp_gather(b.storage, b.storage_length, list, numbers, b.output, output);
+}
+
+/* What gather copies: the morning's bytes, records that repeat, no record, and a lone last number, which is none. */
+static void gathers(void)
+{
+    static const uint32_t part[5] = {500, 12, 512, 38, 7}, twice[6] = {3, 2, 2, 3, 3, 2}, last[2] = {2047, 1};
+    static const uint8_t bytes[7] = {3, 4, 2, 3, 4, 3, 4};
+    uint8_t *data = morning_data(600);
+    box b = fresh(4, 6, 4);
+    put(b, 600);
+    slp_gathered g = gather(b, part, 4, 50);
+    CHECK(g.code == SLP_DONE && g.number == 50 && memcmp(b.output, data + 500, 50) == 0 && b.output[50] == OLD);
+    memset(b.output, OLD, OUTPUT);
+    g = gather(b, part, 5, OUTPUT);
+    CHECK(g.code == SLP_DONE && g.number == 50 && memcmp(b.output, data + 500, 50) == 0 && b.output[50] == OLD);
+    g = gather(b, twice, 6, 8);
+    CHECK(g.code == SLP_DONE && g.number == 7 && memcmp(b.output, bytes, 7) == 0 && b.output[7] == data[507]);
+    g = gather(b, last, 2, 1);
+    CHECK(g.code == SLP_DONE && g.number == 1 && b.output[0] == OLD);
+    IDLE(b, refused_gather(gather(b, NULL, 0, OUTPUT)));
+    IDLE(b, refused_gather(gather(b, part, 1, 0)));
+    IDLE(b, refused_gather(slp_gather(NULL, 0, NULL, 0, NULL, 0)));
+    IDLE(b, refused_gather(slp_gather(NULL, 0, part, 1, NULL, 0)));
+    free(data);
+    give_back(b);
+}
+
+/* Outputs too short for the lengths' sum, as a whole number, and records of no length or past storage; 7 comes before 11. */
+static void refusals_of_gathers(void)
+{
+    const uint32_t most = UINT32_MAX;
+    const uint32_t short_by_one[4] = {500, 12, 512, 38}, none[4] = {0, 1, 9, 0}, past[4] = {0, 1, 2047, 2}, after_end[2] = {2048, 1};
+    const uint32_t round[2] = {most, 1}, rounds[4] = {most - 9, 20, 0, 1}, halves[4] = {0, 1u << 31, 0, 1u << 31};
+    const uint32_t sum[6] = {0, most, 0, 1, 0, 5}, both[4] = {0, 0, 0, OUTPUT + 1};
+    box b = fresh(4, 6, 4);
+    REFUSES(SLP_NARROW, b, refused_gather(gather(b, short_by_one, 4, 49)));
+    REFUSES(SLP_NARROW, b, refused_gather(gather(b, short_by_one, 4, 0)));
+    REFUSES(SLP_NARROW, b, refused_gather(slp_gather(b.storage, b.storage_length, short_by_one, 4, NULL, 0)));
+    REFUSES(SLP_NARROW, b, refused_gather(gather(b, halves, 4, OUTPUT)));
+    REFUSES(SLP_NARROW, b, refused_gather(gather(b, sum, 6, OUTPUT)));
+    REFUSES(SLP_NARROW, b, refused_gather(gather(b, both, 4, OUTPUT)));
+    REFUSES(SLP_LIST, b, refused_gather(gather(b, both, 2, OUTPUT)));
+    REFUSES(SLP_LIST, b, refused_gather(gather(b, none, 4, OUTPUT)));
+    REFUSES(SLP_LIST, b, refused_gather(gather(b, past, 4, OUTPUT)));
+    REFUSES(SLP_LIST, b, refused_gather(gather(b, after_end, 2, OUTPUT)));
+    REFUSES(SLP_LIST, b, refused_gather(gather(b, round, 2, OUTPUT)));
+    REFUSES(SLP_LIST, b, refused_gather(gather(b, rounds, 4, OUTPUT)));
+    REFUSES(SLP_LIST, b, refused_gather(slp_gather(NULL, 0, none, 2, b.output, OUTPUT)));
+    give_back(b);
+}
+
 /* The edges of put: full buffers, and one byte more than there is room for. */
 static void edges_of_put(void)
 {
@@ -360,6 +505,8 @@ static void refusals_of_slips(void)
         REFUSES(SLP_SLIP, b, slp_length(LENT(b), bad[i]));
         REFUSES(SLP_SLIP, b, slp_read(LENT(b), bad[i], 0, 1, b.output, OUTPUT));
         REFUSES(SLP_SLIP, b, refused_show(slp_show(LENT(b), bad[i], 513, b.output, OUTPUT)));
+        REFUSES(SLP_SLIP, b, slp_list(LENT(b), bad[i], NUMBERS(b), OUTPUT / 4));
+        REFUSES(SLP_SLIP, b, slp_stretches(LENT(b), bad[i], RECORDS(b), OUTPUT / 8));
     }
     give_back(b);
 }
@@ -444,6 +591,10 @@ static void refuses_torn(box b)
     REFUSES(SLP_TORN, b, slp_length(LENT(b), 0));
     REFUSES(SLP_TORN, b, slp_read(LENT(b), 0, 0, 1, b.output, OUTPUT));
     REFUSES(SLP_TORN, b, refused_show(slp_show(LENT(b), 0, 1, b.output, OUTPUT)));
+    REFUSES(SLP_TORN, b, slp_list(LENT(b), 0, NUMBERS(b), OUTPUT / 4));
+    REFUSES(SLP_TORN, b, slp_list(LENT(b), 9, NULL, 0));
+    REFUSES(SLP_TORN, b, slp_stretches(LENT(b), 0, RECORDS(b), OUTPUT / 8));
+    REFUSES(SLP_TORN, b, slp_stretches(LENT(b), 9, NULL, 0));
 }
 
 /* Pools torn in mark, version, a count, a slip, a buffer's count, and in either length. */
@@ -594,6 +745,10 @@ static void largest(void)
 int main(void)
 {
     morning();
+    morning_lists();
+    edges_of_lists();
+    gathers();
+    refusals_of_gathers();
     edges_of_put();
     edges_of_others();
     refusals_of_slips();

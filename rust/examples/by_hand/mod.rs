@@ -1,12 +1,12 @@
 //! The operations written by hand in ordinary Rust over the same bytes: the yardstick of the figures.
 //!
-//! Each but the audit trusts that the pool is sound, and audits nothing. It judges its own codes in their order, takes nothing
+//! Each but the audit and gather trusts that the pool is sound, and audits nothing. It judges its own codes in their order, takes nothing
 //! before every refusal is ruled out, and loads and stores without bounds checks. A link is 0 for none, 1 + d for
 //! piece d.
 
 use std::ptr;
 
-use fulcrumnest::{Answer, Shown};
+use fulcrumnest::{Answer, Gathered, Shown, Stretch};
 
 /// Bytes of one buffer.
 const SIZE: usize = 512;
@@ -20,6 +20,7 @@ const NARROW: u16 = 7;
 const SLIPS: u16 = 8;
 const PIECES: u16 = 9;
 const BUFFERS: u16 = 10;
+const LIST: u16 = 11;
 
 /// Where a piece's numbers stand behind its count.
 const BUFFER: usize = 2;
@@ -877,4 +878,94 @@ pub unsafe fn show(pool: &[u8], storage: &[u8], slip: u16, n: u32, scratch: &mut
     let from = Place::start(head);
     t.gather(pool, storage.as_ptr(), from, n, scratch.as_mut_ptr());
     shown(0, n, true, 0)
+}
+
+/// Writes a record for each piece of the slip's chain, position and length, where there is room for all of them.
+#[inline(always)]
+unsafe fn write_records(
+    pool: &[u8],
+    slip: u16,
+    room: usize,
+    mut write: impl FnMut(usize, u32, u32),
+) -> Answer {
+    let t = Tables::of(pool);
+    let Some(head) = t.held(pool, slip) else {
+        return refused(SLIP);
+    };
+    let (mut link, mut pieces) = (head, 0);
+    while link != 0 {
+        pieces += 1;
+        link = get16(pool, t.piece(link - 1) + NEXT);
+    }
+    if room < pieces {
+        return refused(NARROW);
+    }
+    link = head;
+    for i in 0..pieces {
+        let at = t.piece(link - 1);
+        let position = SIZE * get16(pool, at + BUFFER) + get16(pool, at + OFFSET);
+        write(i, position as u32, get16(pool, at + LENGTH) as u32);
+        link = get16(pool, at + NEXT);
+    }
+    done(pieces)
+}
+
+/// list: the chain's records, two numbers each, to the front of the list.
+///
+/// # Safety
+/// As for put.
+#[inline(never)]
+pub unsafe fn list(pool: &[u8], _storage: &[u8], slip: u16, list: &mut [u32]) -> Answer {
+    let to = list.as_mut_ptr();
+    write_records(pool, slip, list.len() / 2, |i, position, length| {
+        *to.add(2 * i) = position;
+        *to.add(2 * i + 1) = length;
+    })
+}
+
+/// stretches: the chain's records to the front of the list.
+///
+/// # Safety
+/// As for put.
+#[inline(never)]
+pub unsafe fn stretches(pool: &[u8], _storage: &[u8], slip: u16, list: &mut [Stretch]) -> Answer {
+    let to = list.as_mut_ptr();
+    write_records(pool, slip, list.len(), |i, position, length| {
+        *to.add(i) = Stretch { position, length };
+    })
+}
+
+/// gather: the bytes of the list's records to the front of the output, for any bytes and numbers.
+#[inline(never)]
+pub fn gather(storage: &[u8], list: &[u32], output: &mut [u8]) -> Gathered {
+    let records = list.chunks_exact(2).map(|r| (r[0] as usize, r[1] as usize));
+    let (mut left, mut bad) = (output.len(), false);
+    for (position, length) in records.clone() {
+        if left < length {
+            return Gathered {
+                code: NARROW,
+                number: 0,
+            };
+        }
+        left -= length;
+        bad |= length == 0 || storage.len() < position + length;
+    }
+    if bad {
+        return Gathered {
+            code: LIST,
+            number: 0,
+        };
+    }
+    let mut to = output.as_mut_ptr();
+    for (position, length) in records {
+        // Every record lies in storage, and the output takes them all.
+        unsafe {
+            ptr::copy_nonoverlapping(storage.as_ptr().add(position), to, length);
+            to = to.add(length);
+        }
+    }
+    Gathered {
+        code: 0,
+        number: (output.len() - left) as u64,
+    }
 }

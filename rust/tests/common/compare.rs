@@ -33,6 +33,21 @@ pub fn differences(name: &str, wanted: &[u8], got: &[u8]) -> String {
     text
 }
 
+/// The places in which two lists differ, at most a dozen of them.
+fn number_differences(wanted: &[u32], got: &[u32]) -> String {
+    if wanted == got {
+        return String::new();
+    }
+    let (most, least) = (wanted.len().max(got.len()), wanted.len().min(got.len()));
+    let mut text = format!("list: {} numbers wanted, {} got\n", wanted.len(), got.len());
+    let differ = |i: &usize| *i >= least || wanted[*i] != got[*i];
+    for i in (0..most).filter(differ).take(12) {
+        let (wanted, got) = (wanted.get(i), got.get(i));
+        text += &format!("  {i:6} wanted {wanted:?}, got {got:?}\n");
+    }
+    text
+}
+
 /// The whole of a slice in rows of 16, for a failing case to be set up again.
 pub fn dump(name: &str, bytes: &[u8]) -> String {
     let mut text = format!("{name}: {} bytes\n", bytes.len());
@@ -58,5 +73,6 @@ pub fn outcomes(wanted: &Outcome, got: &Outcome) -> Option<String> {
     text += &differences("pool", &wanted.pool, &got.pool);
     text += &differences("storage", &wanted.storage, &got.storage);
     text += &differences("output or scratch", &wanted.lent, &got.lent);
+    text += &number_differences(&wanted.list, &got.list);
     Some(text)
 }

@@ -68,10 +68,10 @@ impl Desk {
         outcome
     }
 
-    /// The call is refused with the code: number 0, no view, and not one lent byte changes.
+    /// The call is refused with the code: number 0, no view, and nothing lent changes.
     pub fn refused(&mut self, call: Call, code: u16) {
         let (pool, storage) = (self.pool.clone(), self.storage.clone());
-        let lent = call.lent().to_vec();
+        let (lent, list) = (call.lent().to_vec(), call.list());
         let brief = call.brief();
         let outcome = self.call(call);
         assert_eq!((outcome.code, outcome.number), (code, 0), "{brief}");
@@ -79,6 +79,7 @@ impl Desk {
         assert_eq!(outcome.pool, pool, "{brief}");
         assert_eq!(outcome.storage, storage, "{brief}");
         assert_eq!(outcome.lent, lent, "{brief}");
+        assert_eq!(outcome.list, list, "{brief}");
     }
 
     pub fn put(&mut self, n: usize, slip: u64) {
@@ -134,6 +135,19 @@ impl Desk {
         let outcome = self.done_unchanged(call, bytes.len() as u64);
         output[..bytes.len()].copy_from_slice(bytes);
         assert_eq!(outcome.lent, output, "bytes of slip {slip}");
+    }
+
+    /// The slip's wire list is these numbers, in numbers and in records, and what is lent past them
+    /// is unchanged.
+    pub fn lists(&mut self, slip: u16, numbers: &[u32]) {
+        let records = numbers.len() / 2;
+        for call in [list(slip, numbers.len() + 3), stretches(slip, records + 2)] {
+            let brief = call.brief();
+            let mut wanted = call.list();
+            wanted[..numbers.len()].copy_from_slice(numbers);
+            let outcome = self.done_unchanged(call, records as u64);
+            assert_eq!(outcome.list, wanted, "{brief}");
+        }
     }
 
     /// The pool is exactly these tables: slips, pieces as (count, buffer, offset, length, next),
@@ -204,5 +218,32 @@ pub fn show(slip: u16, n: u32, scratch: usize) -> Call {
         slip,
         n,
         scratch: vec![0x99; scratch],
+    }
+}
+
+/// What stands in a lent list before the call.
+pub const OLD: u32 = 0x9999_9999;
+
+/// A list into so many lent numbers.
+pub fn list(slip: u16, numbers: usize) -> Call {
+    Call::List {
+        slip,
+        list: vec![OLD; numbers],
+    }
+}
+
+/// The same into so many lent records.
+pub fn stretches(slip: u16, records: usize) -> Call {
+    Call::Stretches {
+        slip,
+        list: vec![[OLD; 2]; records],
+    }
+}
+
+/// A gather of this list into so many lent bytes.
+pub fn gather(list: &[u32], output: usize) -> Call {
+    Call::Gather {
+        list: list.to_vec(),
+        output: vec![0x99; output],
     }
 }

@@ -1,52 +1,85 @@
-//! The library as an engine: each call on copies of the lent bytes, with guards on both sides.
+//! The library as an engine: each call on copies of what is lent, with guards on both sides.
 
+use std::mem::align_of;
 use std::sync::atomic::{AtomicUsize, Ordering};
 
-use fulcrumnest::{calls, Answer, Shown};
+use fulcrumnest::{calls, Answer, Shown, Stretch};
 
 use super::model::{Call, Outcome, View, NO_VIEW};
 
-/// Lent bytes between guards, at every alignment in turn.
-struct Lent {
-    bytes: Vec<u8>,
+/// Lent bytes or numbers between guards, at every alignment that their type allows in turn.
+struct Lent<T> {
+    all: Vec<T>,
     start: usize,
     length: usize,
 }
 
 const GUARD: usize = 32;
 
-fn guard(position: usize) -> u8 {
-    0xA5 ^ position as u8
+/// What stands around lent elements, different from place to place.
+trait Guard: Copy + PartialEq {
+    fn guard(position: usize) -> Self;
 }
 
-impl Lent {
-    fn new(content: &[u8], lead: usize) -> Lent {
+impl Guard for u8 {
+    fn guard(position: usize) -> u8 {
+        0xA5 ^ position as u8
+    }
+}
+
+impl Guard for u32 {
+    fn guard(position: usize) -> u32 {
+        0xA5A5_A5A5 ^ position as u32
+    }
+}
+
+impl<T: Guard> Lent<T> {
+    fn new(content: &[T], lead: usize) -> Lent<T> {
         let start = GUARD + lead % 16;
-        let mut bytes: Vec<u8> = Vec::with_capacity(start + content.len() + GUARD);
-        bytes.extend((0..start).map(guard));
-        bytes.extend(content);
-        bytes.extend((start + content.len()..start + content.len() + GUARD).map(guard));
+        let end = start + content.len();
+        let mut all: Vec<T> = Vec::with_capacity(end + GUARD);
+        all.extend((0..start).map(T::guard));
+        all.extend(content);
+        all.extend((end..end + GUARD).map(T::guard));
         Lent {
-            bytes,
+            all,
             start,
             length: content.len(),
         }
     }
 
-    fn lend(&mut self) -> &mut [u8] {
-        &mut self.bytes[self.start..self.start + self.length]
+    fn lend(&mut self) -> &mut [T] {
+        &mut self.all[self.start..self.start + self.length]
     }
 
-    /// The content; where a byte around it has changed, all of it, which no comparison takes.
-    fn take(mut self) -> Vec<u8> {
+    /// The content; where something around it has changed, all of it, which no comparison takes.
+    fn take(mut self) -> Vec<T> {
         let end = self.start + self.length;
-        let mut around = (0..self.start).chain(end..self.bytes.len());
-        if around.all(|position| self.bytes[position] == guard(position)) {
-            self.bytes.truncate(end);
-            self.bytes.drain(..self.start);
+        let mut around = (0..self.start).chain(end..self.all.len());
+        if around.all(|position| self.all[position] == T::guard(position)) {
+            self.all.truncate(end);
+            self.all.drain(..self.start);
         }
-        self.bytes
+        self.all
     }
+}
+
+// A record is aligned as a number is.
+const _: () = assert!(align_of::<Stretch>() == align_of::<u32>());
+
+/// Numbers, two by two, as records.
+fn records(numbers: &mut [u32]) -> &mut [Stretch] {
+    let length = numbers.len() / 2;
+    // The records lie inside the numbers, and any numbers are a record.
+    unsafe { std::slice::from_raw_parts_mut(numbers.as_mut_ptr().cast(), length) }
+}
+
+/// All that a call may be lent.
+struct All<'a> {
+    pool: &'a mut [u8],
+    storage: &'a mut [u8],
+    lent: &'a mut [u8],
+    list: &'a mut [u32],
 }
 
 /// One call of the library on any bytes.
@@ -56,19 +89,53 @@ pub fn step(pool: &[u8], storage: &[u8], call: &Call) -> Outcome {
     let mut pool = Lent::new(pool, turn);
     let mut storage = Lent::new(storage, turn / 3);
     let mut lent = Lent::new(call.lent(), turn / 5);
-    let (answer, view) = answer(pool.lend(), storage.lend(), lent.lend(), call);
+    let mut list = Lent::new(&call.list(), turn / 7);
+    let all = All {
+        pool: pool.lend(),
+        storage: storage.lend(),
+        lent: lent.lend(),
+        list: list.lend(),
+    };
+    let (code, number, view) = answer(all, call);
     Outcome {
-        code: answer.code,
-        number: answer.number as u64,
+        code,
+        number,
         view,
         pool: pool.take(),
         storage: storage.take(),
         lent: lent.take(),
+        list: list.take(),
     }
 }
 
-fn answer(pool: &mut [u8], storage: &mut [u8], lent: &mut [u8], call: &Call) -> (Answer, View) {
+/// Code, number and view of a call.
+fn answer(all: All<'_>, call: &Call) -> (u16, u64, View) {
     let answer = match call {
+        Call::Read {
+            slip,
+            offset,
+            length,
+            ..
+        } => calls::read(all.pool, all.storage, *slip, *offset, *length, all.lent),
+        Call::Show { slip, n, .. } => {
+            return shown(calls::show(all.pool, all.storage, *slip, *n, all.lent))
+        }
+        Call::List { slip, .. } => calls::list(all.pool, all.storage, *slip, all.list),
+        Call::Gather { .. } => {
+            let gathered = calls::gather(all.storage, all.list, all.lent);
+            return (gathered.code, gathered.number, NO_VIEW);
+        }
+        Call::Stretches { slip, .. } => {
+            calls::stretches(all.pool, all.storage, *slip, records(all.list))
+        }
+        _ => plain(all.pool, all.storage, call),
+    };
+    (answer.code, answer.number as u64, NO_VIEW)
+}
+
+/// A call that is lent no more than pool, storage and data.
+fn plain(pool: &mut [u8], storage: &mut [u8], call: &Call) -> Answer {
+    match call {
         Call::Open {
             buffers,
             pieces,
@@ -89,26 +156,16 @@ fn answer(pool: &mut [u8], storage: &mut [u8], lent: &mut [u8], call: &Call) -> 
         Call::Pullup { slip, n } => calls::pullup(pool, storage, *slip, *n),
         Call::Pack { slip } => calls::pack(pool, storage, *slip),
         Call::Length { slip } => calls::length(pool, storage, *slip),
-        Call::Read {
-            slip,
-            offset,
-            length,
-            ..
-        } => calls::read(pool, storage, *slip, *offset, *length, lent),
-        Call::Show { slip, n, .. } => return shown(calls::show(pool, storage, *slip, *n, lent)),
-    };
-    (answer, NO_VIEW)
+        Call::Read { .. } | Call::Show { .. } | Call::List { .. } => unreachable!("made above"),
+        Call::Gather { .. } | Call::Stretches { .. } => unreachable!("made above"),
+    }
 }
 
-fn shown(shown: Shown) -> (Answer, View) {
+fn shown(shown: Shown) -> (u16, u64, View) {
     assert!(shown.in_scratch <= 1, "in_scratch is {}", shown.in_scratch);
-    let answer = Answer {
-        code: shown.code,
-        number: shown.number,
-    };
     let view = View {
         in_scratch: shown.in_scratch == 1,
         start: shown.start as u64,
     };
-    (answer, view)
+    (shown.code, shown.number as u64, view)
 }

@@ -16,4 +16,5 @@ pub mod random;
 pub mod recount;
 pub mod scenarios;
 pub mod sequence;
+pub mod wire;
 pub mod xml;

@@ -1,4 +1,5 @@
-//! The model: document 01's rules, done plainly on tables parsed from the lent bytes.
+//! The model: document 01's rules and the wire list of document 02, done plainly on tables parsed
+//! from the lent bytes.
 //!
 //! A chain is a list of piece numbers, "own" is a length of its front, each call first plans the
 //! pieces that it wants and only then builds them. Nothing here is meant to be fast.
@@ -19,6 +20,7 @@ pub const NARROW: u16 = 7;
 pub const SLIPS: u16 = 8;
 pub const PIECES: u16 = 9;
 pub const BUFFERS: u16 = 10;
+pub const LIST: u16 = 11;
 
 /// One call with all that it is lent besides pool and storage.
 #[derive(Clone, Debug, PartialEq, Eq)]
@@ -76,15 +78,37 @@ pub enum Call {
         n: u32,
         scratch: Vec<u8>,
     },
+    List {
+        slip: u16,
+        list: Vec<u32>,
+    },
+    /// No call on a pool: it is lent storage, which may be any bytes, and no pool.
+    Gather {
+        list: Vec<u32>,
+        output: Vec<u8>,
+    },
+    Stretches {
+        slip: u16,
+        list: Vec<[u32; 2]>,
+    },
 }
 
 impl Call {
     /// The bytes that the call may write besides pool and storage: output or scratch.
     pub fn lent(&self) -> &[u8] {
         match self {
-            Call::Read { output, .. } => output,
+            Call::Read { output, .. } | Call::Gather { output, .. } => output,
             Call::Show { scratch, .. } => scratch,
             _ => &[],
+        }
+    }
+
+    /// The numbers of the list that the call is lent, two for each record.
+    pub fn list(&self) -> Vec<u32> {
+        match self {
+            Call::List { list, .. } | Call::Gather { list, .. } => list.clone(),
+            Call::Stretches { list, .. } => list.concat(),
+            _ => Vec::new(),
         }
     }
 
@@ -104,6 +128,16 @@ impl Call {
             Call::Show { slip, n, scratch } => {
                 format!("show {slip}, {n} with {} bytes of scratch", scratch.len())
             }
+            Call::List { slip, list } => format!("list {slip} into {} numbers", list.len()),
+            Call::Stretches { slip, list } => {
+                format!("stretches {slip} into {} records", list.len())
+            }
+            Call::Gather { list, output } => format!(
+                "gather of {} numbers, {:?} first, into {} bytes",
+                list.len(),
+                &list[..list.len().min(16)],
+                output.len()
+            ),
             other => format!("{other:?}"),
         }
     }
@@ -122,7 +156,7 @@ pub const NO_VIEW: View = View {
     start: 0,
 };
 
-/// All that a call leaves: its answer and every byte that it was lent.
+/// All that a call leaves: its answer, and every byte and number that it was lent.
 #[derive(Clone, Debug, PartialEq, Eq)]
 pub struct Outcome {
     pub code: u16,
@@ -131,6 +165,8 @@ pub struct Outcome {
     pub pool: Vec<u8>,
     pub storage: Vec<u8>,
     pub lent: Vec<u8>,
+    /// The numbers of the lent list, two for each record.
+    pub list: Vec<u32>,
 }
 
 /// A slip's state.
@@ -357,6 +393,8 @@ struct Done {
     fills: Vec<(usize, Vec<u8>)>,
     /// Bytes for the front of the lent output or scratch.
     copied: Vec<u8>,
+    /// Numbers for the front of the lent list.
+    listed: Vec<u32>,
     view: View,
 }
 
@@ -367,6 +405,7 @@ impl Done {
             tables: None,
             fills: Vec::new(),
             copied: Vec::new(),
+            listed: Vec::new(),
             view: NO_VIEW,
         }
     }
@@ -483,6 +522,44 @@ mutations! {
     PiecesBeforeSlips,
     /// Open takes lengths greater than the ones it asks.
     OpenTakesLonger,
+    /// List takes a lone last number for the room of a record.
+    ListTakesLone,
+    /// A list too short for all records gets those that it takes.
+    ListWrittenShort,
+    /// List zeroes the numbers past the last record.
+    ListClearsRest,
+    /// List answers how many numbers it wrote.
+    ListAnswersNumbers,
+    /// A record's position is that in its buffer.
+    ListWithinBuffer,
+    /// A record has its length first.
+    ListLengthFirst,
+    /// List goes by the pieces' numbers, not along the chain.
+    ListByNumber,
+    /// Two pieces that follow each other in storage make one record.
+    ListJoins,
+    /// List of an empty chain wants room for a record.
+    ListEmptyWantsOne,
+    /// Stretches takes the count of its records for that of numbers.
+    StretchesHalfRoom,
+    /// Gather adds the lengths in 32 bits.
+    GatherSumWraps,
+    /// Gather adds a record's position and length in 32 bits.
+    GatherEndWraps,
+    /// Gather judges the records before the output.
+    GatherListFirst,
+    /// Gather judges record by record, its place and then its room in the output.
+    GatherByRecord,
+    /// Gather takes a lone last number for a record of no length.
+    GatherTakesLone,
+    /// Gather passes over a record of no length.
+    GatherPassesEmpty,
+    /// Gather refuses a record that ends where storage ends.
+    GatherShortStorage,
+    /// Gather copies the records before the one that it refuses.
+    GatherCopiesFirst,
+    /// Gather zeroes the output past the bytes.
+    GatherClearsRest,
 }
 
 /// The rules, or the rules with one mutation.
@@ -510,40 +587,85 @@ impl Model {
             pool: pool.to_vec(),
             storage: storage.to_vec(),
             lent: call.lent().to_vec(),
+            list: call.list(),
         };
         match self.attempt(pool, storage, call) {
-            // Any other code comes with number 0 and leaves everything unchanged.
-            Err(code) => {
-                after.code = code;
-                let takes_slip =
-                    matches!(call, Call::Put { .. } | Call::Dup { .. } | Call::Cut { .. });
-                if self.is(Mutation::SlipKeptWithoutPiece) && code == PIECES && takes_slip {
-                    let mut tables = Tables::parse(pool, storage).expect("sound");
-                    let vacant = tables.slips.iter().position(|s| *s == Slip::Vacant);
-                    tables.slips[vacant.expect("code 8 comes first")] = Slip::Empty;
-                    after.pool = tables.bytes();
-                }
-            }
-            Ok(done) => {
-                after.number = done.number;
-                after.view = done.view;
-                if let Some(tables) = done.tables {
-                    after.pool = tables.bytes();
-                    if self.is(Mutation::ReleasedCleaned) {
-                        self.clean(pool, &tables, &mut after.storage);
-                    }
-                }
-                for (buffer, bytes) in done.fills {
-                    let start = SIZE as usize * buffer;
-                    after.storage[start..start + bytes.len()].copy_from_slice(&bytes);
-                }
-                after.lent[..done.copied.len()].copy_from_slice(&done.copied);
-                if self.is(Mutation::OpenClears) && matches!(call, Call::Open { .. }) {
-                    after.storage.fill(0);
-                }
-            }
+            Err(code) => self.refuse(call, code, &mut after),
+            Ok(done) => self.carry_out(call, done, &mut after),
         }
         after
+    }
+
+    /// Any other code comes with number 0 and leaves everything unchanged.
+    fn refuse(&self, call: &Call, code: u16, after: &mut Outcome) {
+        after.code = code;
+        let takes_slip = matches!(call, Call::Put { .. } | Call::Dup { .. } | Call::Cut { .. });
+        if self.is(Mutation::SlipKeptWithoutPiece) && code == PIECES && takes_slip {
+            let mut tables = Tables::parse(&after.pool, &after.storage).expect("sound");
+            let vacant = tables.slips.iter().position(|s| *s == Slip::Vacant);
+            tables.slips[vacant.expect("code 8 comes first")] = Slip::Empty;
+            after.pool = tables.bytes();
+        }
+        if self.is(Mutation::ListWrittenShort) && code == NARROW && !after.list.is_empty() {
+            self.write_short(call, after);
+        }
+        if self.is(Mutation::GatherCopiesFirst) && code == LIST {
+            self.copy_first(after);
+        }
+    }
+
+    /// Only for a mutation: the records that the list takes, of a chain that has more.
+    fn write_short(&self, call: &Call, after: &mut Outcome) {
+        if let Call::List { slip, .. } | Call::Stretches { slip, .. } = call {
+            let tables = Tables::parse(&after.pool, &after.storage).expect("sound");
+            let chain = tables.chain(tables.held(*slip).expect("code 3 comes first"));
+            let room = after.list.len() / 2;
+            let listed = self.records(&tables, &chain[..room]).concat();
+            after.list[..listed.len()].copy_from_slice(&listed);
+        }
+    }
+
+    /// Only for a mutation: the bytes of the records before the first that is of no length or
+    /// leaves storage.
+    fn copy_first(&self, after: &mut Outcome) {
+        let mut at = 0;
+        for record in after.list.chunks_exact(2) {
+            let (start, length) = (record[0] as usize, record[1] as usize);
+            if length == 0 || start + length > after.storage.len() {
+                return;
+            }
+            let bytes = &after.storage[start..start + length];
+            after.lent[at..at + length].copy_from_slice(bytes);
+            at += length;
+        }
+    }
+
+    /// Everything that a done call writes.
+    fn carry_out(&self, call: &Call, done: Done, after: &mut Outcome) {
+        after.number = done.number;
+        after.view = done.view;
+        if let Some(tables) = done.tables {
+            let before = std::mem::replace(&mut after.pool, tables.bytes());
+            if self.is(Mutation::ReleasedCleaned) {
+                self.clean(&before, &tables, &mut after.storage);
+            }
+        }
+        for (buffer, bytes) in done.fills {
+            let start = SIZE as usize * buffer;
+            after.storage[start..start + bytes.len()].copy_from_slice(&bytes);
+        }
+        after.lent[..done.copied.len()].copy_from_slice(&done.copied);
+        after.list[..done.listed.len()].copy_from_slice(&done.listed);
+        if self.is(Mutation::OpenClears) && matches!(call, Call::Open { .. }) {
+            after.storage.fill(0);
+        }
+        let gather = matches!(call, Call::Gather { .. });
+        if self.is(Mutation::ListClearsRest) && !gather {
+            after.list[done.listed.len()..].fill(0);
+        }
+        if self.is(Mutation::GatherClearsRest) && gather {
+            after.lent[done.copied.len()..].fill(0);
+        }
     }
 
     /// Only for a mutation: zeroes each buffer whose count has fallen to 0.
@@ -567,10 +689,18 @@ impl Model {
         {
             return self.open(pool, storage, *buffers, *pieces, *slips);
         }
+        if let Call::Gather { list, output } = call {
+            return self.gather(storage, list, output.len() as u64);
+        }
         let tables = Tables::parse(pool, storage).ok_or(TORN)?;
         refuse_if(!self.is_sound(&tables), TORN)?;
+        self.operate(tables, storage, call)
+    }
+
+    /// What the call does on a sound pool, or the lowest code from 3 on that applies.
+    fn operate(&self, tables: Tables, storage: &[u8], call: &Call) -> Result<Done, u16> {
         match call {
-            Call::Open { .. } => unreachable!("judged above"),
+            Call::Open { .. } | Call::Gather { .. } => unreachable!("judged above"),
             Call::Audit => Ok(Done::nothing(0)),
             Call::Put { data } => self.put(tables, data),
             Call::Free { slip } => self.free(tables, *slip),
@@ -598,6 +728,8 @@ impl Model {
             Call::Show { slip, n, scratch } => {
                 self.show(tables, storage, *slip, *n as u64, scratch.len())
             }
+            Call::List { slip, list } => self.list(tables, *slip, list.len()),
+            Call::Stretches { slip, list } => self.list_in_records(tables, *slip, list.len()),
         }
     }
 
@@ -1234,5 +1366,130 @@ impl Model {
             },
             ..Done::nothing(n)
         })
+    }
+
+    /// As list, each record taking the place of two numbers.
+    fn list_in_records(&self, t: Tables, slip: u16, records: usize) -> Result<Done, u16> {
+        if self.is(Mutation::StretchesHalfRoom) {
+            return self.list(t, slip, records);
+        }
+        self.list(t, slip, 2 * records)
+    }
+
+    /// The records of the slip's chain, where so many numbers take all of them.
+    fn list(&self, t: Tables, slip: u16, numbers: usize) -> Result<Done, u16> {
+        let mut chain = t.chain(t.held(slip).ok_or(SLIP)?);
+        if self.is(Mutation::ListByNumber) {
+            chain.sort_unstable();
+        }
+        let records = self.records(&t, &chain);
+        let mut room = numbers / 2;
+        if self.is(Mutation::ListTakesLone) {
+            room = numbers.div_ceil(2);
+        }
+        if self.is(Mutation::ListEmptyWantsOne) {
+            refuse_if(room == 0, NARROW)?;
+        }
+        refuse_if(records.len() > room, NARROW)?;
+        let mut listed = records.concat();
+        if self.is(Mutation::ListTakesLone) {
+            listed.truncate(numbers);
+        }
+        let mut number = records.len() as u64;
+        if self.is(Mutation::ListAnswersNumbers) {
+            number *= 2;
+        }
+        Ok(Done {
+            listed,
+            ..Done::nothing(number)
+        })
+    }
+
+    /// One record for each piece in chain order: position in storage, then length.
+    fn records(&self, t: &Tables, chain: &[usize]) -> Vec<[u32; 2]> {
+        let mut records: Vec<[u32; 2]> = Vec::new();
+        for &d in chain {
+            let piece = &t.pieces[d];
+            let mut position = (SIZE * piece.buffer as u64 + piece.offset) as u32;
+            let length = piece.length as u32;
+            if self.is(Mutation::ListWithinBuffer) {
+                position = piece.offset as u32;
+            }
+            let joins = |last: &&mut [u32; 2]| last[0] + last[1] == position;
+            match records.last_mut().filter(joins) {
+                Some(last) if self.is(Mutation::ListJoins) => last[1] += length,
+                _ => records.push([position, length]),
+            }
+        }
+        if self.is(Mutation::ListLengthFirst) {
+            records.iter_mut().for_each(|record| record.swap(0, 1));
+        }
+        records
+    }
+
+    /// gather: the bytes of the list's records, from storage alone.
+    fn gather(&self, storage: &[u8], list: &[u32], output: u64) -> Result<Done, u16> {
+        let mut records: Vec<(u64, u64)> = list
+            .chunks_exact(2)
+            .map(|two| (two[0] as u64, two[1] as u64))
+            .collect();
+        if self.is(Mutation::GatherTakesLone) && list.len() % 2 == 1 {
+            records.push((list[list.len() - 1] as u64, 0));
+        }
+        // As many lengths of 32 bits as memory holds have a sum of less than 64 bits.
+        let mut sum: u64 = records.iter().map(|(_, length)| length).sum();
+        if self.is(Mutation::GatherSumWraps) {
+            sum %= 1 << 32;
+        }
+        if self.is(Mutation::GatherByRecord) {
+            self.judge_by_record(storage, &records, output)?;
+        }
+        let amiss = records.iter().any(|record| self.is_amiss(storage, *record));
+        if self.is(Mutation::GatherListFirst) {
+            refuse_if(amiss, LIST)?;
+        }
+        refuse_if(sum > output, NARROW)?;
+        refuse_if(amiss, LIST)?;
+        let mut copied = Vec::new();
+        for (position, length) in records {
+            let from = storage.iter().skip(position as usize);
+            copied.extend(from.take(length as usize));
+        }
+        if self.is(Mutation::GatherSumWraps) {
+            copied.truncate(output as usize);
+        }
+        Ok(Done {
+            copied,
+            ..Done::nothing(sum)
+        })
+    }
+
+    /// Whether a record is of no length or leaves storage.
+    fn is_amiss(&self, storage: &[u8], (position, length): (u64, u64)) -> bool {
+        let mut end = position + length;
+        if self.is(Mutation::GatherEndWraps) {
+            end %= 1 << 32;
+        }
+        if self.is(Mutation::GatherShortStorage) {
+            end += 1;
+        }
+        let none = length == 0 && !self.is(Mutation::GatherPassesEmpty);
+        none || end > storage.len() as u64
+    }
+
+    /// Only for a mutation: the code of the first record with a fault.
+    fn judge_by_record(
+        &self,
+        storage: &[u8],
+        records: &[(u64, u64)],
+        output: u64,
+    ) -> Result<(), u16> {
+        let mut left = output;
+        for (position, length) in records {
+            refuse_if(self.is_amiss(storage, (*position, *length)), LIST)?;
+            refuse_if(*length > left, NARROW)?;
+            left -= length;
+        }
+        Ok(())
     }
 }

@@ -47,6 +47,10 @@ impl Random {
         bytes.truncate(length);
         bytes
     }
+
+    pub fn numbers(&mut self, length: usize) -> Vec<u32> {
+        (0..length).map(|_| self.number() as u32).collect()
+    }
 }
 
 /// Buffers, pieces and slips of a pool.
@@ -119,7 +123,7 @@ pub fn unopened(random: &mut Random, shape: Shape) -> (Vec<u8>, Vec<u8>) {
 
 /// How often each kind of call comes in one sequence, so that some fill the pool and some drain it.
 pub struct Mood {
-    weights: [u64; 14],
+    weights: [u64; 16],
     /// Puts of at most this many bytes, but for the borders.
     put_up_to: u64,
     /// Once in this many a wild argument is taken.
@@ -128,7 +132,7 @@ pub struct Mood {
 
 impl Mood {
     pub fn new(random: &mut Random, shape: Shape) -> Mood {
-        let mut weights = [0; 14];
+        let mut weights = [0; 16];
         for weight in &mut weights {
             *weight = random.between(1, 12);
         }
@@ -353,16 +357,15 @@ pub fn call(random: &mut Random, pool: &[u8], storage: &[u8], mood: &Mood) -> Ca
         10 => Call::Pack {
             slip: slip(random, &tables, wild),
         },
-        11 => Call::Length {
-            slip: slip(random, &tables, wild),
-        },
-        12 => {
-            let slip = slip(random, &tables, wild);
-            read(random, &tables, slip, wild)
-        }
         _ => {
             let slip = slip(random, &tables, wild);
-            show(random, &tables, slip, wild)
+            match kind {
+                11 => Call::Length { slip },
+                12 => read(random, &tables, slip, wild),
+                13 => show(random, &tables, slip, wild),
+                14 => list(random, &tables, slip),
+                _ => stretches(random, &tables, slip),
+            }
         }
     }
 }
@@ -402,6 +405,131 @@ pub fn show(random: &mut Random, tables: &Tables, slip: u16, wild: u64) -> Call 
     }
     let scratch = lent_bytes(random, (n as u64).min(600));
     Call::Show { slip, n, scratch }
+}
+
+/// How many pieces the slip's chain has.
+fn pieces(tables: &Tables, slip: u16) -> usize {
+    let state = tables.held(slip);
+    state.map_or(0, |state| tables.chain(state).len())
+}
+
+/// A list of the slip: exact, a number or a record too short, odd, longer, none, or one number for
+/// each record; with any old numbers in it.
+pub fn list(random: &mut Random, tables: &Tables, slip: u16) -> Call {
+    let records = pieces(tables, slip);
+    let numbers = match random.below(10) {
+        0 => (2 * records).saturating_sub(1),
+        1 => 2 * records.saturating_sub(1),
+        2 => 2 * records + 1,
+        3 => 2 * records + random.below(9) as usize,
+        4 => records,
+        5 => 0,
+        _ => 2 * records,
+    };
+    Call::List {
+        slip,
+        list: random.numbers(numbers),
+    }
+}
+
+/// The same in records: exact, one too short, longer, twice as many, half, or none.
+pub fn stretches(random: &mut Random, tables: &Tables, slip: u16) -> Call {
+    let pieces = pieces(tables, slip);
+    let records = match random.below(10) {
+        0 => pieces.saturating_sub(1),
+        1 => pieces + 1,
+        2 => pieces + random.below(5) as usize,
+        3 => 2 * pieces,
+        4 => pieces / 2,
+        5 => 0,
+        _ => pieces,
+    };
+    let old = random.numbers(2 * records);
+    Call::Stretches {
+        slip,
+        list: old.chunks(2).map(|two| [two[0], two[1]]).collect(),
+    }
+}
+
+/// A storage that need not be of any pool.
+pub fn any_storage(random: &mut Random) -> Vec<u8> {
+    let length = match random.below(8) {
+        0 => 0,
+        1 => random.between(1, 3),
+        2 => random.between(510, 514),
+        3 => 512 * random.between(1, 8),
+        _ => random.below(3_000),
+    };
+    random.bytes(length as usize)
+}
+
+/// A gather from a storage of this length: records that lie in it, of which some are then spoiled,
+/// perhaps a lone last number, and an output around their bytes.
+pub fn gather(random: &mut Random, storage: usize) -> Call {
+    let most = random.pick(&[3, 3, 8, 40]);
+    let count = if storage == 0 { 0 } else { random.below(most) };
+    let mut records: Vec<[u32; 2]> = (0..count).map(|_| inside(random, storage as u64)).collect();
+    if random.once_in(2) {
+        spoil(random, storage as u64, &mut records);
+    }
+    let mut list = records.concat();
+    if random.once_in(3) {
+        let any = random.number() as u32;
+        list.push(random.pick(&[0, 1, u32::MAX, any]));
+    }
+    let sum: u64 = records.iter().map(|record| record[1] as u64).sum();
+    // Past what any such storage gives the output is of any length, or as the sum is in 32 bits.
+    let bytes = match sum {
+        0..=200_000 => sum,
+        _ => random.pick(&[0, 9, 2_000, sum % (1 << 32)]),
+    };
+    Call::Gather {
+        list,
+        output: lent_bytes(random, bytes),
+    }
+}
+
+/// A record inside a storage that has bytes, often at its start, at its end, or all of it.
+fn inside(random: &mut Random, storage: u64) -> [u32; 2] {
+    let position = match random.below(4) {
+        0 => 0,
+        1 => storage - 1,
+        _ => random.below(storage),
+    };
+    let rest = storage - position;
+    let length = match random.below(4) {
+        0 => 1,
+        1 => rest,
+        2 => random.between(1, rest.min(20)),
+        _ => random.between(1, rest),
+    };
+    [position as u32, length as u32]
+}
+
+/// Puts records among the others that are of no length, leave storage, or make the sum pass 32
+/// bits.
+fn spoil(random: &mut Random, storage: u64, records: &mut Vec<[u32; 2]>) {
+    let (most, size) = (u32::MAX, storage as u32);
+    let start = random.below(storage + 1) as u32;
+    let few = random.below(4) as u32;
+    let any = random.number() as u32;
+    let wrong: Vec<[u32; 2]> = match random.below(12) {
+        0 => vec![[random.pick(&[0, start, size, size + 1, most]), 0]],
+        // Past the end by one, and by more.
+        1..=2 => vec![[start, size - start + 1]],
+        3 => vec![[size + few, 1 + few]],
+        4 => vec![[any.max(size), 1 + few]],
+        // Round to a small sum in 32 bits.
+        5..=6 => vec![[most - few, 1 + few + random.below(storage + 1) as u32]],
+        7 => vec![[1 + few, most - few]],
+        8 => vec![[any, most - few]],
+        // The lengths come round together, once or many times.
+        9 => vec![[0, 1 << 31], [start, 1 << 31]],
+        10 => vec![[0, any], [start, any.wrapping_neg()]],
+        _ => vec![[start, most]; 1 + random.below(70) as usize],
+    };
+    let place = random.below(records.len() as u64 + 1) as usize;
+    records.splice(place..place, wrong);
 }
 
 /// Data for a put, its length mostly at a border of the buffers or of the room.

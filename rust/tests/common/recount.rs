@@ -232,7 +232,10 @@ impl Recount {
             | Call::Free { .. }
             | Call::Length { .. }
             | Call::Read { .. }
-            | Call::Show { .. } => None,
+            | Call::Show { .. }
+            | Call::List { .. }
+            | Call::Gather { .. }
+            | Call::Stretches { .. } => None,
         }
     }
 }

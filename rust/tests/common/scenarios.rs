@@ -1,9 +1,10 @@
-//! The paper's own cases, for any engine: the marked rows, the edges, the five common errors, and
-//! each point where the paper can be read in two ways.
+//! The paper's own cases, for any engine: the marked rows, the edges, the five common errors, each
+//! point where the paper can be read in two ways, and the wire list with its reader.
 
-use super::desk::{cut, data, read, show, Desk, Engine};
+use super::desk::{cut, data, gather, list, read, show, stretches, Desk, Engine, OLD};
 use super::model::{
-    Call, View, BUFFERS, COUNTS, LONG, NARROW, NO_VIEW, PIECES, RANGE, SAME, SLIP, SLIPS, TORN,
+    Call, View, BUFFERS, COUNTS, LIST, LONG, NARROW, NO_VIEW, PIECES, RANGE, SAME, SLIP, SLIPS,
+    TORN,
 };
 
 /// Makes one test of each case.
@@ -23,6 +24,10 @@ macro_rules! paper_cases {
             reading_14_append_twice, reading_15_read_and_show, reading_16_whole_numbers,
             reading_17_exact_lengths, reading_18_rings, reading_19_released_bytes_stay,
             reading_20_empty_slices,
+            list_of_the_morning, list_of_the_largest, list_too_short, list_of_nothing,
+            list_order_of_codes,
+            gather_of_the_morning, gather_repeats, gather_refuses_records,
+            gather_order_of_codes, gather_whole_numbers, gather_without_a_pool,
         }
     };
     ($engine:path; $($case:ident,)*) => {
@@ -964,6 +969,8 @@ pub fn reading_13_order_of_codes(engine: Engine) {
         Call::Length { slip: 9 },
         read(9, 9_999, 9_999, 4),
         show(9, 9_999, 4),
+        list(9, 4),
+        stretches(9, 4),
     ] {
         desk.refused(call, TORN);
     }
@@ -1215,6 +1222,9 @@ pub fn reading_20_empty_slices(engine: Engine) {
     nothing.refused(Call::Put { data: Vec::new() }, TORN);
     nothing.refused(read(0, 0, 0, 0), TORN);
     nothing.refused(show(0, 0, 0), TORN);
+    nothing.refused(list(0, 0), TORN);
+    nothing.refused(stretches(0, 0), TORN);
+    nothing.done_unchanged(gather(&[], 0), 0);
     nothing.refused(
         Call::Open {
             buffers: 0,
@@ -1228,4 +1238,239 @@ pub fn reading_20_empty_slices(engine: Engine) {
     desk.tables(&[1], &[Z], &[0]);
     desk.done_unchanged(read(0, 0, 0, 0), 0);
     desk.done_unchanged(show(0, 0, 0), 0);
+    desk.done_unchanged(list(0, 0), 0);
+    desk.done_unchanged(stretches(0, 0), 0);
+}
+
+/// The wire lists of the morning's slips: position 512·buffer + offset, then length.
+pub fn list_of_the_morning(engine: Engine) {
+    let mut desk = Desk::open(engine, 4, 6, 4);
+    // Rows 1 to 3.
+    desk.put(600, 0);
+    desk.lists(0, &[0, 512, 512, 88]);
+    desk.cut(0, 500, 50, 1);
+    desk.lists(1, &[500, 12, 512, 38]);
+    desk.lists(0, &[0, 512, 512, 88]);
+    desk.dup(0, 2);
+    desk.lists(2, &[0, 512, 512, 88]);
+    desk.lists(0, &[0, 512, 512, 88]);
+    // Rows 4 to 9: in chain order, whatever the pieces' numbers.
+    desk.free(0);
+    desk.drop(2, 520);
+    desk.lists(2, &[520, 80]);
+    desk.append(1, 2);
+    desk.lists(1, &[500, 12, 512, 38, 520, 80]);
+    desk.keep(1, 40);
+    desk.lists(1, &[500, 12, 512, 28]);
+    desk.pullup(1, 20);
+    desk.lists(1, &[1_024, 20, 520, 20]);
+    desk.pack(1);
+    desk.lists(1, &[0, 40]);
+}
+
+/// The longest list, all on one buffer, and the last byte of the largest storage.
+pub fn list_of_the_largest(engine: Engine) {
+    let mut desk = Desk::open(engine, 1, 256, 2);
+    desk.put(512, 0);
+    for doubling in 0..8 {
+        desk.cut(0, 0, 512 << doubling, 1);
+        desk.append(0, 1);
+    }
+    desk.lists(0, &[0, 512].repeat(256));
+    desk.refused(list(0, 511), NARROW);
+    desk.refused(stretches(0, 255), NARROW);
+
+    let mut desk = Desk::open(engine, 128, 256, 2);
+    desk.put(65_536, 0);
+    let whole: Vec<u32> = (0..128).flat_map(|b| [512 * b, 512]).collect();
+    desk.lists(0, &whole);
+    desk.drop(0, 65_535);
+    desk.lists(0, &[65_535, 1]);
+}
+
+/// A list too short for all records is left alone; a lone last number is no record, and stays.
+pub fn list_too_short(engine: Engine) {
+    let mut desk = Desk::open(engine, 4, 6, 4);
+    desk.put(600, 0);
+    for numbers in 0..4 {
+        desk.refused(list(0, numbers), NARROW);
+    }
+    for records in 0..2 {
+        desk.refused(stretches(0, records), NARROW);
+    }
+    for numbers in 4..8 {
+        let outcome = desk.done_unchanged(list(0, numbers), 2);
+        assert_eq!(outcome.list[..4], [0, 512, 512, 88]);
+        assert_eq!(outcome.list[4..], vec![OLD; numbers - 4]);
+    }
+    let outcome = desk.done_unchanged(stretches(0, 2), 2);
+    assert_eq!(outcome.list, [0, 512, 512, 88]);
+    let outcome = desk.done_unchanged(stretches(0, 3), 2);
+    assert_eq!(outcome.list, [0, 512, 512, 88, OLD, OLD]);
+}
+
+/// An empty chain has no records, and any list takes them.
+pub fn list_of_nothing(engine: Engine) {
+    let mut desk = Desk::open(engine, 4, 6, 4);
+    desk.put(0, 0);
+    desk.put(5, 1);
+    desk.keep(1, 0);
+    for slip in [0, 1] {
+        for length in 0..4 {
+            let outcome = desk.done_unchanged(list(slip, length), 0);
+            assert_eq!(outcome.list, vec![OLD; length]);
+            let outcome = desk.done_unchanged(stretches(slip, length), 0);
+            assert_eq!(outcome.list, vec![OLD; 2 * length]);
+        }
+    }
+}
+
+/// 2 before 3 before 7; what has no chain is never too long for a list.
+pub fn list_order_of_codes(engine: Engine) {
+    let mut desk = Desk::open(engine, 4, 6, 4);
+    desk.put(600, 0);
+    for slip in [1, 3, 4, 65_535] {
+        for length in [0, 1, 4] {
+            desk.refused(list(slip, length), SLIP);
+            desk.refused(stretches(slip, length), SLIP);
+        }
+    }
+    desk.refused(list(0, 3), NARROW);
+    desk.refused(stretches(0, 1), NARROW);
+    desk.pool[0] = 0;
+    for slip in [0, 1, 4] {
+        for length in [0, 3, 4] {
+            desk.refused(list(slip, length), TORN);
+            desk.refused(stretches(slip, length), TORN);
+        }
+    }
+}
+
+/// The bytes of the morning's lists, as read gives them; output past them is unchanged.
+pub fn gather_of_the_morning(engine: Engine) {
+    let mut desk = Desk::open(engine, 4, 6, 4);
+    let d = data(600);
+    desk.put(600, 0);
+    desk.cut(0, 500, 50, 1);
+    let outcome = desk.done_unchanged(gather(&[500, 12, 512, 38], 52), 50);
+    assert_eq!(outcome.lent[..50], d[500..550]);
+    assert_eq!(outcome.lent[50..], [0x99; 2]);
+    let outcome = desk.done_unchanged(gather(&[0, 512, 512, 88], 600), 600);
+    assert_eq!(outcome.lent, d);
+    // Read of the whole chain is refused by the same output.
+    desk.refused(gather(&[500, 12, 512, 38], 49), NARROW);
+    desk.refused(read(1, 0, 50, 49), NARROW);
+    desk.refused(gather(&[0, 512, 512, 88], 0), NARROW);
+    desk.refused(read(0, 0, 600, 0), NARROW);
+}
+
+/// Records may overlap, repeat and run backwards; no record copies nothing.
+pub fn gather_repeats(engine: Engine) {
+    let mut desk = Desk::open(engine, 1, 1, 1);
+    desk.put(512, 0);
+    let outcome = desk.done_unchanged(gather(&[3, 2, 2, 3, 3, 2, 0, 1], 9), 8);
+    assert_eq!(outcome.lent, [3, 4, 2, 3, 4, 3, 4, 0, 0x99]);
+    let outcome = desk.done_unchanged(gather(&[0, 512].repeat(100), 51_201), 51_200);
+    assert_eq!(outcome.lent[..51_200], data(512).repeat(100));
+    assert_eq!(outcome.lent[51_200], 0x99);
+    // The last byte, and the lone number behind it, which is no record.
+    for lone in [0, 511, 512, u32::MAX] {
+        let outcome = desk.done_unchanged(gather(&[511, 1, lone], 2), 1);
+        assert_eq!(outcome.lent, [9, 0x99]);
+        let outcome = desk.done_unchanged(gather(&[lone], 2), 0);
+        assert_eq!(outcome.lent, [0x99; 2]);
+    }
+    for output in [0, 1] {
+        let outcome = desk.done_unchanged(gather(&[], output), 0);
+        assert_eq!(outcome.lent, vec![0x99; output]);
+    }
+}
+
+/// A record of no length, wherever it stands, or one that leaves storage, if only by a byte.
+pub fn gather_refuses_records(engine: Engine) {
+    let mut desk = Desk::open(engine, 1, 1, 1);
+    desk.put(512, 0);
+    for position in [0, 511, 512, 513, u32::MAX] {
+        desk.refused(gather(&[position, 0], 0), LIST);
+        desk.refused(gather(&[position, 0], 9), LIST);
+        desk.refused(gather(&[0, 1, position, 0, 0, 1], 9), LIST);
+    }
+    for record in [[0, 513], [511, 2], [512, 1], [513, 1], [65_536, 1]] {
+        desk.refused(gather(&record, 600), LIST);
+        desk.refused(gather(&[[0, 1], record].concat(), 600), LIST);
+        desk.refused(gather(&[record, [0, 1]].concat(), 600), LIST);
+    }
+    desk.done_unchanged(gather(&[0, 512], 600), 512);
+    // In no storage no record has a place.
+    desk.storage.clear();
+    desk.refused(gather(&[0, 1], 9), LIST);
+    desk.refused(gather(&[0, 0], 9), LIST);
+    desk.done_unchanged(gather(&[], 9), 0);
+}
+
+/// 7 before 11, wherever the record stands that leaves storage.
+pub fn gather_order_of_codes(engine: Engine) {
+    let mut desk = Desk::open(engine, 1, 1, 1);
+    desk.put(512, 0);
+    for list in [
+        [0, 513, 0, 4],
+        [0, 4, 0, 513],
+        [512, 1, 0, 516],
+        [0, 0, 0, 517],
+        [0, 517, 9, 0],
+    ] {
+        desk.refused(gather(&list, 0), NARROW);
+        desk.refused(gather(&list, 516), NARROW);
+        desk.refused(gather(&list, 517), LIST);
+    }
+}
+
+/// Position and length, and all lengths, are added as whole numbers.
+pub fn gather_whole_numbers(engine: Engine) {
+    let most = u32::MAX;
+    let mut desk = Desk::open(engine, 1, 1, 1);
+    desk.put(512, 0);
+    // Round to a place inside storage in 32 bits.
+    for record in [
+        [most, 1],
+        [most, 2],
+        [most, 513],
+        [most - 511, 512],
+        [1 << 31, 1],
+    ] {
+        desk.refused(gather(&record, 600), LIST);
+    }
+    // Sums that come round to 0 or a little more in 32 bits, once or many times.
+    for list in [
+        vec![0, 1 << 31, 0, 1 << 31],
+        vec![0, 1, 0, most],
+        vec![0, most, 0, 1, 0, 5],
+        vec![0, 5, 1, most - 4],
+        [0, 1 << 31].repeat(200),
+        [[0, most].repeat(3), vec![0, 3]].concat(),
+        [[0, most].repeat(70_000), vec![0, 70_005]].concat(),
+    ] {
+        for output in [0, 5, 5_000] {
+            desk.refused(gather(&list, output), NARROW);
+        }
+    }
+}
+
+/// Gather asks no pool, so a torn one is not seen.
+pub fn gather_without_a_pool(engine: Engine) {
+    let mut desk = Desk::open(engine, 2, 3, 2);
+    desk.put(600, 0);
+    for pool in [vec![0; 11], Vec::new()] {
+        desk.pool = pool;
+        desk.refused(list(0, 4), TORN);
+        let outcome = desk.done_unchanged(gather(&[0, 512, 512, 88], 600), 600);
+        assert_eq!(outcome.lent, data(600));
+        desk.refused(gather(&[0, 1_025], 1_024), NARROW);
+        desk.refused(gather(&[0, 1_025], 1_025), LIST);
+    }
+    // Storage of any length will do.
+    desk.storage.truncate(5);
+    let outcome = desk.done_unchanged(gather(&[4, 1, 0, 5], 6), 6);
+    assert_eq!(outcome.lent, [4, 0, 1, 2, 3, 4]);
+    desk.refused(gather(&[4, 2], 6), LIST);
 }

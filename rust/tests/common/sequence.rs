@@ -3,7 +3,7 @@
 use super::compare;
 use super::desk::Engine;
 use super::model::{Call, Outcome, TORN, TRUE};
-use super::random::{self, Mood, Random, Shape};
+use super::random::{self, Mood, Random, Shape, SHAPES};
 use super::recount::{recount, Recount};
 
 /// A list under way: the pool that a done open has written, and what came after.
@@ -57,6 +57,18 @@ impl List {
             self.take(outcome);
         }
     }
+}
+
+/// Pools that random lists of so many calls and more leave on the model, with their seeds.
+pub fn pools(count: u64, calls: u64) -> impl Iterator<Item = (u64, List)> {
+    let first = setting("FULCRUMNEST_SEED", 10_000);
+    let times = setting("FULCRUMNEST_TIMES", 1).max(1);
+    (0..count * times).map(move |i| {
+        let shape = SHAPES.get(i as usize).copied();
+        let mut list = List::start(first + i, shape);
+        list.run(calls + 3 * list.shape.1 as u64);
+        (first + i, list)
+    })
 }
 
 /// How many calls and lists were made, and how often each code came.

@@ -10,7 +10,7 @@ use std::process::ExitCode;
 use fulcrumnest::{calls, Picture, Refusal};
 
 use crate::script::{self, FORMS};
-use crate::trial::{Answer, Trial};
+use crate::trial::{listed, record, Answer, Trial};
 
 const USAGE: &str = "\
 slp run FILE [--draw]
@@ -22,11 +22,15 @@ slp audit POOL STORAGE
     whether the pool in these files is sound
 slp draw POOL STORAGE [--svg]
     draws the pool in these files, as text or as a picture in SVG
+slp list POOL STORAGE SLIP
+    prints the wire list of a slip of the pool in these files, one record a
+    line: position in storage and length
 slp help
     prints this
 
-Exit status: 0 done, also where calls were refused; 1 'slp audit' found the pool
-torn; 2 bad input, with a line on standard error that says where and what.
+Exit status: 0 done, also where calls of FILE were refused; 1 'slp audit' found
+the pool torn; 2 bad input, with a line on standard error that says where and
+what: also where 'slp list' is refused.
 
 FILE may be '-', standard input. Its calls, with '#' before a comment:
 ";
@@ -34,6 +38,7 @@ FILE may be '-', standard input. Its calls, with '#' before a comment:
 const DATA: &str = "
 put BYTES puts so many bytes that count up: 0, 1, .. 250, 0, 1 and so on.
 put \"TEXT\" puts the text; in it \\\" \\\\ \\n \\r \\t \\0 and \\x41 are one byte each.
+list SLIP answers how many records there are, and prints each: position, length.
 ";
 
 /// What stops a command: where and what, to be printed as one line.
@@ -107,6 +112,7 @@ fn command(arguments: &[OsString]) -> Result<ExitCode, Trouble> {
             let [pool, storage] = names;
             draw(&read(pool)?, &read(storage)?, svg)
         }
+        Some("list") => list(names(rest, "list POOL STORAGE SLIP", "")?.0),
         Some("help" | "--help" | "-h") => help(),
         _ => Err(Trouble::new(
             "slp",
@@ -257,6 +263,26 @@ fn audit(pool: &[u8], storage: &[u8]) -> Result<ExitCode, Trouble> {
         writeln!(out, "  {fault}")?;
     }
     Ok(ExitCode::from(1))
+}
+
+/// The wire list of a slip; a refusal is bad input, since there are no records to print.
+fn list([pool, storage, slip]: [&OsString; 3]) -> Result<ExitCode, Trouble> {
+    let slip = script::slip("list", &slip.to_string_lossy());
+    let slip = slip.map_err(|what| Trouble::new("slp", what))?;
+    let (tables, buffers) = (read(pool)?, read(storage)?);
+    let records = listed(&tables, &buffers, slip).map_err(|refusal| {
+        let fault = Picture::new(&tables, &buffers).fault();
+        let fault = fault.map_or(String::new(), |fault| format!("; {fault}"));
+        Trouble::new(
+            Path::new(pool).display(),
+            format!("list {}: {refusal}{fault}", slip.0),
+        )
+    })?;
+    let mut out = io::stdout().lock();
+    for stretch in &records {
+        writeln!(out, "{}", record(stretch))?;
+    }
+    Ok(ExitCode::SUCCESS)
 }
 
 fn draw(pool: &[u8], storage: &[u8], svg: bool) -> Result<ExitCode, Trouble> {

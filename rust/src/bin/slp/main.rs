@@ -1,7 +1,7 @@
-//! `slp`: makes the library's calls from a file, and audits and draws pools.
+//! `slp`: makes the library's calls from a file, audits and draws pools, and lists their slips.
 //!
-//! Exit status 0: done, refused calls too; 1: `slp audit` found the pool torn; 2: bad input, with a
-//! line on standard error that says where and what.
+//! Exit status 0: done, refused calls of a file too; 1: `slp audit` found the pool torn; 2: bad
+//! input, with a line on standard error that says where and what.
 
 #[cfg(fulcrumnest_lib)]
 mod command;

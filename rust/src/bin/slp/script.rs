@@ -7,8 +7,8 @@ use fulcrumnest::{Shape, Slip};
 /// The most bytes of one put: more than any pool holds, and little enough to be made.
 const MOST_BYTES: u32 = 1 << 24;
 
-/// Every call with the names of its arguments, in the order of the paper.
-pub const FORMS: [(&str, &str); 14] = [
+/// Every call that can be written, with the names of its arguments, in the order of the paper.
+pub const FORMS: [(&str, &str); 15] = [
     ("pool", "BUFFERS PIECES SLIPS"),
     ("audit", ""),
     ("put", "BYTES"),
@@ -23,6 +23,7 @@ pub const FORMS: [(&str, &str); 14] = [
     ("length", "SLIP"),
     ("read", "SLIP OFFSET LENGTH"),
     ("show", "SLIP N"),
+    ("list", "SLIP"),
 ];
 
 /// What is put: so many bytes that count up, or a text.
@@ -59,6 +60,7 @@ pub enum Call {
     Length(Slip),
     Read(Slip, u32, u32),
     Show(Slip, u32),
+    List(Slip),
 }
 
 impl fmt::Display for Call {
@@ -79,6 +81,7 @@ impl fmt::Display for Call {
             Call::Length(slip) => write!(f, "length {}", slip.0),
             Call::Read(slip, offset, length) => write!(f, "read {} {offset} {length}", slip.0),
             Call::Show(slip, n) => write!(f, "show {} {n}", slip.0),
+            Call::List(slip) => write!(f, "list {}", slip.0),
         }
     }
 }
@@ -127,6 +130,12 @@ fn numbers(name: &str, form: &str, given: &[&str]) -> Result<Vec<u32>, String> {
     given.iter().zip(&wanted).map(number).collect()
 }
 
+/// The slip that a word names, for a call of this name.
+pub fn slip(name: &str, word: &str) -> Result<Slip, String> {
+    let numbers = numbers(name, "SLIP", &[word])?;
+    Ok(Slip(numbers[0] as u16))
+}
+
 /// A whole number from 0 to the most.
 fn number(word: &str, most: u32) -> Result<u32, String> {
     if word.is_empty() || !word.bytes().all(|byte| byte.is_ascii_digit()) {
@@ -159,6 +168,7 @@ fn call(name: &str, numbers: &[u32]) -> Call {
         "length" => Call::Length(slip(0)),
         "read" => Call::Read(slip(0), numbers[1], numbers[2]),
         "show" => Call::Show(slip(0), numbers[1]),
+        "list" => Call::List(slip(0)),
         _ => Call::Audit,
     }
 }

@@ -3,7 +3,7 @@
 use std::fmt;
 
 use fulcrumnest::{
-    calls, pool_length, storage_length, Picture, Pool, Refusal, Shape, Slip, BUFFER_LENGTH,
+    calls, pool_length, storage_length, Picture, Pool, Refusal, Shape, Slip, Stretch, BUFFER_LENGTH,
 };
 
 use crate::script::Call;
@@ -18,6 +18,7 @@ pub enum Answer {
     Number(u32),
     Read(Vec<u8>),
     Shown { bytes: Vec<u8>, place: String },
+    Listed(Vec<Stretch>),
     Refused(Refusal),
 }
 
@@ -41,9 +42,19 @@ impl fmt::Display for Answer {
                 write!(f, "{} in {place}", bytes.len())?;
                 rows(f, bytes)
             }
+            Answer::Listed(records) => {
+                write!(f, "{}", records.len())?;
+                let mut lines = records.iter().map(record);
+                lines.try_for_each(|line| write!(f, "\n  {line}"))
+            }
             Answer::Refused(refusal) => write!(f, "{} {}", refusal.code(), refusal.word()),
         }
     }
+}
+
+/// A record as a line: position and length.
+pub fn record(stretch: &Stretch) -> String {
+    format!("{} {}", stretch.position, stretch.length)
 }
 
 /// Bytes in rows of 16: where the row starts, the bytes in hexadecimal, and as text.
@@ -80,6 +91,10 @@ impl Trial {
         let (pool, storage) = self.held.as_mut()?;
         Some(match call {
             Call::Show(slip, n) => show(pool, storage, *slip, *n),
+            Call::List(slip) => {
+                let records = listed(pool, storage, *slip);
+                records.map_or_else(Answer::from, Answer::Listed)
+            }
             _ => made(pool, storage, call).unwrap_or_else(Answer::from),
         })
     }
@@ -109,7 +124,7 @@ impl Trial {
     }
 }
 
-/// Any call on an open pool but show.
+/// Any call on an open pool but show and list.
 fn made(pool: &mut [u8], storage: &mut [u8], call: &Call) -> Result<Answer, Refusal> {
     let mut pool = Pool::attach(pool, storage)?;
     match call {
@@ -131,7 +146,7 @@ fn made(pool: &mut [u8], storage: &mut [u8], call: &Call) -> Result<Answer, Refu
             let bytes = pool.read(*slip, *offset, *length, &mut output)?;
             return Ok(Answer::Read(bytes.to_vec()));
         }
-        Call::Pool(_) | Call::Audit | Call::Show(..) => pool.audit()?,
+        Call::Pool(_) | Call::Audit | Call::Show(..) | Call::List(_) => pool.audit()?,
     }
     Ok(Answer::Done)
 }
@@ -149,4 +164,13 @@ fn show(pool: &[u8], storage: &[u8], slip: Slip, n: u32) -> Answer {
     };
     let bytes = shown.view(storage, &scratch).to_vec();
     Answer::Shown { bytes, place }
+}
+
+/// The records of a slip's wire list.
+pub fn listed(pool: &[u8], storage: &[u8], slip: Slip) -> Result<Vec<Stretch>, Refusal> {
+    // No chain has more pieces, so a list of as many records is never too short.
+    let mut list = vec![Stretch::default(); Shape::MOST.pieces as usize];
+    let records = calls::stretches(pool, storage, slip.0, &mut list).result()?;
+    list.truncate(records as usize);
+    Ok(list)
 }
