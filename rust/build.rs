@@ -1,10 +1,11 @@
-//! Finds the archive `libslp.a` and links it; without it only the model's own tests can be run.
+//! Finds the archive `libslp.a` and links it; without it only the model's own tests can be run. Links the test entry
+//! `libfollows.a` beside it into the tests alone, if it is there.
 
 use std::env;
 use std::path::PathBuf;
 
 fn main() {
-    println!("cargo::rustc-check-cfg=cfg(fulcrumnest_lib)");
+    println!("cargo::rustc-check-cfg=cfg(fulcrumnest_lib, fulcrumnest_follows)");
     println!("cargo::rerun-if-env-changed=FULCRUMNEST_LIB");
     println!("cargo::rerun-if-changed=build.rs");
 
@@ -27,6 +28,13 @@ fn main() {
         println!("cargo::rustc-link-search=native={}", directory.display());
         println!("cargo::rustc-link-lib=static=slp");
         println!("cargo::rustc-cfg=fulcrumnest_lib");
+
+        let entry = directory.join("libfollows.a");
+        println!("cargo::rerun-if-changed={}", entry.display());
+        if entry.is_file() {
+            println!("cargo::rustc-link-arg-tests={}", entry.display());
+            println!("cargo::rustc-cfg=fulcrumnest_follows");
+        }
     } else if named.is_some() {
         panic!("FULCRUMNEST_LIB: no archive at {}", archive.display());
     } else {

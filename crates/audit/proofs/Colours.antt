@@ -5,22 +5,24 @@ use mathlib.Core.Bool.{true, false, not, true≢false, false≢true}
 use mathlib.Core.List.{List}
 use Prim.Native.Nat.{ℕ, zero, suc, _+_, _-_, _≤_, _<_}
 use native.Mathlib.Nat.{le-refl, not-suc-le-zero}
-use native.Mathlib.Decide.{ℕ-discrete}
+use native.Mathlib.Decide.{ℕ-discrete, decLt}
 use native.Mathlib.Omega.{arith}
 use lib.ListN.{length, getD, set, length-set, length-replicate, getD-replicate}
 use lib.Seq.{getD-set-same, getD-set-other}
 use lib.Dec.{ltb, ltb→lt, lt→ltb, eqb, eqb→eq}
 use borrow.Author.Tests.{eq-eqb, ne-eqb}
 use Rattle.kinds.specs.Limits.{mostPieces}
-use Rattle.rules.specs.Basics.{bit}
+use Rattle.rules.specs.Basics.{Is, bit}
 use Rattle.rules.specs.Tables.{Tables, piece, pieceTotal}
 use Rattle.rules.specs.Chain.{follow}
 use Rattle.rules.specs.Sound.{acyclic}
-use Rattle.rules.proofs.Logic.{bit-T, bit-F, bit-one, is-true, is-false, eq→eqb, all-intro, all-at}
-use Rattle.rules.proofs.Sums.{sumTo-change, sumTo-none, sumTo-ones}
+use Rattle.rules.proofs.Logic.{bit-T, bit-F, bit-one, is-true, is-false, same-test, eq→eqb, all-intro, all-at}
+use Rattle.rules.proofs.Sums.{sumTo-same, sumTo-one, sumTo-change, sumTo-none, sumTo-ones}
 use Rattle.rules.proofs.Audit.{follow-more}
 use Rattle.counts.specs.Counters.{zeros}
-use Rattle.audit.specs.Colours.{coloured, Scanned, Walked}
+use Rattle.audit.specs.Follows.{endsFrom, isMet, followsOf}
+use Rattle.audit.specs.Colours.{coloured, Covered, Scanned, Walked}
+use Rattle.audit.proofs.Follows.{follow-last, met-by, met-from, follows-all}
 
 -- ---- following next
 
@@ -67,11 +69,21 @@ unfolding coloured
 coloured-none c n z =
     sumTo-none n (λ d. bit (ltb 0 (getD c d 0))) (λ d l h. omega (arith, ap (λ x. bit (ltb 0 x)) (z d l)))
 
+coloured-all : (c : List ℕ) (n : ℕ) → ((d : ℕ) → d < n → 0 < getD c d 0) → coloured c n ≡ n
+unfolding coloured
+coloured-all c n h =
+    sumTo-same n (λ d. bit (ltb 0 (getD c d 0))) (λ _. 1) (λ d l. bit-T (ltb 0 (getD c d 0)) (lt→ltb 0 (getD c d 0) (h d l))) ∙ sumTo-one n
+
+-- a link to a piece with a colour is covered
+cover : (c : List ℕ) {n d : ℕ} → n ≡ suc d → 0 < getD c d 0 → Covered c n
+cover c {n} {d} to p e q = (let i : e ≡ d = omega arith in omega (arith, ap (λ x. getD c x 0) i))
+
 -- ---- one walk
 
 -- What holds at each step of the walk from piece a, which began with the colours c₀ and n₀ follows. Its colour is a + 1.
 -- `onward`: where following next from here ends within k, from each piece of this walk it ends within k and the walk's
--- own follows. `backward`: where it ends from a piece of this walk, it ends from here in fewer.
+-- own follows. `backward`: where it ends from a piece of this walk, it ends from here in fewer. `closed`: next leads from a
+-- piece with a colour to here, or to none without.
 pub record InWalk (T : Tables) (c₀ : List ℕ) (n₀ a : ℕ) (c : List ℕ) (link n : ℕ) : Type 0 where
   pub long : length c ≡ mostPieces
   pub in-range : link ≤ pieceTotal T
@@ -81,9 +93,13 @@ pub record InWalk (T : Tables) (c₀ : List ℕ) (n₀ a : ℕ) (c : List ℕ) (
   pub onward : (e : ℕ) → e < pieceTotal T → getD c e 0 ≡ a + 1 → (k : ℕ) → follow T k link ≡ 0 → follow T (k + (n - n₀)) (suc e) ≡ 0
   pub backward : (e : ℕ) → e < pieceTotal T → getD c e 0 ≡ a + 1 → (k : ℕ) → follow T k (suc e) ≡ 0 → (j : ℕ) × (j < k) × (follow T j link ≡ 0)
   pub begun : (link ≡ a + 1) ⊎ (getD c a 0 ≡ a + 1)
+  pub here : follow T (n - n₀) (suc a) ≡ link
+  pub met : (e w : ℕ) → e < pieceTotal T → getD c e 0 ≡ suc w → (k : ℕ) × (k < n) × (follow T k (suc w) ≡ suc e)
+  pub closed : (e : ℕ) → e < pieceTotal T → 0 < getD c e 0 → (piece T e .next ≡ link) ⊎ Covered c (piece T e .next)
 
 module _ {T : Tables} {c₀ : List ℕ} {n₀ a : ℕ} (r : Scanned T c₀ n₀ a) (l : a < pieceTotal T) where
   pub walk-start : InWalk T c₀ n₀ a c₀ (a + 1) n₀
+  unfolding follow
   walk-start = record {
     long = r .long;
     in-range = omega arith;
@@ -93,9 +109,12 @@ module _ {T : Tables} {c₀ : List ℕ} {n₀ a : ℕ} (r : Scanned T c₀ n₀ 
     onward = λ e m q. absurd (omega (arith, r .older e m));
     backward = λ e m q. absurd (omega (arith, r .older e m));
     begun = inl refl;
+    here = (let z : n₀ - n₀ ≡ 0 = omega arith in ap (λ k. follow T k (suc a)) z ∙ omega arith);
+    met = r .met;
+    closed = λ e m p. inr (r .closed e m p);
   }
 
-  module _ {c : List ℕ} {link n : ℕ} (v : InWalk T c₀ n₀ a c link n) (d : ℕ) (here : link ≡ suc d) where
+  module _ {c : List ℕ} {link n : ℕ} (v : InWalk T c₀ n₀ a c link n) (d : ℕ) (to : link ≡ suc d) where
     inside : d < pieceTotal T
     inside = omega (arith, v .in-range)
 
@@ -113,19 +132,28 @@ module _ {T : Tables} {c₀ : List ℕ} {n₀ a : ℕ} (r : Scanned T c₀ n₀ 
       onward = λ e m q k h. elim (ℕ-discrete e d) [
         | yes s ↦ follow-more T (suc k) (k + (n + 1 - n₀)) (suc e) (omega (arith, v .later)) (rw s (follow-on T k d h))
         | no s ↦ follow-more T (suc k + (n - n₀)) (k + (n + 1 - n₀)) (suc e) (omega (arith, v .later))
-            (v .onward e m (sym (other e s) ∙ q) (suc k) (rw here (follow-on T k d h)))
+            (v .onward e m (sym (other e s) ∙ q) (suc k) (rw to (follow-on T k d h)))
       ];
       backward = λ e m q k h. elim (ℕ-discrete e d) [
         | yes s ↦ follow-back T k d (rw s at h)
         | no s ↦ (
             let t = v .backward e m (sym (other e s) ∙ q) k h in
-            let u = follow-back T (t .0) d (rw here at (t .2)) in
+            let u = follow-back T (t .0) d (rw to at (t .2)) in
             (u .0, omega (arith, t .1, u .1), u .2))
       ];
       begun = inr (elim (ℕ-discrete a d) [
         | yes s ↦ at a s
         | no s ↦ ⊎-elim (λ x. absurd (omega arith)) (λ x. other a s ∙ x) (v .begun)
       ]);
+      here = ap (λ k. follow T k (suc a)) (omega (arith, v .later)) ∙ follow-last T (n - n₀) (suc a) d (v .here ∙ to);
+      met = λ e w m q. elim (ℕ-discrete e d) [
+        | yes s ↦ (let f : w ≡ a = omega (arith, at e s) in (n - n₀, omega (arith, v .later), rw (f, s) (v .here ∙ to)))
+        | no s ↦ (let t = v .met e w m (sym (other e s) ∙ q) in (t .0, omega (arith, t .1), t .2))
+      ];
+      closed = λ e m p. elim (ℕ-discrete e d) [
+        | yes s ↦ inl (ap (λ x. piece T x .next) s)
+        | no s ↦ inr (⊎-elim (λ x. cover (set c d (a + 1)) (x ∙ to) (omega (arith, at d refl))) (λ x f q. kept f (x f q)) (v .closed e m (omega (arith, other e s))))
+      ];
     }
       where
         short : d < length c
@@ -137,13 +165,16 @@ module _ {T : Tables} {c₀ : List ℕ} {n₀ a : ℕ} (r : Scanned T c₀ n₀ 
         other : (e : ℕ) → e ≢ d → getD (set c d (a + 1)) e 0 ≡ getD c e 0
         other e s = getD-set-other c d e (a + 1) 0 s
 
+        kept : (e : ℕ) → 0 < getD c e 0 → 0 < getD (set c d (a + 1)) e 0
+        kept e p = elim (ℕ-discrete e d) [ yes s ↦ omega (arith, at e s) | no s ↦ omega (arith, other e s) ]
+
   module _ {c : List ℕ} {link n : ℕ} (v : InWalk T c₀ n₀ a c link n) where
     pub walk-most : n ≤ pieceTotal T
     walk-most = omega (arith, v .follows, coloured-most c (pieceTotal T))
 
     -- where following next from here ends within the follows before this walk, the walk ends
-    walk-good : follow T n₀ link ≡ 0 → 0 < getD c a 0 → Walked T c a n true
-    walk-good h s = record {
+    walk-good : follow T n₀ link ≡ 0 → 0 < getD c a 0 → Covered c link → Walked T c a n true
+    walk-good h s g = record {
       bounded = walk-most;
       good = λ _. record {
         long = v .long;
@@ -160,15 +191,18 @@ module _ {T : Tables} {c₀ : List ℕ} {n₀ a : ℕ} (r : Scanned T c₀ n₀ 
             (λ x. follow-more T (n₀ + (n - n₀)) n (suc e) (omega (arith, v .later)) (v .onward e m x n₀ h))
             (λ x. follow-more T n₀ n (suc e) (v .later) (r .ended e m (omega arith)))
             (v .either e m);
+        met = v .met;
+        closed = λ e m p. ⊎-elim (λ x f q. g f (sym x ∙ q)) (λ x. x) (v .closed e m p);
       };
       bad = λ q. absurd (true≢false q);
     }
 
     -- it ends at no piece
     pub walk-none : link ≡ 0 → Walked T c a n true
-    walk-none z = walk-good (rw z (none-ends T n₀)) (⊎-elim (λ x. absurd (omega arith)) (λ x. omega arith) (v .begun))
+    walk-none z =
+        walk-good (rw z (none-ends T n₀)) (⊎-elim (λ x. absurd (omega arith)) (λ x. omega arith) (v .begun)) (λ f q. absurd (omega arith))
 
-    module _ (d : ℕ) (here : link ≡ suc d) where
+    module _ (d : ℕ) (to : link ≡ suc d) where
       m : d < pieceTotal T
       m = omega (arith, v .in-range)
 
@@ -176,20 +210,74 @@ module _ {T : Tables} {c₀ : List ℕ} {n₀ a : ℕ} (r : Scanned T c₀ n₀ 
       walk-met : 0 < getD c d 0 → getD c d 0 ≢ a + 1 → Walked T c a n true
       walk-met p q =
           let old : getD c d 0 ≡ getD c₀ d 0 = ⊎-elim (λ x. absurd (q x)) (λ x. x) (v .either d m) in
-          walk-good (rw here (r .ended d m (omega arith)))
+          walk-good (rw to (r .ended d m (omega arith)))
           (⊎-elim (λ x. (let s : d ≡ a = omega arith in omega (arith, ap (λ y. getD c y 0) s))) (λ x. omega arith) (v .begun))
+          (cover c to p)
 
-      -- it comes back to a piece of its own
-      walk-back : getD c d 0 ≡ a + 1 → Walked T c a n false
-      unfolding acyclic
-      walk-back q =
-          let P = pieceTotal T in
-          let never = descent (λ k. follow T k (suc d) ≡ 0) (λ k h. rw here at (v .backward d m q k h)) in
-          record {
-            bounded = walk-most;
-            good = λ x. absurd (false≢true x);
-            bad = λ _. is-false _ (λ t. never P (eqb→eq (follow T P (suc d)) 0 (all-at P (λ e. eqb (follow T P (suc e)) 0) t d m)));
-          }
+      -- it comes back to a piece of its own, so it never ends, and all that is met has a colour
+      module _ (q : getD c d 0 ≡ a + 1) where
+        never : (k : ℕ) → follow T k (suc d) ≡ 0 → ⊥
+        never = descent (λ k. follow T k (suc d) ≡ 0) (λ k h. rw to at (v .backward d m q k h))
+
+        first : getD c a 0 ≡ a + 1
+        first = ⊎-elim (λ x. (let s : d ≡ a = omega arith in rw s at q)) (λ x. x) (v .begun)
+
+        -- from the pieces before a following next ends, from a it does not
+        before : (e : ℕ) → e < a → Is (endsFrom T e)
+        before e s =
+            eq→eqb _ _ (follow-more T n₀ (pieceTotal T) (suc e) (omega (arith, r .follows, coloured-most c₀ (pieceTotal T)))
+            (r .ended e (omega arith) (r .passed e s)))
+
+        endless : Is (endsFrom T a) → ⊥
+        endless t = (let u = v .backward a l first (pieceTotal T) (eqb→eq _ _ t) in never (u .0) (sym (ap (follow T (u .0)) to) ∙ u .2))
+
+        closed : (e : ℕ) → e < pieceTotal T → 0 < getD c e 0 → Covered c (piece T e .next)
+        closed e i p = ⊎-elim (λ x. cover c (x ∙ to) (omega arith)) (λ x. x) (v .closed e i p)
+
+        -- a piece that is walked from is a or before it, so it has a colour
+        begins : (f : ℕ) → ((i : ℕ) → i < f → Is (endsFrom T i)) → 0 < getD c f 0
+        begins f ends =
+            elim (ℕ-discrete f a) [
+              | yes s ↦ omega (arith, first, ap (λ y. getD c y 0) s)
+              | no s ↦ (elim (decLt a f) [
+                | yes u ↦ absurd (endless (ends a u))
+                | no u ↦ ⊎-elim (λ x. omega arith) (λ x. omega (arith, r .passed f (omega arith))) (v .either f (omega arith))
+              ])
+            ]
+
+        -- following next comes to pieces with a colour only
+        stays : (k n e : ℕ) → n ≤ pieceTotal T → Covered c n → follow T k n ≡ suc e → 0 < getD c e 0
+        unfolding follow
+        stays zero n e i g h = g e h
+        stays (suc k) zero e i g h = absurd (omega arith)
+        stays (suc k) (suc f) e i g h = stays k (piece T f .next) e (r .linked f (omega arith)) (closed f (omega arith) (g f refl)) h
+
+        -- a piece is met exactly where it has a colour
+        coloured-met : (e : ℕ) → e < pieceTotal T → ltb 0 (getD c e 0) ≡ isMet T e
+        coloured-met e i = same-test _ _ there back
+          where
+            there : Is (ltb 0 (getD c e 0)) → Is (isMet T e)
+            there t =
+                let p = ltb→lt 0 (getD c e 0) t in
+                let (k, s, h) = v .met e (getD c e 0 - 1) i (omega arith) in
+                let o : getD c e 0 ≤ a + 1 = ⊎-elim (λ x. omega arith) (λ x. omega (arith, r .older e i)) (v .either e i) in
+                met-by T (getD c e 0 - 1) e k (omega arith) (λ f u. before f (omega arith)) (omega (arith, walk-most)) h
+
+            back : Is (isMet T e) → Is (ltb 0 (getD c e 0))
+            back t =
+                let (f, k, s, ends, h) = met-from T e t in
+                lt→ltb 0 (getD c e 0) (stays k (suc f) e s (cover c refl (begins f ends)) h)
+
+        walk-back : Walked T c a n false
+        unfolding acyclic followsOf coloured
+        walk-back = record {
+          bounded = walk-most;
+          good = λ x. absurd (false≢true x);
+          bad = λ _. (
+            is-false _ (λ t. endless (all-at (pieceTotal T) (endsFrom T) t a l)),
+            v .follows ∙ sumTo-same (pieceTotal T) _ _ (λ e i. ap bit (coloured-met e i)),
+          );
+        }
 
       -- it comes to a piece that has a colour
       pub walk-seen : getD c d 0 ≢ 0 → Walked T c a n (not (eqb (getD c d 0) (a + 1)))
@@ -213,13 +301,14 @@ scan-start T few linked =
       older = λ e l. omega (arith, zero-at e l);
       passed = λ e l. absurd (not-suc-le-zero l);
       ended = λ e l p. absurd (omega (arith, zero-at e l));
+      met = λ e w l q. absurd (omega (arith, zero-at e l));
+      closed = λ e l p. absurd (omega (arith, zero-at e l));
     }
 
-pub scan-end : {T : Tables} {c : List ℕ} {n d : ℕ} → Scanned T c n d → pieceTotal T ≤ d → (acyclic T ≡ true) × (n ≤ pieceTotal T)
+pub scan-end : {T : Tables} {c : List ℕ} {n d : ℕ} → Scanned T c n d → pieceTotal T ≤ d → (acyclic T ≡ true) × (n ≡ followsOf T) × (n ≤ pieceTotal T)
 unfolding acyclic
 scan-end {T} {c} {n} v k =
     let P = pieceTotal T in
-    let m : n ≤ P = omega (arith, v .follows, coloured-most c P) in (
-      is-true _ (all-intro P (λ d. eqb (follow T P (suc d)) 0) (λ e l. eq→eqb (follow T P (suc e)) 0 (follow-more T n P (suc e) m (v .ended e l (v .passed e (omega arith)))))),
-      m,
-    )
+    let all : n ≡ P = v .follows ∙ coloured-all c P (λ e l. v .passed e (omega arith)) in
+    let ends : Is (acyclic T) = all-intro P (endsFrom T) (λ e l. eq→eqb (follow T P (suc e)) 0 (follow-more T n P (suc e) (omega arith) (v .ended e l (v .passed e (omega arith))))) in
+    (is-true _ ends, all ∙ sym (follows-all T ends), omega arith)

@@ -1,4 +1,5 @@
 -- The laws of audit.
+pub mod Follows
 pub mod Colours
 pub mod Verdict
 pub mod Laws

@@ -1,5 +1,5 @@
 -- The verdict from the header's tests and the tables'. Assumes nothing.
-use mathlib.Core.Path.{_≡_, sym}
+use mathlib.Core.Path.{_≡_, sym, _∙_}
 use mathlib.Core.Bool.{Bool, true, false, false≢true}
 use mathlib.Core.List.{List}
 use Prim.Native.Nat.{ℕ, _≤_, _<_}
@@ -9,12 +9,13 @@ use Rattle.rules.specs.Basics.{Is}
 use Rattle.rules.specs.Tables.{pieceTotal}
 use Rattle.rules.specs.Bytes.{buffersIn, piecesIn, slipsIn, decode}
 use Rattle.rules.specs.Sound.{Lent, headerOk, soundTables, sound}
-use Rattle.rules.proofs.Logic.{is-true, is-false, and-0}
+use Rattle.rules.proofs.Logic.{is-true, is-false, and-0, if-T, if-F}
 use Rattle.rules.proofs.Bytes.{and-is, eqb-is, leb-is, Header, header-facts, header-test, decode-pieces}
 use Rattle.tables.specs.declared.Shape.{Shape}
 use Rattle.tables.proofs.Laws.{fits-by}
 use Rattle.audit.specs.Header.{partsOk}
 use Rattle.counts.specs.Counters.{Limited, zeros}
+use Rattle.audit.specs.Follows.{tablesFollows, auditFollows}
 use Rattle.audit.specs.Verdict.{tornAnswer, Verdict}
 
 -- the shape h is the header's
@@ -28,9 +29,10 @@ lent p st = record { pool = p; storage = st }
 
 -- a header that is not good makes the pool torn
 torn : (p : List ℕ) (n : ℕ) (h : Shape) → ((st : List ℕ) → length st ≡ n → Header (lent p st) → ⊥) → Verdict p n (tornAnswer h)
-unfolding sound
+unfolding sound auditFollows
 torn p n h never = record {
   exact = λ st l. sym (is-false _ (λ t. never st l (header-facts (lent p st) (and-0 (headerOk (lent p st)) _ t))));
+  counted = λ st l. sym (if-F (headerOk (lent p st)) _ 0 (λ t. never st l (header-facts (lent p st) t)));
   bounded = omega arith;
   shaped = λ q. absurd (false≢true q);
 }
@@ -59,10 +61,12 @@ module _ {p : List ℕ} (n : ℕ) {h : Shape} (o : Of p h) where
           few-slips = omega arith;
         }
 
-    pub verdict-tables : {r : Bool} {m : ℕ} → r ≡ soundTables (decode p) → m ≤ pieceTotal (decode p) → Verdict p n (record { sound = r; follows = m; shape = h })
-    unfolding sound
-    verdict-tables e l = record {
+    pub verdict-tables : {r : Bool} {m : ℕ} → r ≡ soundTables (decode p) → m ≡ tablesFollows (decode p) → m ≤ pieceTotal (decode p) →
+        Verdict p n (record { sound = r; follows = m; shape = h })
+    unfolding sound auditFollows
+    verdict-tables e f l = record {
       exact = λ st w. rw (is-true (headerOk (lent p st)) (header-test (lent p st) (good-header st w))) e;
+      counted = λ st w. f ∙ sym (if-T (headerOk (lent p st)) _ 0 (header-test (lent p st) (good-header st w)));
       bounded = omega (arith, decode-pieces p);
       shaped = λ _. good-limits .shaped;
     }

@@ -10,13 +10,19 @@ use Rattle.rules.specs.Basics.{bit, sumTo}
 use Rattle.rules.specs.Tables.{Tables, piece, pieceTotal}
 use Rattle.rules.specs.Chain.{follow}
 use Rattle.rules.specs.Sound.{acyclic}
+use Rattle.audit.specs.Follows.{followsOf}
 
 -- how many of the first n pieces have a colour
 unfoldable pub coloured : List ℕ → ℕ → ℕ
 coloured c n = sumTo n (λ d. bit (ltb 0 (getD c d 0)))
 
+-- where the link n leads to a piece, that piece has a colour
+abbrev pub Covered : List ℕ → ℕ → Type 0
+Covered c n = (e : ℕ) → n ≡ suc e → 0 < getD c e 0
+
 -- The pieces before d have been walked from, with n follows and the colours c: n is the number of pieces with a
--- colour, no colour is above d, and from each piece with a colour following next ends within n follows.
+-- colour, no colour is above d, and from each piece with a colour following next ends within n follows. A colour
+-- says from which piece its piece was met, and next leads from a piece with a colour to none without.
 pub record Scanned (T : Tables) (c : List ℕ) (n d : ℕ) : Type 0 where
   pub long : length c ≡ mostPieces
   pub few : pieceTotal T ≤ mostPieces
@@ -26,9 +32,11 @@ pub record Scanned (T : Tables) (c : List ℕ) (n d : ℕ) : Type 0 where
   pub older : (e : ℕ) → e < pieceTotal T → getD c e 0 ≤ d
   pub passed : (e : ℕ) → e < d → 0 < getD c e 0
   pub ended : (e : ℕ) → e < pieceTotal T → 0 < getD c e 0 → follow T n (suc e) ≡ 0
+  pub met : (e w : ℕ) → e < pieceTotal T → getD c e 0 ≡ suc w → (k : ℕ) × (k < n) × (follow T k (suc w) ≡ suc e)
+  pub closed : (e : ℕ) → e < pieceTotal T → 0 < getD c e 0 → Covered c (piece T e .next)
 
--- What a walk from piece d leaves: n follows, and whether it ends.
+-- What a walk from piece d leaves: n follows, at most P, and whether it ends. Where it comes back, n is the follows of all walks.
 pub record Walked (T : Tables) (c : List ℕ) (d n : ℕ) (ends : Bool) : Type 0 where
   pub bounded : n ≤ pieceTotal T
   pub good : ends ≡ true → Scanned T c n (d + 1)
-  pub bad : ends ≡ false → acyclic T ≡ false
+  pub bad : ends ≡ false → (acyclic T ≡ false) × (n ≡ followsOf T)

@@ -14,6 +14,7 @@ ghost use Rattle.rules.specs.Sound.{acyclic, soundTables};
 ghost use Rattle.counts.specs.Ranges.{piecesInRange};
 ghost use Rattle.counts.specs.Counters.{Limited};
 ghost use Rattle.audit.specs.Header.{markOk, sizesOk, partsOk};
+ghost use Rattle.audit.specs.Follows.{followsOf, tablesFollows};
 ghost use Rattle.audit.specs.Colours.{Scanned, Walked};
 ghost use Rattle.audit.specs.Verdict.{tornAnswer, Verdict};
 
@@ -52,6 +53,7 @@ fn walk(pool: &[u8], shape: Shape, colours: &mut [u16; PIECES], d: u16, follows:
             };
         }
         colours[i] = colour;
+        // Next is followed here alone, and counted.
         link = tables::piece_next(pool, shape, PieceNumber(at));
         n += 1;
     }
@@ -61,10 +63,10 @@ fn walk(pool: &[u8], shape: Shape, colours: &mut [u16; PIECES], d: u16, follows:
     }
 }
 
-// Whether following next ends from every piece, with the follows that this took.
+// Whether following next ends from every piece, with the follows that this took: one for each piece met, at most P.
 fn ends(pool: &[u8], shape: Shape) -> Followed
     requires { ⌜ Limited (now pool) shape × (piecesInRange (decode (now pool)) ≡ true) ⌝ }
-    ensures { λ r. ⌜ (r .ends ≡ acyclic (decode (now (pool .entry)))) × (r .follows ≤ pieceTotal (decode (now (pool .entry)))) ⌝ }
+    ensures { λ r. ⌜ (r .ends ≡ acyclic (decode (now (pool .entry)))) × (r .follows ≡ followsOf (decode (now (pool .entry)))) × (r .follows ≤ pieceTotal (decode (now (pool .entry)))) ⌝ }
 {
     let mut colours = [0u16; PIECES];
     let mut n: u16 = 0;
@@ -86,7 +88,7 @@ fn ends(pool: &[u8], shape: Shape) -> Followed
 // Whether the tables are sound, with how often next was followed.
 fn tables_ok(pool: &[u8], shape: Shape) -> Followed
     requires { ⌜ Limited (now pool) shape ⌝ }
-    ensures { λ r. ⌜ (r .ends ≡ soundTables (decode (now (pool .entry)))) × (r .follows ≤ pieceTotal (decode (now (pool .entry)))) ⌝ }
+    ensures { λ r. ⌜ (r .ends ≡ soundTables (decode (now (pool .entry)))) × (r .follows ≡ tablesFollows (decode (now (pool .entry)))) × (r .follows ≤ pieceTotal (decode (now (pool .entry)))) ⌝ }
 {
     if !counts::references_ok(pool, shape) {
         return Followed {

@@ -31,7 +31,7 @@ returns : tie.Need-returns Inv-loop μ-loop
 returns c =
     let v = c .before .before .walk in
     let e : v .result .ends ≡ false = not-true _ (c .if2 .taken) in
-    (e ∙ sym (v .ensures .bad e), v .ensures .bounded)
+    (e ∙ sym (v .ensures .bad e .0), v .ensures .bad e .1, v .ensures .bounded)
 
 add-d : tie.Need-add-d Inv-loop μ-loop
 add-d c = let w = c .before .before .before .before .before .before in omega (arith, w .before .before .pre .0 .few-pieces)
@@ -47,7 +47,7 @@ returns-2 c =
     let w = c .before .before in
     let k = totals (w .before .before .pre .0) in
     let v = scan-end (w .loop .inv) (omega arith) in
-    (sym (v .0), v .1)
+    (sym (v .0), v .1, v .2)
 
 pub ends-spec : {M : Type 1} → statement M
 ends-spec =

@@ -1,0 +1,2 @@
+-- The laws of follows.
+pub mod Laws
