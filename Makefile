@@ -1,10 +1,11 @@
 # make test: the gate, as .ci/run. make prove: every crate, with what is unchanged taken as proved.
 # make demo: the walk-through, proved and run: document 01's morning, with the tables after each call.
 # make lib: the archive target/staticlib/libslp.a. make bench: the cost of the audit and of the operations beside the same by hand, as ratios.
+# make follows: how often an audit follows next on worst-case pools, beside the bound, by the test entry target/staticlib/libfollows.a.
 # make soak: CALLS random calls of the library beside the model, compared after each; SEED starts another run.
 # make install: archive, header and pkg-config file to PREFIX (under DESTDIR, if given); the archive as it stands, made first if there is none.
 # make uninstall: takes the three away again.
-.PHONY: test prove demo lib bench soak fmt clean install uninstall
+.PHONY: test prove demo lib bench follows soak fmt clean install uninstall
 
 CALLS = 20000000
 SEED = 1
@@ -28,6 +29,10 @@ lib:
 
 bench:
 	tools/bench
+
+follows: lib
+	rt staticlib follows
+	cd rust && cargo test --offline --test follows worst_cases -- --nocapture
 
 soak: lib
 	cd rust && FULCRUMNEST_CALLS=$(CALLS) FULCRUMNEST_SEED=$(SEED) cargo test --offline --test changing random_lists -- --nocapture

@@ -6,7 +6,7 @@ mod common;
 
 use common::damage;
 use common::model::{Call, Piece, Slip, Tables, TRUE};
-use common::nexts::{worst_cases, Nexts};
+use common::nexts::{self, figure, worst_cases, Nexts};
 use common::random::Random;
 use common::sequence::{pools, setting};
 use fulcrumnest::calls;
@@ -49,20 +49,22 @@ fn follows(what: &str, nexts: &Nexts) -> usize {
     follows
 }
 
-/// Worst cases of every size; those of the most pieces are printed beside the bound.
+/// Worst cases of every size; those of the figure are printed beside the bound.
 #[test]
 fn worst_cases_of_every_size() {
-    for p in 1..256 {
+    for p in 1..=256 {
         for (what, nexts) in worst_cases(p) {
             follows(what, &nexts);
         }
     }
-    println!("| pool of 256 pieces | code | follows | bound 2·P | walks that remember nothing |");
-    println!("|---|---|---|---|---|");
-    for (what, nexts) in worst_cases(256) {
+    println!("| pool | P | code | follows | bound 2·P | remembering nothing |");
+    println!("|---|---|---|---|---|---|");
+    for (what, nexts) in figure() {
+        let p = nexts.next.len();
         let code = if nexts.walked().0 { 0 } else { 2 };
-        let (follows, forgetful) = (follows(what, &nexts), nexts.forgetful());
-        println!("| {what} | {code} | {follows} | 512 | {forgetful} |");
+        let (follows, bound) = (follows(what, &nexts), 2 * p);
+        let forgetful = nexts.forgetful();
+        println!("| {what} | {p} | {code} | {follows} | {bound} | {forgetful} |");
     }
 }
 
@@ -101,16 +103,19 @@ fn every_table_of_few_pieces() {
     assert_eq!(codes, [18_248, 0, 107_877]);
 }
 
-/// Random nexts: forests, and such as mostly have a ring somewhere.
+/// Random nexts, with and without a ring.
 #[test]
 fn random_tables() {
     let times = 4_000 * setting("FULCRUMNEST_TIMES", 1).max(1);
     let mut random = Random::new(setting("FULCRUMNEST_SEED", 20_000));
     let mut most = [0.0f64; 2];
     for i in 0..times {
-        let nexts = random_nexts(&mut random, i % 2 == 0);
-        let part = follows("random", &nexts) as f64 / nexts.next.len() as f64;
+        let p = random.between(1, 256) as usize;
+        let mut below = |n: usize| random.below(n as u64) as usize;
+        let nexts = nexts::random(p, i % 2 == 1, &mut below);
+        let part = follows("random", &nexts) as f64 / p as f64;
         let torn = usize::from(!nexts.walked().0);
+        assert_eq!(torn as u64, i % 2);
         most[torn] = most[torn].max(part);
     }
     println!(
@@ -118,33 +123,6 @@ fn random_tables() {
         most[0], most[1]
     );
     assert_eq!(most, [1.0, 1.0]);
-}
-
-/// Nexts of some pieces, of which at most 64 are nobody's next. In a forest each leads to a piece of a lower place in some order.
-fn random_nexts(random: &mut Random, forest: bool) -> Nexts {
-    let p = random.between(1, 256) as usize;
-    let mut order: Vec<usize> = (0..p).collect();
-    for i in (1..p).rev() {
-        order.swap(i, random.below(i as u64 + 1) as usize);
-    }
-    let mut next = vec![None; p];
-    let mut ends = vec![order[0]];
-    for i in 1..p {
-        // From an end of its own, so that it is somebody's next, or from anywhere while slips are left.
-        let anywhere = ends.len() < 64 && random.once_in(4);
-        let to = if anywhere {
-            order[random.below(i as u64) as usize]
-        } else {
-            ends[random.below(ends.len() as u64) as usize]
-        };
-        next[order[i]] = Some(to);
-        ends.retain(|end| *end != to);
-        ends.push(order[i]);
-    }
-    if !forest && random.once_in(2) {
-        next[order[0]] = Some(random.pick(&order));
-    }
-    Nexts::headed(next)
 }
 
 /// Pools that random lists of calls leave: exactly P follows.

@@ -117,16 +117,16 @@ fn single(p: usize) -> Nexts {
     }
 }
 
-/// A chain, and further pieces that each have one of its pieces next: tooth i of t leads to where `place(i, t, spine)` says.
-fn comb(p: usize, place: impl Fn(usize, usize, usize) -> usize) -> Nexts {
+/// A chain, the spine, and teeth that each have one of its pieces next: tooth i the piece `place(i, teeth, spine)`.
+fn teeth(p: usize, place: impl Fn(usize, usize, usize) -> usize) -> Nexts {
     let teeth = (SLIPS - 1).min(p / 2);
     let spine = p - teeth;
-    let mut comb = chain(spine);
+    let mut all = chain(spine);
     for i in 0..teeth {
-        comb.next.push(Some(place(i, teeth, spine)));
-        comb.heads.push(spine + i);
+        all.next.push(Some(place(i, teeth, spine)));
+        all.heads.push(spine + i);
     }
-    comb
+    all
 }
 
 /// A chain that ends in a ring of its last `ring` pieces; no slip heads a ring of all.
@@ -136,47 +136,96 @@ fn into_ring(p: usize, ring: usize) -> Nexts {
     Nexts::headed(next)
 }
 
+/// A chain of all pieces but the last, which is a ring by itself.
+fn beside_ring(p: usize) -> Nexts {
+    let mut next = chain(p - 1).next;
+    next.push(Some(p - 1));
+    Nexts::headed(next)
+}
+
+/// Nexts in no order, of which at most 64 are nobody's: each piece leads to one of a lower place in some order, so that none
+/// comes back, but the piece of the lowest place, which leads anywhere if `ring` says so. `below(n)` is any number below n.
+pub fn random(p: usize, ring: bool, below: &mut dyn FnMut(usize) -> usize) -> Nexts {
+    let mut order: Vec<usize> = (0..p).collect();
+    for i in (1..p).rev() {
+        order.swap(i, below(i + 1));
+    }
+    let mut next = vec![None; p];
+    // The pieces so far that are nobody's next: a slip each.
+    let mut headed = vec![order[0]];
+    for i in 1..p {
+        let branches = headed.len() < SLIPS && below(4) == 0;
+        let to = match branches {
+            true => order[below(i)],
+            false => headed[below(headed.len())],
+        };
+        next[order[i]] = Some(to);
+        headed.retain(|d| *d != to);
+        headed.push(order[i]);
+    }
+    if ring {
+        next[order[0]] = Some(order[below(p)]);
+    }
+    Nexts::headed(next)
+}
+
 /// The pools of p pieces in which next could be followed often, by name: sound ones, then such as a ring makes torn.
 pub fn worst_cases(p: usize) -> Vec<(&'static str, Nexts)> {
     let against = |d: usize| p - 1 - d;
+    let mut state = p as u32;
+    let mut below = |n: usize| {
+        state = state.wrapping_mul(1_664_525).wrapping_add(1_013_904_223);
+        (state >> 8) as usize % n
+    };
     let mut order: Vec<usize> = (0..p).collect();
-    order.sort_by_key(|d| (*d as u32).wrapping_mul(2_654_435_761));
-    let scattered = |d: usize| order[d];
-    let even = comb(p, |i, teeth, spine| i * spine / teeth);
-    let brush = comb(p, |_, _, _| 0);
-    let mut apart = chain(p);
-    if p > 1 {
-        apart.next[p - 2] = None;
+    for i in (1..p).rev() {
+        order.swap(i, below(i + 1));
     }
-    apart.next[p - 1] = Some(p - 1);
-    let apart = Nexts::headed(apart.next);
-    let alone = Nexts::headed((0..p).map(Some).collect());
+    let scattered = |d: usize| order[d];
+    let comb = teeth(p, |i, teeth, spine| i * spine / teeth);
+    let brush = teeth(p, |_, _, _| 0);
+    let free = Nexts {
+        next: vec![None; p],
+        heads: vec![],
+    };
     vec![
         ("one chain, numbered along next", chain(p)),
-        ("one chain, against next", chain(p).numbered(against)),
-        ("one chain, scattered", chain(p).numbered(scattered)),
-        ("chains of one, as many as slips", single(p)),
-        ("64 chains", dealt(p)),
-        ("comb, the spine first", even.clone()),
-        ("comb, the teeth first", even.numbered(against)),
-        ("comb, scattered", even.numbered(scattered)),
-        ("brush, the handle first", brush.clone()),
-        ("brush, the bristles first", brush.numbered(against)),
         (
-            "all free",
-            Nexts {
-                next: vec![None; p],
-                heads: vec![],
-            },
+            "one chain, numbered against next",
+            chain(p).numbered(against),
         ),
-        ("one ring", into_ring(p, p)),
-        ("rings of one", alone),
+        (
+            "one chain, numbered at random",
+            chain(p).numbered(scattered),
+        ),
+        ("chains of one, as many as slips or pieces", single(p)),
+        ("64 chains, dealt out in turn", dealt(p)),
+        ("comb, spine before teeth", comb.clone()),
+        ("comb, teeth before spine", comb.numbered(against)),
+        ("comb, numbered at random", comb.numbered(scattered)),
+        ("all teeth at the spine's start, spine first", brush.clone()),
+        (
+            "all teeth at the spine's start, teeth first",
+            brush.numbered(against),
+        ),
+        ("random, no ring", random(p, false, &mut below)),
+        ("every piece free", free),
+        ("one ring of all", into_ring(p, p)),
+        ("rings of one", Nexts::headed((0..p).map(Some).collect())),
         ("one chain into a ring of one", into_ring(p, 1)),
         ("one chain into a ring of half", into_ring(p, p.div_ceil(2))),
         (
-            "the same, scattered",
+            "the same, numbered at random",
             into_ring(p, p.div_ceil(2)).numbered(scattered),
         ),
-        ("one chain, and a ring in the last piece", apart),
+        ("one chain, and a ring of one numbered last", beside_ring(p)),
+        ("random, with a ring", random(p, true, &mut below)),
     ]
+}
+
+/// The worst cases of the most pieces, and as many chains of one as a pool can have pieces for: those of the figure.
+pub fn figure() -> Vec<(&'static str, Nexts)> {
+    let mut cases = worst_cases(256);
+    cases.insert(4, ("chains of one, no piece free", single(SLIPS)));
+    cases
 }
