@@ -4,6 +4,8 @@
 
 mod common;
 
+use std::fs;
+
 use common::damage;
 use common::model::{Call, Piece, Slip, Tables, TRUE};
 use common::nexts::{self, figure, worst_cases, Nexts};
@@ -40,11 +42,11 @@ fn audit(pool: &[u8], storage: &[u8]) -> (u16, usize) {
 fn follows(what: &str, nexts: &Nexts) -> usize {
     let (pool, storage) = nexts.bytes();
     let (code, follows) = audit(&pool, &storage);
-    let (ends, met) = nexts.walked();
+    let walked = nexts.walked();
     let p = nexts.next.len();
-    assert_eq!(code, if ends { 0 } else { 2 }, "{what}: {nexts:?}");
-    assert_eq!(follows, met, "{what}: {nexts:?}");
-    assert!(!ends || follows == p, "{what}: {nexts:?}");
+    assert_eq!(code, if walked.ends { 0 } else { 2 }, "{what}: {nexts:?}");
+    assert_eq!(follows, walked.met, "{what}: {nexts:?}");
+    assert!(!walked.ends || follows == p, "{what}: {nexts:?}");
     assert!(follows <= p, "{what}: {nexts:?}");
     follows
 }
@@ -61,9 +63,10 @@ fn worst_cases_of_every_size() {
     println!("|---|---|---|---|---|---|");
     for (what, nexts) in figure() {
         let p = nexts.next.len();
-        let code = if nexts.walked().0 { 0 } else { 2 };
+        let walked = nexts.walked();
+        let code = if walked.ends { 0 } else { 2 };
         let (follows, bound) = (follows(what, &nexts), 2 * p);
-        let forgetful = nexts.forgetful();
+        let forgetful = walked.forgetful;
         println!("| {what} | {p} | {code} | {follows} | {bound} | {forgetful} |");
     }
 }
@@ -91,7 +94,7 @@ fn every_table_of_few_pieces() {
             follows("every table", nexts);
             let (pool, storage) = nexts.bytes();
             let code = TRUE.step(&pool, &storage, &Call::Audit).code;
-            assert_eq!(code == 0, nexts.walked().0, "{nexts:?}");
+            assert_eq!(code == 0, nexts.walked().ends, "{nexts:?}");
             codes[code as usize] += 1;
         });
     }
@@ -99,7 +102,7 @@ fn every_table_of_few_pieces() {
         "{} tables without a ring and {} with one",
         codes[0], codes[2]
     );
-    // (p + 1)^p tables of p pieces, of which (p + 1)^(p - 1) have no ring: as many as forests of p pieces have.
+    // (p + 1)^p tables of p pieces, of which (p + 1)^(p - 1) have no ring: Cayley's number of rooted forests.
     assert_eq!(codes, [18_248, 0, 107_877]);
 }
 
@@ -114,7 +117,7 @@ fn random_tables() {
         let mut below = |n: usize| random.below(n as u64) as usize;
         let nexts = nexts::random(p, i % 2 == 1, &mut below);
         let part = follows("random", &nexts) as f64 / p as f64;
-        let torn = usize::from(!nexts.walked().0);
+        let torn = usize::from(!nexts.walked().ends);
         assert_eq!(torn as u64, i % 2);
         most[torn] = most[torn].max(part);
     }
@@ -123,6 +126,18 @@ fn random_tables() {
         most[0], most[1]
     );
     assert_eq!(most, [1.0, 1.0]);
+}
+
+/// The audit loads next at one place, and counts in the line below it, so nothing is followed uncounted.
+#[test]
+fn every_follow_is_counted() {
+    let path = concat!(env!("CARGO_MANIFEST_DIR"), "/../crates/audit/src/lib.rt");
+    let source = fs::read_to_string(path).expect("the audit's source");
+    let lines: Vec<&str> = source.lines().map(str::trim).collect();
+    let load = |line: &str| line.contains("piece_next") || line.contains("entry_of");
+    let places: Vec<usize> = (0..lines.len()).filter(|i| load(lines[*i])).collect();
+    assert_eq!(places.len(), 1, "{places:?}");
+    assert_eq!(lines[places[0] + 1], "n += 1;");
 }
 
 /// Pools that random lists of calls leave: exactly P follows.
@@ -172,7 +187,7 @@ fn wanted(pool: &[u8], storage: &[u8]) -> usize {
     match Tables::parse(pool, storage) {
         Some(tables) if counts_right(&tables) => {
             let next = tables.pieces.iter().map(|piece| piece.next);
-            Nexts::headed(next.collect()).walked().1
+            Nexts::headed(next.collect()).walked().met
         }
         _ => 0,
     }

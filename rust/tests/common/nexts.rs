@@ -71,34 +71,37 @@ impl Nexts {
         (met, true)
     }
 
-    /// Whether following next ends from every piece, and how many pieces are met up to the first from which it does not.
-    pub fn walked(&self) -> (bool, usize) {
-        let mut all = HashSet::new();
+    /// Follows next from each piece in turn, up to the first from which that does not end.
+    pub fn walked(&self) -> Walked {
+        let (mut ends, mut all, mut forgetful) = (true, HashSet::new(), 0);
         for d in 0..self.next.len() {
-            let (met, ends) = self.from(d);
+            let (met, ended) = self.from(d);
+            forgetful += met.len();
             all.extend(met);
-            if !ends {
-                return (false, all.len());
-            }
-        }
-        (true, all.len())
-    }
-
-    /// The follows of walks that remember nothing: from each piece by itself, up to the first walk that comes back.
-    pub fn forgetful(&self) -> usize {
-        let mut follows = 0;
-        for d in 0..self.next.len() {
-            let (met, ends) = self.from(d);
-            follows += met.len();
-            if !ends {
+            if !ended {
+                ends = false;
                 break;
             }
         }
-        follows
+        Walked {
+            ends,
+            met: all.len(),
+            forgetful,
+        }
     }
 }
 
-/// One chain of these pieces, in this order.
+/// What following next from each piece comes to, up to the first from which it does not end.
+pub struct Walked {
+    /// Whether it ends from every piece.
+    pub ends: bool,
+    /// How many pieces are met.
+    pub met: usize,
+    /// How often next is followed if each walk remembers nothing of those before it.
+    pub forgetful: usize,
+}
+
+/// One chain of all pieces, in the order of their numbers.
 fn chain(p: usize) -> Nexts {
     Nexts::headed((0..p).map(|d| (d + 1 < p).then_some(d + 1)).collect())
 }
@@ -143,13 +146,19 @@ fn beside_ring(p: usize) -> Nexts {
     Nexts::headed(next)
 }
 
-/// Nexts in no order, of which at most 64 are nobody's: each piece leads to one of a lower place in some order, so that none
-/// comes back, but the piece of the lowest place, which leads anywhere if `ring` says so. `below(n)` is any number below n.
-pub fn random(p: usize, ring: bool, below: &mut dyn FnMut(usize) -> usize) -> Nexts {
+/// The numbers below p in no order.
+fn shuffled(p: usize, below: &mut dyn FnMut(usize) -> usize) -> Vec<usize> {
     let mut order: Vec<usize> = (0..p).collect();
     for i in (1..p).rev() {
         order.swap(i, below(i + 1));
     }
+    order
+}
+
+/// Nexts in no order, of which at most 64 are nobody's: each piece leads to one of a lower place in some order, so that none
+/// comes back, but the piece of the lowest place, which leads anywhere if `ring` says so. `below(n)` is any number below n.
+pub fn random(p: usize, ring: bool, below: &mut dyn FnMut(usize) -> usize) -> Nexts {
+    let order = shuffled(p, below);
     let mut next = vec![None; p];
     // The pieces so far that are nobody's next: a slip each.
     let mut headed = vec![order[0]];
@@ -177,10 +186,7 @@ pub fn worst_cases(p: usize) -> Vec<(&'static str, Nexts)> {
         state = state.wrapping_mul(1_664_525).wrapping_add(1_013_904_223);
         (state >> 8) as usize % n
     };
-    let mut order: Vec<usize> = (0..p).collect();
-    for i in (1..p).rev() {
-        order.swap(i, below(i + 1));
-    }
+    let order = shuffled(p, &mut below);
     let scattered = |d: usize| order[d];
     let comb = teeth(p, |i, teeth, spine| i * spine / teeth);
     let brush = teeth(p, |_, _, _| 0);
@@ -223,7 +229,7 @@ pub fn worst_cases(p: usize) -> Vec<(&'static str, Nexts)> {
     ]
 }
 
-/// The worst cases of the most pieces, and as many chains of one as a pool can have pieces for: those of the figure.
+/// The pools of the figure: the worst cases of the most pieces, and chains of one that leave no piece free.
 pub fn figure() -> Vec<(&'static str, Nexts)> {
     let mut cases = worst_cases(256);
     cases.insert(4, ("chains of one, no piece free", single(SLIPS)));
