@@ -4,6 +4,7 @@ ghost use mathlib.Core.Path.{_≡_};
 ghost use Prim.Native.Nat.{_≤_};
 ghost use Rattle.rules.specs.Bytes.{piecesIn};
 ghost use Rattle.rules.specs.Step.{Audit, Do, step};
+ghost use Rattle.answer.specs.Result.{lent};
 ghost use Rattle.audit.specs.Follows.{auditFollows};
 
 // An audit's code, and how often it followed next: also where the pool is torn.
@@ -16,7 +17,7 @@ pub struct Counted {
 // audit, with how often it followed next: at most P times, whatever the pool.
 #[no_mangle]
 pub extern "C" fn slp_test_follows(pool: &[u8], storage: &[u8]) -> Counted
-    ensures { λ r. ⌜ (r .code ≡ step (Do Audit) (record { pool = now (pool .entry); storage = now (storage .entry) }) .code) × (r .follows ≡ auditFollows (record { pool = now (pool .entry); storage = now (storage .entry) })) × (r .follows ≤ piecesIn (now (pool .entry))) ⌝ }
+    ensures { λ r. ⌜ (r .code ≡ step (Do Audit) (lent (now (pool .entry)) (now (storage .entry))) .code) × (r .follows ≡ auditFollows (lent (now (pool .entry)) (now (storage .entry)))) × (r .follows ≤ piecesIn (now (pool .entry))) ⌝ }
 {
     let audited = audit::audit(pool, storage.len());
     let follows = audited.follows as u32;

@@ -204,7 +204,7 @@ pub fn worst_cases(p: usize) -> Vec<(&'static str, Nexts)> {
             "one chain, numbered at random",
             chain(p).numbered(scattered),
         ),
-        ("chains of one, as many as slips or pieces", single(p)),
+        ("chains of one, one for each slip, the rest free", single(p)),
         ("64 chains, dealt out in turn", dealt(p)),
         ("comb, spine before teeth", comb.clone()),
         ("comb, teeth before spine", comb.numbered(against)),
