@@ -29,9 +29,10 @@ fn main() {
         println!("cargo::rustc-link-lib=static=slp");
         println!("cargo::rustc-cfg=fulcrumnest_lib");
 
+        // Watched only where it is: for a file that is missing, cargo would build anew each time.
         let entry = directory.join("libfollows.a");
-        println!("cargo::rerun-if-changed={}", entry.display());
         if entry.is_file() {
+            println!("cargo::rerun-if-changed={}", entry.display());
             println!("cargo::rustc-link-arg-tests={}", entry.display());
             println!("cargo::rustc-cfg=fulcrumnest_follows");
         }
