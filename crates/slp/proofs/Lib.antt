@@ -1,3 +1,2 @@
 -- The laws of slp.
-pub mod Laws
 pub mod Records

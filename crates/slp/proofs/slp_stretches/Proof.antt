@@ -72,17 +72,17 @@ use Rattle.list.proofs.first as fst
 use Rattle.list.proofs.first.Symbol as fst-def
 use Rattle.list.proofs.first.Symbol.{name as #list·first}
 use Rattle.list.proofs.first.Met as fst-thm
-use Rattle.slp.specs.declared.Begun.{Begun}
-use Rattle.slp.specs.Result.{resultOf}
-use Rattle.slp.specs.Begin.{Begins}
+use Rattle.calls.specs.Result.{resultOf}
+use Rattle.calls_look.specs.declared.Begun.{Begun}
+use Rattle.calls_look.specs.Begin.{Begins}
+use Rattle.calls_look.proofs.Begun as B
+use Rattle.calls_look.proofs.Begun.Laws as B′
+use Rattle.calls_look.proofs.begin as beg
+use Rattle.calls_look.proofs.begin.Symbol as beg-def
+use Rattle.calls_look.proofs.begin.Symbol.{name as #calls-look·begin}
+use Rattle.calls_look.proofs.begin.Met as beg-thm
 use Rattle.slp.specs.Numbers.{numbers}
 use Rattle.slp.proofs.Records.{written, written-length, written-more, written-all, numbers-length}
-use Rattle.slp.proofs.Begun as B
-use Rattle.slp.proofs.Begun.Laws as B′
-use Rattle.slp.proofs.begin as beg
-use Rattle.slp.proofs.begin.Symbol as beg-def
-use Rattle.slp.proofs.begin.Symbol.{name as #slp·begin}
-use Rattle.slp.proofs.begin.Met as beg-thm
 use Rattle.slp.proofs.slp_stretches.Key.{name as #slp·slp-stretches}
 use Rattle.slp.proofs.slp_stretches as stretches
 use Rattle.slp.proofs.slp_stretches.Statement as stated
@@ -346,7 +346,7 @@ module _ {M : Type 1} (𝓤 : URA M) (H : Heap 𝓤) (A : Atoms 𝓤) (W : Given
         start : Sq W (J 0) (runs C Λ E pieces.t-6 (atRet E Post))
         start = let z : n - n ≡ 0 = omega arith in first ! $ blocks ! $ subst (λ (j : ℕ). Sq W (J j) (runs C Λ E (loop pieces.turn-1) (anyQ Left))) z looped
 
-  module _ (𝓣 : Tables 𝓤 H) (fm : FmC 𝓤 H (W .laws) (𝓣 .C)) (known-begin : Triple 𝓤 (𝓣 .C #slp·begin) (Begin 𝓤 H A at-mem run)) (known-first : Triple 𝓤 (𝓣 .C #list·first) (First 𝓤 H A at-mem run)) where
+  module _ (𝓣 : Tables 𝓤 H) (fm : FmC 𝓤 H (W .laws) (𝓣 .C)) (known-begin : Triple 𝓤 (𝓣 .C #calls-look·begin) (Begin 𝓤 H A at-mem run)) (known-first : Triple 𝓤 (𝓣 .C #list·first) (First 𝓤 H A at-mem run)) where
     walk : ent 𝓤 (onEntry 𝓤 H A stretches.signature (κ₀, (κ₁, (κ₂, tt))) (q₀, (q₁, (q₂, tt))) x at) (WpFn 𝓤 H (𝓣 .C) (𝓣 .Λ) code.function (ps ∷ ss ∷ vint w16 sl ∷ s ∷ []) Post)
     walk =
         qed W ((‵ (flft κ₀ q₀) ⊛ (‵ (flft κ₁ q₁) ⊛ (‵ (flft κ₂ q₂) ⊛ ‵ ftrue))) ∷ ‵ (owns (ShrSlice (named 0) κ₀ u8 ∷ ShrSlice (named 1) κ₁ u8 ∷ u16 ∷ MutSlice (named 2) κ₂ S ∷ []) x at) ∷ []) ∵
@@ -380,7 +380,7 @@ module _ {M : Type 1} (𝓤 : URA M) (H : Heap 𝓤) (A : Atoms 𝓤) (W : Given
         start y bs (fits-answer y u is) (fits-shape y u is) (fits-link y u is) 𝓣 fm known-first l₀ l₁ l₂ l₃ l₄ l₅ l₆ l₇ l₈ l₉ l₁₀ l₁₁ l₁₂ l₁₃))))))))))))))))))
 
 module _ {M : Type 1} (𝓤 : URA M) (H : Heap 𝓤) (A : Atoms 𝓤) (W : Given 𝓤 H A) (at-mem : Memory → SProp 𝓤) (run : Routine → Fun 𝓤) where
-  stretches-walks : (𝓣 : Tables 𝓤 H) → FmC 𝓤 H (W .laws) (𝓣 .C) → Triple 𝓤 (𝓣 .C #slp·begin) (Begin 𝓤 H A at-mem run) → Triple 𝓤 (𝓣 .C #list·first) (First 𝓤 H A at-mem run)
+  stretches-walks : (𝓣 : Tables 𝓤 H) → FmC 𝓤 H (W .laws) (𝓣 .C) → Triple 𝓤 (𝓣 .C #calls-look·begin) (Begin 𝓤 H A at-mem run) → Triple 𝓤 (𝓣 .C #list·first) (First 𝓤 H A at-mem run)
       → Walks 𝓤 H A stretches.ended stayed (WpFn 𝓤 H (𝓣 .C) (𝓣 .Λ) code.function) (stretches.clauses 𝓤 H A at-mem run)
   stretches-walks 𝓣 fm known-begin known-first = walked 𝓤 H A stretches.ended stayed (stretches.clauses 𝓤 H A at-mem run) (WpFn 𝓤 H (𝓣 .C) (𝓣 .Λ) code.function)
       (λ κs. (slice-vals, (slice-vals, (uint-vals w16, (slice-vals, tt)))))
@@ -389,7 +389,7 @@ module _ {M : Type 1} (𝓤 : URA M) (H : Heap 𝓤) (A : Atoms 𝓤) (W : Given
       (walk 𝓤 H A W at-mem run (κs .0) (κs .1 .0) (κs .1 .1 .0) (qs .0) (qs .1 .0) (qs .1 .1 .0) (a .0) (a .1 .0) (a .1 .1 .0) (a .1 .1 .1 .0 .ptr .0) (a .1 .1 .1 .0 .ptr .1) (a .1 .1 .1 .0 .name) (a .1 .1 .1 .0 .now)
       (are .0 .0 .1) (are .1 .0 .0 .1) (are .1 .1 .0 .1) (are .1 .1 .1 .0 .0 .1) 𝓣 fm known-begin known-first))
 
-stretches-meets : {M : Type 1} (𝓤 : URA M) (H : Heap 𝓤) (A : Atoms 𝓤) → Given 𝓤 H A → (at-mem : Memory → SProp 𝓤) (run : Routine → Fun 𝓤) (𝓣 : Tables 𝓤 H) → Triple 𝓤 (𝓣 .C #slp·begin) (Begin 𝓤 H A at-mem run)
+stretches-meets : {M : Type 1} (𝓤 : URA M) (H : Heap 𝓤) (A : Atoms 𝓤) → Given 𝓤 H A → (at-mem : Memory → SProp 𝓤) (run : Routine → Fun 𝓤) (𝓣 : Tables 𝓤 H) → Triple 𝓤 (𝓣 .C #calls-look·begin) (Begin 𝓤 H A at-mem run)
     → Triple 𝓤 (𝓣 .C #list·first) (First 𝓤 H A at-mem run) → Meets 𝓤 H A stretches.signature (WpFn 𝓤 H (𝓣 .C) (𝓣 .Λ) code.function) (stretches.spec 𝓤 H A at-mem run)
 stretches-meets 𝓤 H A W at-mem run 𝓣 known-begin known-first =
     walk-meets 𝓤 H A stretches.ended stayed W
@@ -402,5 +402,5 @@ slp-stretches-spec 𝓤 H 𝓜 𝓖 𝓡 =
     entered 𝓤 H (tripleOf 𝓤 H (𝓖 .A) stretches.signature (stretches.spec 𝓤 H (𝓖 .A) (𝓜 .mem) (𝓡 .run)))
     (tables 𝓤 H 𝓜 𝓡 code.env .C) (tables 𝓤 H 𝓜 𝓡 code.env .Λ) #slp·slp-stretches code.function (code.unfolded 𝓤 H 𝓜 𝓡)
     (stretches-meets 𝓤 H (𝓖 .A) (givenOf 𝓤 H 𝓜 𝓖) (𝓜 .mem) (𝓡 .run) (tablesOf 𝓤 H 𝓜 (tables 𝓤 H 𝓜 𝓡 code.env))
-    (cited 𝓤 H (Begin 𝓤 H (𝓖 .A) (𝓜 .mem) (𝓡 .run)) 𝓜 𝓡 code.env #slp·begin beg-def.routine code.calls-slp·begin (beg-thm.met 𝓤 H 𝓜 𝓖 𝓡))
+    (cited 𝓤 H (Begin 𝓤 H (𝓖 .A) (𝓜 .mem) (𝓡 .run)) 𝓜 𝓡 code.env #calls-look·begin beg-def.routine code.calls-calls-look·begin (beg-thm.met 𝓤 H 𝓜 𝓖 𝓡))
     (cited 𝓤 H (First 𝓤 H (𝓖 .A) (𝓜 .mem) (𝓡 .run)) 𝓜 𝓡 code.env #list·first fst-def.routine code.calls-list·first (fst-thm.met 𝓤 H 𝓜 𝓖 𝓡)))

@@ -1,0 +1,2 @@
+-- The laws that the bodies of the calls share.
+pub mod Laws

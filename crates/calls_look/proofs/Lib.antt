@@ -1,0 +1,2 @@
+-- The laws of calls_look.
+pub mod Laws

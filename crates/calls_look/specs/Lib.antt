@@ -1,0 +1,3 @@
+-- What the contracts of calls_look cite.
+pub mod Shown
+pub mod Begin

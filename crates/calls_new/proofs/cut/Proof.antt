@@ -1,0 +1,48 @@
+-- `calls_new::cut` meets its contract. Assumes nothing.
+use borrow.Author.Needs.{needs}
+use borrow.Author.Tests.{not-true, not-false}
+use Rattle.rules.specs.Step.{Cut}
+use Rattle.calls.proofs.Laws.{torn-answer, opened, answered}
+use Rattle.calls_new.proofs.cut.Statement.{statement}
+use Rattle.calls_new.proofs.cut.Tie as tie
+
+audit-requires : tie.Need-audit-requires
+audit-requires c κs = search needs
+
+refused-requires : tie.Need-refused-requires
+refused-requires c κs = search needs
+
+same-length : tie.Need-same-length
+same-length c = search needs
+
+returns : tie.Need-returns
+returns c =
+    let t = c .before in
+    let u = t .before .before in
+    let a = u .before .before .before .before .args in
+    torn-answer (a .storage .now) (u .audit .ensures) (not-true _ (t .if1 .taken)) (Cut (a .slip) (a .offset) (a .length)) (c .refused .ensures)
+
+cut-requires : tie.Need-cut-requires
+cut-requires c κs =
+    let e = c .before .before in
+    let u = e .before .before in
+    opened (u .before .before .before .before .args .storage .now) (u .audit .ensures) (not-false _ (e .if1 .left))
+
+answer-of-requires : tie.Need-answer-of-requires
+answer-of-requires c κs = search needs
+
+same-length-2 : tie.Need-same-length-2
+same-length-2 c = search needs
+
+returns-2 : tie.Need-returns-2
+returns-2 c =
+    let k = c .before .before .before in
+    let e = k .before .before .before in
+    let u = e .before .before in
+    let a = u .before .before .before .before .args in
+    answered (a .storage .now) (u .audit .ensures) (not-false _ (e .if1 .left)) (k .cut .result) (Cut (a .slip) (a .offset) (a .length)) (c .answer-of .ensures) (k .cut .ensures .0 (a .storage .now))
+
+pub cut-spec : {M : Type 1} → statement M
+cut-spec =
+    tie.close
+    (tie.spec audit-requires refused-requires same-length returns cut-requires answer-of-requires same-length-2 returns-2)

@@ -1,0 +1,2 @@
+-- The laws of calls_open.
+pub mod Laws
