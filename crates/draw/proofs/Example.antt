@@ -7,7 +7,9 @@ use Rattle.rules.specs.Chain.{walk, stretches, total}
 use Rattle.rules.specs.Morning.{p, state}
 use Rattle.page.specs.Page.{ascii}
 use Rattle.page.specs.Digits.{digitsIn}
-use Rattle.draw.specs.Text.{upTo, mostTo, restText, chainText, stateText, tablesText}
+use Rattle.draw_chain.specs.Text.{restText, chainText}
+use Rattle.draw_slips.specs.Text.{upTo, mostTo, stateText}
+use Rattle.draw.specs.Text.{tablesText}
 
 -- two chains share piece 1, and three pieces lie on buffer 0
 abbrev row3 : Tables

@@ -6,78 +6,19 @@
 --   buffers  b0 x2  b1 x2  b2 free  b3 free
 --   pieces   4 in use, 2 free
 use mathlib.Core.Bool.{Bool, _&&_}
-use mathlib.Core.List.{List, [], _∷_, _++_}
-use Prim.Native.Nat.{ℕ, zero, suc, _-_, max}
+use mathlib.Core.List.{List, _++_}
+use Prim.Native.Nat.{ℕ, _-_}
 use lib.ListN.{length}
 use lib.Dec.{eqb, leb}
 use Rattle.rules.specs.Basics.{if_then_else_}
 use Rattle.rules.specs.Layout.{poolLength}
-use Rattle.rules.specs.Tables.{Piece, Tables, slip, piece, bufferCount, slipTotal, pieceTotal, bufferTotal}
+use Rattle.rules.specs.Tables.{Tables, bufferCount, pieceTotal, bufferTotal}
 use Rattle.rules.specs.Bytes.{decode, buffersIn, piecesIn, slipsIn}
-use Rattle.rules.specs.Chain.{chain, lengthOf}
-use Rattle.rules.specs.Room.{isVacant, freePieces}
+use Rattle.rules.specs.Room.{freePieces}
 use Rattle.audit.specs.Header.{markOk}
 use Rattle.page.specs.Page.{ascii}
-use Rattle.page.specs.Digits.{digits, padded, tagged}
-
--- f 0, .., f (n - 1), one after the other
-unfoldable pub upTo : ℕ → (ℕ → List ℕ) → List ℕ
-upTo zero f = []
-upTo (suc n) f = upTo n f ++ f n
-
--- the greatest of f 0, .., f (n - 1), or 0
-unfoldable pub mostTo : ℕ → (ℕ → ℕ) → ℕ
-mostTo zero f = 0
-mostTo (suc n) f = max (mostTo n f) (f n)
-
--- ---- a piece and a chain
-
--- a count above 1 marks what is shared
-abbrev pub timesText : ℕ → List ℕ
-timesText n = if leb n 1 then [] else tagged "x" n
-
-abbrev pub pieceText : ℕ → Piece → List ℕ
-pieceText d x = tagged "p" d ++ tagged "[b" (x .buffer) ++ tagged " " (x .offset) ++ tagged "+" (x .len) ++ ascii "]" ++ timesText (x .count)
-
--- a piece behind another, and all that follow the first
-abbrev pub joinedText : ℕ → Piece → List ℕ
-joinedText d x = ascii " > " ++ pieceText d x
-
-unfoldable pub restText : Tables → List ℕ → List ℕ
-restText T [] = []
-restText T (d ∷ ds) = joinedText d (piece T d) ++ restText T ds
-
-unfoldable pub chainText : Tables → List ℕ → List ℕ
-chainText T [] = []
-chainText T (d ∷ ds) = pieceText d (piece T d) ++ restText T ds
-
--- ---- a slip
-
--- a length, right-aligned to w digits
-abbrev pub lengthText : ℕ → ℕ → List ℕ
-lengthText w n = ascii "  " ++ padded w n ++ ascii " bytes  "
-
--- what slip s holds
-unfoldable pub stateText : Tables → ℕ → ℕ → List ℕ
-stateText T w s =
-    if eqb (slip T s) 0
-    then ascii "  vacant"
-    else if eqb (slip T s) 1
-    then (lengthText w 0 ++ ascii "empty")
-    else (lengthText w (lengthOf T s) ++ chainText T (chain T s))
-
-abbrev pub slipText : Tables → ℕ → ℕ → List ℕ
-slipText T w s = tagged "  slip " s ++ stateText T w s ++ ascii "\n"
-
--- the digits of the longest length
-abbrev pub widthAt : Tables → ℕ → ℕ
-widthAt T s = if isVacant T s then 0 else length (digits (lengthOf T s))
-
-abbrev pub widest : Tables → ℕ
-widest T = mostTo (slipTotal T) (widthAt T)
-
-abbrev pub slipsText : Tables → List ℕ
-slipsText T = upTo (slipTotal T) (slipText T (widest T))
+use Rattle.page.specs.Digits.{tagged}
+use Rattle.draw_slips.specs.Text.{upTo, slipsText}
 
 -- ---- buffers and pieces
 

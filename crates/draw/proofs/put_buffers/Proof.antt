@@ -8,8 +8,9 @@ use Rattle.rules.specs.Bytes.{decode}
 use Rattle.tables.proofs.Laws.{whole, total-buffers}
 use Rattle.page.specs.Page.{page, Wrote}
 use Rattle.page.proofs.Page.{none, on, same, kept}
-use Rattle.draw.specs.Text.{upTo, bufferText}
-use Rattle.draw.proofs.Text.{up-none, up-on}
+use Rattle.draw_slips.specs.Text.{upTo}
+use Rattle.draw.specs.Text.{bufferText}
+use Rattle.draw_slips.proofs.Text.{up-none, up-on}
 use borrow.Author.Needs.{needs}
 use Rattle.draw.proofs.put_buffers.Statement.{statement}
 use Rattle.draw.proofs.put_buffers.Tie as tie

@@ -1,0 +1,2 @@
+-- The laws of draw_chain.
+pub mod Text

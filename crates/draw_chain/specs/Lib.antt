@@ -1,0 +1,2 @@
+-- How a chain is drawn.
+pub mod Text

@@ -1,0 +1,2 @@
+-- The laws of draw_slips.
+pub mod Text

@@ -1,0 +1,2 @@
+-- How the slips are drawn.
+pub mod Text
