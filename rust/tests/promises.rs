@@ -1,5 +1,5 @@
 //! The documents cite what is there: every definition and statement that docs/PROMISES.md names stands in the file that it names, every
-//! must-fail edit in its folder, and every path of the documents in the repository.
+//! idea of a must-fail edit in its crate, and every path of the documents in the repository.
 
 use std::fs;
 use std::path::{Path, PathBuf};
@@ -44,14 +44,36 @@ fn promises() -> String {
     text[start..].to_string()
 }
 
-/// The names of all must-fail edits.
-fn edits() -> Vec<String> {
+/// The ideas of all must-fail edits, each as `crate/idea`.
+fn ideas() -> Vec<String> {
     let crates = fs::read_dir(root().join("crates")).expect("the crates stand beside rust/");
-    crates
-        .filter_map(|entry| fs::read_dir(entry.ok()?.path().join("must-fail")).ok())
-        .flatten()
-        .filter_map(|entry| Some(entry.ok()?.file_name().to_str()?.to_string()))
-        .collect()
+    let of_crate = |folder: fs::DirEntry| {
+        let owner = folder.file_name().to_str().unwrap_or_default().to_string();
+        let edits = fs::read_dir(folder.path().join("must-fail")).ok();
+        let texts = edits.into_iter().flatten().flatten();
+        let text: String = texts.map(|edit| fs::read_to_string(edit.path()).unwrap_or_default()).collect();
+        let named = text.lines().filter_map(|line| line.strip_prefix("idea: "));
+        named.map(|idea| format!("{owner}/{idea}")).collect::<Vec<_>>()
+    };
+    crates.flatten().flat_map(of_crate).collect()
+}
+
+/// The ideas that a row of the table of calls cites, each as `crate/idea`: its second cell is `crate: ideas; crate: ideas`.
+fn cited_by_call(row: &str) -> Vec<String> {
+    let cell = row.split('|').nth(2).unwrap_or_default();
+    let of_crate = |part: &'_ str| {
+        let (owner, ideas) = part.split_once(": ").unwrap_or(("", part));
+        let owner = owner.trim().to_string();
+        quoted(ideas).map(|idea| format!("{owner}/{idea}")).collect::<Vec<_>>()
+    };
+    cell.split(';').flat_map(of_crate).collect()
+}
+
+/// The rows of the table of calls, in the order of the page.
+fn rows_by_call(promises: &str) -> impl Iterator<Item = &str> {
+    promises
+        .lines()
+        .filter(|line| line.starts_with("| `slp_") && line.matches('|').count() == 3)
 }
 
 #[test]
@@ -75,21 +97,20 @@ fn names_stand_in_the_files_that_are_cited() {
 }
 
 #[test]
-fn edits_stand_in_their_folders() {
-    let (promises, edits) = (promises(), edits());
-    let mut checked = 0;
-    for line in promises.lines() {
-        let by_call = line.starts_with("| `slp_") && line.matches('|').count() == 3;
-        for cited in quoted(line) {
-            let edit = cited.ends_with(".edit") && !cited.contains(' ');
-            if edit || by_call && !cited.starts_with("slp_") {
-                let name = format!("{}.edit", cited.trim_end_matches(".edit"));
-                assert!(edits.contains(&name), "no edit {name}");
-                checked += 1;
-            }
-        }
+fn ideas_stand_in_the_edits_of_their_crates() {
+    let (promises, ideas) = (promises(), ideas());
+    let crates = read("crates.txt");
+    let of_crate = |cited: &&str| {
+        let owner = cited.split_once('/').map(|(owner, _)| owner);
+        owner.is_some_and(|owner| crates.contains(&format!("\n{owner}:")))
+    };
+    let in_tables = quoted(&promises).filter(of_crate).map(str::to_string);
+    let by_call = rows_by_call(&promises).flat_map(cited_by_call);
+    let cited: Vec<String> = in_tables.chain(by_call).collect();
+    for idea in &cited {
+        assert!(ideas.contains(idea), "no idea {idea}");
     }
-    assert!(checked > 50, "only {checked} edits were found to check");
+    assert!(cited.len() > 80, "only {} ideas were found to check", cited.len());
 }
 
 /// The names of the functions that the C header declares.
@@ -105,17 +126,15 @@ fn declared() -> Vec<String> {
 }
 
 #[test]
-fn every_call_has_two_edits() {
+fn every_call_has_two_ideas() {
     let (promises, mut declared) = (promises(), declared());
-    let rows = promises
-        .lines()
-        .filter(|line| line.starts_with("| `slp_") && line.matches('|').count() == 3);
-    let rows: Vec<Vec<&str>> = rows.map(|row| quoted(row).collect()).collect();
-    let mut named: Vec<&str> = rows.iter().map(|row| row[0]).collect();
+    let mut named: Vec<&str> = rows_by_call(&promises).filter_map(|row| quoted(row).next()).collect();
     declared.sort_unstable();
     named.sort_unstable();
     assert_eq!(named, declared);
-    assert!(rows.iter().all(|row| row.len() > 2), "{rows:?}");
+    for row in rows_by_call(&promises) {
+        assert!(cited_by_call(row).len() > 1, "{row}");
+    }
 }
 
 /// Where a document's path leads: those below `specs/` and `proofs/` may leave out `crates/`.
