@@ -3,13 +3,15 @@
 
 mod common;
 
-use std::fs;
+use std::fs::{self, Permissions};
 use std::io::Write;
-use std::path::PathBuf;
+use std::os::unix::fs::{chown, symlink, FileTypeExt, MetadataExt, PermissionsExt};
+use std::path::{Path, PathBuf};
 use std::process::{Command, Stdio};
 
+use common::desk::data;
 use common::xml::{self, Element};
-use fulcrumnest::Refusal;
+use fulcrumnest::{pool_length, storage_length, Pool, Refusal, Shape};
 
 /// What a run of the command left.
 struct Left {
@@ -20,9 +22,14 @@ struct Left {
 
 /// Runs the command in the package's directory with this standard input.
 fn slp(arguments: &[&str], input: &[u8]) -> Left {
+    slp_in(Path::new(env!("CARGO_MANIFEST_DIR")), arguments, input)
+}
+
+/// The same in any directory.
+fn slp_in(place: &Path, arguments: &[&str], input: &[u8]) -> Left {
     let mut child = Command::new(env!("CARGO_BIN_EXE_slp"))
         .args(arguments)
-        .current_dir(env!("CARGO_MANIFEST_DIR"))
+        .current_dir(place)
         .stdin(Stdio::piped())
         .stdout(Stdio::piped())
         .stderr(Stdio::piped())
@@ -53,7 +60,7 @@ fn directory(name: &str) -> PathBuf {
     place
 }
 
-fn named(place: &std::path::Path, file: &str) -> String {
+fn named(place: &Path, file: &str) -> String {
     let path = place.join(file);
     path.to_str().expect("a path in UTF-8").to_string()
 }
@@ -484,13 +491,7 @@ fn save_refused() {
     let left = slp(&["save", "-", &pool, &storage], b"# nothing\n");
     assert_eq!(left.err, "-: no pool was opened, so none is saved\n");
     assert_eq!(left.status, 2);
-    let left = slp(&["save", "-", &pool, &pool], b"pool 4 6 4\n");
-    assert_eq!(
-        left.err,
-        format!("{pool}: named for the pool and for storage\n")
-    );
-    assert_eq!((left.out.as_str(), left.status), ("", 2));
-    assert!(fs::read_dir(&place).unwrap().next().is_none());
+    assert_eq!(files(&place), [""; 0]);
     let nowhere = named(&place, "none/pool");
     let left = slp(&["save", "-", &nowhere, &storage], b"pool 4 6 4\n");
     assert!(left
@@ -500,6 +501,230 @@ fn save_refused() {
         (left.out.as_str(), left.status),
         ("pool 4 6 4 -> done\n", 2)
     );
+}
+
+/// Calls whose pool and storage are saved, and the bytes that they come to.
+const SAVED: &[u8] = b"pool 4 6 4\nput 600\ncut 0 500 50\n";
+
+fn saved() -> (Vec<u8>, Vec<u8>) {
+    let shape = Shape {
+        buffers: 4,
+        pieces: 6,
+        slips: 4,
+    };
+    let mut pool = vec![0; pool_length(shape)];
+    let mut storage = vec![0; storage_length(shape.buffers)];
+    let mut open = Pool::open(&mut pool, &mut storage, shape).expect("the lengths that it asks");
+    let slip = open.put(&data(600)).expect("room");
+    open.cut(slip, 500, 50).expect("room");
+    (pool, storage)
+}
+
+/// The names in a directory, in order.
+fn files(place: &Path) -> Vec<String> {
+    let entries = fs::read_dir(place).expect("a directory");
+    let name = |entry: std::io::Result<fs::DirEntry>| entry.unwrap().file_name();
+    let mut names: Vec<_> = entries
+        .map(|entry| name(entry).into_string().unwrap())
+        .collect();
+    names.sort();
+    names
+}
+
+/// Both files are replaced and keep permissions and owner; nothing is left beside them.
+#[test]
+fn save_replaces() {
+    let place = directory("save-replaces");
+    let (pool, storage) = (named(&place, "pool"), named(&place, "storage"));
+    let of = |file: &str| {
+        let file = fs::metadata(file).unwrap();
+        (file.mode(), file.uid(), file.gid())
+    };
+    let left = slp(&["save", "-", &pool, &storage], SAVED);
+    assert_eq!((left.err.as_str(), left.status), ("", 0));
+    assert_eq!(fs::read(&pool).unwrap(), saved().0);
+    assert_eq!(fs::read(&storage).unwrap(), saved().1);
+    assert_eq!(files(&place), ["pool", "storage"]);
+    let plain = named(&place, "plain");
+    fs::write(&plain, "").unwrap();
+    assert_eq!(of(&pool), of(&plain));
+
+    for (file, mode) in [(&pool, 0o640), (&storage, 0o777)] {
+        fs::write(file, "old").unwrap();
+        // Only root may give a file away; others keep it, and it stays theirs.
+        let _ = chown(file, Some(1), Some(1));
+        fs::set_permissions(file, Permissions::from_mode(mode)).unwrap();
+    }
+    let before = (of(&pool), of(&storage));
+    let left = slp(&["save", "-", &pool, &storage], SAVED);
+    assert_eq!((left.err.as_str(), left.status), ("", 0));
+    assert_eq!(fs::read(&pool).unwrap(), saved().0);
+    assert_eq!(fs::read(&storage).unwrap(), saved().1);
+    assert_eq!((of(&pool), of(&storage)), before);
+    assert_eq!(files(&place), ["plain", "pool", "storage"]);
+}
+
+/// A link stays a link, to a file replaced or made; another name of that file keeps the old bytes.
+#[test]
+fn save_by_links() {
+    let place = directory("save-by-links");
+    fs::create_dir(place.join("far")).unwrap();
+    fs::write(place.join("far/pool"), "old").unwrap();
+    fs::hard_link(place.join("far/pool"), place.join("other")).unwrap();
+    symlink("second", place.join("first")).unwrap();
+    symlink("far/pool", place.join("second")).unwrap();
+    symlink(place.join("far/storage"), place.join("none")).unwrap();
+    let (pool, storage) = (named(&place, "first"), named(&place, "none"));
+    let left = slp(&["save", "-", &pool, &storage], SAVED);
+    assert_eq!((left.err.as_str(), left.status), ("", 0));
+    assert_eq!(fs::read(place.join("far/pool")).unwrap(), saved().0);
+    assert_eq!(fs::read(place.join("far/storage")).unwrap(), saved().1);
+    assert_eq!(fs::read(place.join("other")).unwrap(), b"old");
+    assert_eq!(fs::read_link(&pool).unwrap(), Path::new("second"));
+    assert!(fs::symlink_metadata(&storage).unwrap().is_symlink());
+    assert_eq!(files(&place), ["far", "first", "none", "other", "second"]);
+    assert_eq!(files(&place.join("far")), ["pool", "storage"]);
+}
+
+/// Where one of the two files can't be written, the other is as it was, or not there.
+#[test]
+fn save_both_or_neither() {
+    let place = directory("save-both-or-neither");
+    fs::write(place.join("old"), "old").unwrap();
+    fs::create_dir(place.join("directory")).unwrap();
+    symlink("ring", place.join("ring")).unwrap();
+    let before = files(&place);
+    let directories = [".", "directory", "directory/..", "file/", "file/."];
+    for bad in ["", "none/file", "old/file", "ring"]
+        .iter()
+        .chain(&directories)
+    {
+        for names in [["old", bad], [bad, "old"], ["new", bad], [bad, "new"]] {
+            let left = slp_in(&place, &["save", "-", names[0], names[1]], SAVED);
+            let start = format!("{bad}: can't be written: ");
+            assert!(left.err.starts_with(&start), "{}", left.err);
+            assert_eq!((left.err.lines().count(), left.status), (1, 2));
+            assert_eq!(fs::read(place.join("old")).unwrap(), b"old");
+            assert_eq!(files(&place), before);
+            assert_eq!(files(&place.join("directory")), [""; 0]);
+        }
+    }
+}
+
+/// What is no regular file is not replaced.
+#[test]
+fn save_to_a_pipe() {
+    let place = directory("save-to-a-pipe");
+    let pipe = named(&place, "pipe");
+    let made = Command::new("mkfifo").arg(&pipe).status();
+    assert!(made.expect("mkfifo runs").success());
+    // With both ends open, nobody who opens the pipe has to wait.
+    let _ends = fs::File::options().read(true).write(true).open(&pipe);
+    for names in [["file", "pipe"], ["pipe", "file"]] {
+        let left = slp_in(&place, &["save", "-", names[0], names[1]], SAVED);
+        let what = "pipe: can't be written: it is no regular file\n";
+        assert_eq!((left.err.as_str(), left.status), (what, 2));
+        assert!(fs::metadata(&pipe).unwrap().file_type().is_fifo());
+        assert_eq!(files(&place), ["pipe"]);
+    }
+}
+
+/// A storage that breaks off while it is written, since no file may grow so long.
+#[test]
+fn save_broken_off() {
+    let place = directory("save-broken-off");
+    let (pool, storage) = (named(&place, "pool"), named(&place, "storage"));
+    fs::write(place.join("calls.slp"), SAVED).unwrap();
+    fs::write(&pool, "old pool").unwrap();
+    fs::write(&storage, "old storage").unwrap();
+    let left = Command::new("sh")
+        .args(["-c", "trap '' XFSZ; ulimit -f 1; exec \"$@\"", "sh"])
+        .args([env!("CARGO_BIN_EXE_slp"), "save"])
+        .args([&named(&place, "calls.slp"), &pool, &storage])
+        .output()
+        .expect("the command ends");
+    let err = String::from_utf8(left.stderr).expect("text");
+    let start = format!("{storage}: can't be written: ");
+    assert!(err.starts_with(&start), "{err}");
+    assert_eq!(left.status.code(), Some(2));
+    assert_eq!(fs::read(&pool).unwrap(), b"old pool");
+    assert_eq!(fs::read(&storage).unwrap(), b"old storage");
+    assert_eq!(files(&place), ["calls.slp", "pool", "storage"]);
+}
+
+/// Two targets, and what is said of them where two of the three names are one file.
+const ONE_FILE: [(&str, &str, &str); 13] = [
+    ("file", "file", "file: STORAGE and POOL 'file'"),
+    ("file", "./file", "./file: STORAGE and POOL 'file'"),
+    ("file", "file-hard", "file-hard: STORAGE and POOL 'file'"),
+    ("file-link", "file", "file: STORAGE and POOL 'file-link'"),
+    (
+        "file-hard",
+        "here/file-link",
+        "here/file-link: STORAGE and POOL 'file-hard'",
+    ),
+    ("new", "new", "new: STORAGE and POOL 'new'"),
+    ("here/new", "new", "new: STORAGE and POOL 'here/new'"),
+    ("new", "new-link", "new-link: STORAGE and POOL 'new'"),
+    (
+        "none/new",
+        "none/new",
+        "none/new: STORAGE and POOL 'none/new'",
+    ),
+    ("calls", "new", "calls: POOL and FILE 'calls'"),
+    ("calls-hard", "new", "calls-hard: POOL and FILE 'calls'"),
+    ("new", "calls", "calls: STORAGE and FILE 'calls'"),
+    (
+        "file",
+        "here/calls-link",
+        "here/calls-link: STORAGE and FILE 'calls'",
+    ),
+];
+
+/// Two names of one file are refused before a call is made, whichever way they lead there.
+#[test]
+fn save_to_one_file() {
+    let place = directory("save-to-one-file");
+    fs::write(place.join("calls"), SAVED).unwrap();
+    fs::write(place.join("file"), "old").unwrap();
+    fs::hard_link(place.join("calls"), place.join("calls-hard")).unwrap();
+    fs::hard_link(place.join("file"), place.join("file-hard")).unwrap();
+    symlink("calls", place.join("calls-link")).unwrap();
+    symlink("file", place.join("file-link")).unwrap();
+    symlink("new", place.join("new-link")).unwrap();
+    symlink(".", place.join("here")).unwrap();
+    let before = files(&place);
+    for (pool, storage, what) in ONE_FILE {
+        let left = slp_in(&place, &["save", "calls", pool, storage], b"");
+        assert_eq!(left.err, format!("{what} are one file\n"));
+        assert_eq!((left.out.as_str(), left.status), ("", 2));
+        assert_eq!(fs::read(place.join("calls")).unwrap(), SAVED);
+        assert_eq!(fs::read(place.join("file")).unwrap(), b"old");
+        assert_eq!(files(&place), before);
+    }
+    // Two names of two files are none of this.
+    let left = slp_in(&place, &["save", "calls", "new", "file"], b"");
+    assert_eq!((left.err.as_str(), left.status), ("", 0));
+    assert_eq!(fs::read(place.join("new")).unwrap(), saved().0);
+    assert_eq!(fs::read(place.join("file")).unwrap(), saved().1);
+}
+
+/// Standard input is a file too, where it comes from one.
+#[test]
+fn save_over_input() {
+    let place = directory("save-over-input");
+    let (calls, storage) = (named(&place, "calls"), named(&place, "storage"));
+    fs::write(&calls, SAVED).unwrap();
+    let left = Command::new(env!("CARGO_BIN_EXE_slp"))
+        .args(["save", "-", &calls, &storage])
+        .stdin(fs::File::open(&calls).unwrap())
+        .output()
+        .expect("the command ends");
+    let what = format!("{calls}: POOL and FILE '-' are one file\n");
+    assert_eq!(String::from_utf8(left.stderr).unwrap(), what);
+    assert_eq!((left.stdout.len(), left.status.code()), (0, Some(2)));
+    assert_eq!(fs::read(&calls).unwrap(), SAVED);
+    assert_eq!(files(&place), ["calls"]);
 }
 
 /// The drawing is well-formed, has one box for each piece in use and an arrow for each reference.

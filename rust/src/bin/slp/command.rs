@@ -9,6 +9,7 @@ use std::process::ExitCode;
 
 use fulcrumnest::{calls, Picture, Refusal};
 
+use crate::save;
 use crate::script::{self, FORMS};
 use crate::trial::{listed, record, Answer, Trial};
 
@@ -17,7 +18,8 @@ slp run FILE [--draw]
     makes the calls of FILE, one a line, and prints each answer; with --draw
     the pool after each
 slp save FILE POOL STORAGE [--draw]
-    the same, and then writes pool and storage to these two files
+    the same, and then writes pool and storage to these two files, both or
+    neither; no two of the three names may be one file
 slp audit POOL STORAGE
     whether the pool in these files is sound
 slp draw POOL STORAGE [--svg]
@@ -42,13 +44,13 @@ list SLIP answers how many records there are, and prints each: position, length.
 ";
 
 /// What stops a command: where and what, to be printed as one line.
-struct Trouble {
+pub struct Trouble {
     place: String,
     what: String,
 }
 
 impl Trouble {
-    fn new(place: impl Display, what: impl Display) -> Trouble {
+    pub fn new(place: impl Display, what: impl Display) -> Trouble {
         Trouble {
             place: place.to_string(),
             what: what.to_string(),
@@ -234,20 +236,15 @@ fn save(
     storage: &OsString,
     draw: bool,
 ) -> Result<ExitCode, Trouble> {
-    if pool == storage {
-        let place = Path::new(pool).display();
-        return Err(Trouble::new(place, "named for the pool and for storage"));
-    }
+    save::apart(file, pool, storage)?;
     let trial = trial(file, draw)?;
     let Some((tables, buffers)) = trial.bytes() else {
         let place = Path::new(file).display();
         return Err(Trouble::new(place, "no pool was opened, so none is saved"));
     };
-    for (name, bytes) in [(pool, tables), (storage, buffers)] {
-        let place = Path::new(name).display();
-        fs::write(name, bytes)
-            .map_err(|error| Trouble::new(place, format!("can't be written: {error}")))?;
-    }
+    // While the calls were made, the names may have come to lead elsewhere.
+    save::apart(file, pool, storage)?;
+    save::write([(pool, tables), (storage, buffers)])?;
     Ok(ExitCode::SUCCESS)
 }
 

@@ -6,6 +6,8 @@
 #[cfg(fulcrumnest_lib)]
 mod command;
 #[cfg(fulcrumnest_lib)]
+mod save;
+#[cfg(fulcrumnest_lib)]
 mod script;
 #[cfg(fulcrumnest_lib)]
 mod trial;
