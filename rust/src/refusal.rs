@@ -5,63 +5,98 @@ use std::fmt;
 
 use crate::ffi::{Answer, Gathered, Shown};
 
-/// Why a call was refused. A refused call has changed nothing: not the pool, not storage, and
-/// nothing of an output, a scratch or a list.
-///
-/// Where several apply, the first of this list is given. It is printed with its code, its word and
-/// its meaning:
-///
-/// ```
-/// use fulcrumnest::Refusal;
-///
-/// let text = Refusal::Buffers.to_string();
-/// assert_eq!(text, "10 BUFFERS: more new buffers wanted than free");
-/// ```
-#[derive(Clone, Copy, Debug, PartialEq, Eq, PartialOrd, Ord, Hash)]
-#[non_exhaustive]
-#[repr(u16)]
-pub enum Refusal {
-    /// open: a count outside its range, or a lent length not the one it asks.
-    Counts = 1,
-    /// Any other call that has a pool: the pool isn't sound.
-    Torn = 2,
-    /// A named slip is S or more (S: how many slips the pool has), or vacant.
-    Slip = 3,
-    /// append names one slip twice.
-    Same = 4,
-    /// pullup or show asks more than 512 bytes.
-    Long = 5,
-    /// The asked bytes reach past the chain's end; offset and length are added as whole numbers.
-    Range = 6,
-    /// The lent output or scratch can't take the bytes to be copied, or the lent list the records.
-    Narrow = 7,
-    /// A new slip is wanted and none is vacant.
-    Slips = 8,
-    /// More new pieces are wanted than free.
-    Pieces = 9,
-    /// More new buffers are wanted than free.
-    Buffers = 10,
-    /// gather: a record is of no length or leaves storage; position and length are added as whole
-    /// numbers.
-    List = 11,
+/// Makes the enum of refusals, and all that goes by its rows, from the one table of codes. A row is
+/// a text for the documentation, then the variant, its code, the code's word and its meaning.
+macro_rules! codes {
+    (
+        $(#[$about:meta])*
+        pub enum $refusal:ident {
+            $($(#[$text:meta])+ $variant:ident = $code:literal, $word:literal, $meaning:literal;)+
+        }
+    ) => {
+        $(#[$about])*
+        pub enum $refusal {
+            $($(#[$text])+ $variant = $code,)+
+        }
+
+        impl $refusal {
+            /// Every refusal, by rising code.
+            pub const ALL: &'static [$refusal] = &[$($refusal::$variant),+];
+
+            /// The code's word.
+            pub const fn word(self) -> &'static str {
+                match self {
+                    $($refusal::$variant => $word,)+
+                }
+            }
+
+            /// When exactly it is given.
+            pub const fn meaning(self) -> &'static str {
+                match self {
+                    $($refusal::$variant => $meaning,)+
+                }
+            }
+        }
+    };
+}
+
+codes! {
+    /// Why a call was refused. A refused call has changed nothing: not the pool, not storage, and
+    /// nothing of an output, a scratch or a list.
+    ///
+    /// Where several apply, the first of this list is given. It is printed with its code, its word
+    /// and its meaning:
+    ///
+    /// ```
+    /// use fulcrumnest::Refusal;
+    ///
+    /// let text = Refusal::Buffers.to_string();
+    /// assert_eq!(text, "10 BUFFERS: more new buffers wanted than free");
+    /// ```
+    #[derive(Clone, Copy, Debug, PartialEq, Eq, PartialOrd, Ord, Hash)]
+    #[non_exhaustive]
+    #[repr(u16)]
+    pub enum Refusal {
+        /// open: a count outside its range, or a lent length not the one it asks.
+        Counts = 1, "COUNTS",
+            "open: a count outside its range, or a lent length not the one it asks";
+        /// Any other call that has a pool: the pool isn't sound.
+        Torn = 2, "TORN",
+            "the pool isn't sound";
+        /// A named slip is S or more (S: how many slips the pool has), or vacant.
+        Slip = 3, "SLIP",
+            "a named slip is S or more, or vacant";
+        /// append names one slip twice.
+        Same = 4, "SAME",
+            "append names one slip twice";
+        /// pullup or show asks more than 512 bytes.
+        Long = 5, "LONG",
+            "pullup or show asks more than 512";
+        /// The asked bytes reach past the chain's end; offset and length are added as whole
+        /// numbers.
+        Range = 6, "RANGE",
+            "the asked bytes reach past the chain's end, as whole numbers";
+        /// The lent output or scratch can't take the bytes to be copied, or the lent list the
+        /// records.
+        Narrow = 7, "NARROW",
+            "the lent output, scratch or list can't take the bytes or records";
+        /// A new slip is wanted and none is vacant.
+        Slips = 8, "SLIPS",
+            "a new slip is wanted and none is vacant";
+        /// More new pieces are wanted than free.
+        Pieces = 9, "PIECES",
+            "more new pieces wanted than free";
+        /// More new buffers are wanted than free.
+        Buffers = 10, "BUFFERS",
+            "more new buffers wanted than free";
+        /// gather: a record is of no length or leaves storage; position and length are added as
+        /// whole numbers.
+        List = 11, "LIST",
+            "gather: a record is of no length or leaves storage, as whole numbers";
+    }
 }
 
 impl Refusal {
-    /// Every refusal, by rising code.
-    pub const ALL: &'static [Refusal] = &[
-        Refusal::Counts,
-        Refusal::Torn,
-        Refusal::Slip,
-        Refusal::Same,
-        Refusal::Long,
-        Refusal::Range,
-        Refusal::Narrow,
-        Refusal::Slips,
-        Refusal::Pieces,
-        Refusal::Buffers,
-        Refusal::List,
-    ];
-
     /// The refusal of this code; none for 0, which is done, and for codes that no call gives.
     ///
     /// ```
@@ -77,42 +112,6 @@ impl Refusal {
     /// The code, as C receives it.
     pub const fn code(self) -> u16 {
         self as u16
-    }
-
-    /// The code's word.
-    pub const fn word(self) -> &'static str {
-        match self {
-            Refusal::Counts => "COUNTS",
-            Refusal::Torn => "TORN",
-            Refusal::Slip => "SLIP",
-            Refusal::Same => "SAME",
-            Refusal::Long => "LONG",
-            Refusal::Range => "RANGE",
-            Refusal::Narrow => "NARROW",
-            Refusal::Slips => "SLIPS",
-            Refusal::Pieces => "PIECES",
-            Refusal::Buffers => "BUFFERS",
-            Refusal::List => "LIST",
-        }
-    }
-
-    /// When exactly it is given.
-    pub const fn meaning(self) -> &'static str {
-        match self {
-            Refusal::Counts => {
-                "open: a count outside its range, or a lent length not the one it asks"
-            }
-            Refusal::Torn => "the pool isn't sound",
-            Refusal::Slip => "a named slip is S or more, or vacant",
-            Refusal::Same => "append names one slip twice",
-            Refusal::Long => "pullup or show asks more than 512",
-            Refusal::Range => "the asked bytes reach past the chain's end, as whole numbers",
-            Refusal::Narrow => "the lent output, scratch or list can't take the bytes or records",
-            Refusal::Slips => "a new slip is wanted and none is vacant",
-            Refusal::Pieces => "more new pieces wanted than free",
-            Refusal::Buffers => "more new buffers wanted than free",
-            Refusal::List => "gather: a record is of no length or leaves storage, as whole numbers",
-        }
     }
 }
 

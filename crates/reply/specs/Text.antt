@@ -11,9 +11,9 @@ use Rattle.page.specs.Digits.{tagged}
 use Rattle.reply.specs.declared.Reply.{Reply}
 use Rattle.reply.specs.declared.Reply.the-variants.{Slip, Done, Number}
 
--- document 01's names of the codes 1 to 10
+-- the names of the codes 1 to 11: document 01's, then document 02's
 abbrev pub names : List String
-names = "" ∷ " COUNTS" ∷ " TORN" ∷ " SLIP" ∷ " SAME" ∷ " LONG" ∷ " RANGE" ∷ " NARROW" ∷ " SLIPS" ∷ " PIECES" ∷ " BUFFERS" ∷ []
+names = "" ∷ " COUNTS" ∷ " TORN" ∷ " SLIP" ∷ " SAME" ∷ " LONG" ∷ " RANGE" ∷ " NARROW" ∷ " SLIPS" ∷ " PIECES" ∷ " BUFFERS" ∷ " LIST" ∷ []
 
 abbrev pub nameText : ℕ → List ℕ
 nameText code = ascii (getD names code "")

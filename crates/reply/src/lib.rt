@@ -26,6 +26,7 @@ fn put_name(out: &mut [u8], c: Cursor, code: u16) -> Cursor
         8 => page::put_text(out, c, b" SLIPS"),
         9 => page::put_text(out, c, b" PIECES"),
         10 => page::put_text(out, c, b" BUFFERS"),
+        11 => page::put_text(out, c, b" LIST"),
         _ => c,
     }
 }

@@ -6,21 +6,21 @@
 
 use std::ptr;
 
-use fulcrumnest::{Answer, Gathered, Shown, Stretch};
+use fulcrumnest::{Answer, Gathered, Refusal, Shown, Stretch};
 
 /// Bytes of one buffer.
 const SIZE: usize = 512;
 
-const TORN: u16 = 2;
-const SLIP: u16 = 3;
-const SAME: u16 = 4;
-const LONG: u16 = 5;
-const RANGE: u16 = 6;
-const NARROW: u16 = 7;
-const SLIPS: u16 = 8;
-const PIECES: u16 = 9;
-const BUFFERS: u16 = 10;
-const LIST: u16 = 11;
+const TORN: u16 = Refusal::Torn.code();
+const SLIP: u16 = Refusal::Slip.code();
+const SAME: u16 = Refusal::Same.code();
+const LONG: u16 = Refusal::Long.code();
+const RANGE: u16 = Refusal::Range.code();
+const NARROW: u16 = Refusal::Narrow.code();
+const SLIPS: u16 = Refusal::Slips.code();
+const PIECES: u16 = Refusal::Pieces.code();
+const BUFFERS: u16 = Refusal::Buffers.code();
+const LIST: u16 = Refusal::List.code();
 
 /// Where a piece's numbers stand behind its count.
 const BUFFER: usize = 2;

@@ -67,6 +67,12 @@ slice-aggregate-put-text-10 c = search needs
 put-text-requires-10 : tie.Need-put-text-requires-10
 put-text-requires-10 c κs = search needs
 
+slice-aggregate-put-text-11 : tie.Need-slice-aggregate-put-text-11
+slice-aggregate-put-text-11 c = search needs
+
+put-text-requires-11 : tie.Need-put-text-requires-11
+put-text-requires-11 c κs = search needs
+
 same-length : tie.Need-same-length
 same-length c = search needs
 
@@ -127,8 +133,14 @@ same-length-10 c = search needs
 returns-10 : tie.Need-returns-10
 returns-10 c = same (ap nameText (sym (c .before .before .before .before .before .match .keys10))) (c .before .before .put-text10 .ensures)
 
+same-length-11 : tie.Need-same-length-11
+same-length-11 c = search needs
+
 returns-11 : tie.Need-returns-11
-returns-11 c = same (name-none _ (c .match .rest)) none
+returns-11 c = same (ap nameText (sym (c .before .before .before .before .before .match .keys11))) (c .before .before .put-text11 .ensures)
+
+returns-12 : tie.Need-returns-12
+returns-12 c = same (name-none _ (c .match .rest)) none
 
 pub put-name-spec : {M : Type 1} → statement M
 put-name-spec =
@@ -154,6 +166,8 @@ put-name-spec =
     put-text-requires-9
     slice-aggregate-put-text-10
     put-text-requires-10
+    slice-aggregate-put-text-11
+    put-text-requires-11
     same-length
     returns
     same-length-2
@@ -174,4 +188,6 @@ put-name-spec =
     returns-9
     same-length-10
     returns-10
-    returns-11)
+    same-length-11
+    returns-11
+    returns-12)
