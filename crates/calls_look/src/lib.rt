@@ -96,13 +96,7 @@ pub fn read(
 }
 
 // show: the first bytes of a chain in one stretch, of storage or of a lent scratch.
-pub fn show(
-    pool: &[u8],
-    storage: &[u8],
-    slip: u16,
-    n: u32,
-    scratch: &mut [u8],
-) -> Shown
+pub fn show(pool: &[u8], storage: &[u8], slip: u16, n: u32, scratch: &mut [u8]) -> Shown
     ensures { λ r. ⌜ shownOf r (now (pool .entry)) (now (storage .entry)) (now (scratch .exit)) ≡ step (Do (Show slip n (now (scratch .entry)))) (lent (now (pool .entry)) (now (storage .entry))) ⌝ }
 {
     let audited = audit::audit(pool, storage.len());

@@ -34,13 +34,7 @@ pub fn dup(pool: &mut [u8], storage: &[u8], slip: u16) -> Answer
 }
 
 // cut: a new slip on a range of a chain.
-pub fn cut(
-    pool: &mut [u8],
-    storage: &[u8],
-    slip: u16,
-    offset: u32,
-    length: u32,
-) -> Answer
+pub fn cut(pool: &mut [u8], storage: &[u8], slip: u16, offset: u32, length: u32) -> Answer
     ensures { λ r. ⌜ resultOf r (now (pool .exit)) (now (storage .entry)) [] noView ≡ step (Do (Cut slip offset length)) (lent (now (pool .entry)) (now (storage .entry))) ⌝ }
 {
     let audited = audit::audit(pool, storage.len());
