@@ -4,7 +4,8 @@ mod common;
 
 use common::compare;
 use common::damage;
-use common::model::{Call, Model, Mutation, Outcome, MUTATIONS, TRUE};
+use common::model::{Call, Outcome, Rules, TRUE};
+use common::mutations::MUTATIONS;
 use common::random::{self, Random};
 use common::sequence::List;
 
@@ -12,12 +13,12 @@ use common::sequence::List;
 const BOUND: u64 = 60_000;
 
 /// A mutant beside the rules, and how many calls both have made.
-struct Suspect {
-    mutant: Model,
+struct Suspect<'a> {
+    mutant: &'a dyn Rules,
     calls: u64,
 }
 
-impl Suspect {
+impl Suspect<'_> {
     /// Makes a call by the rules and by the mutant from the same bytes, so that the first
     /// difference is the mutant's own.
     fn differs(&mut self, pool: &[u8], storage: &[u8], call: &Call) -> (bool, Outcome) {
@@ -67,11 +68,8 @@ impl Suspect {
 }
 
 /// After how many calls the mutant gives itself away, and by which call.
-fn caught_after(mutation: Mutation, first_seed: u64) -> Option<(u64, String)> {
-    let mut suspect = Suspect {
-        mutant: Model { mutation },
-        calls: 0,
-    };
+fn caught_after(mutant: &dyn Rules, first_seed: u64) -> Option<(u64, String)> {
+    let mut suspect = Suspect { mutant, calls: 0 };
     let mut seed = first_seed;
     while suspect.calls < BOUND {
         let mut list = List::start(seed, None);
@@ -90,12 +88,12 @@ fn caught_after(mutation: Mutation, first_seed: u64) -> Option<(u64, String)> {
 
 #[test]
 fn each_mutant_is_caught() {
-    assert!(MUTATIONS.len() >= 12, "{} mutants", MUTATIONS.len());
+    assert!(MUTATIONS.len() >= 56, "{} mutants", MUTATIONS.len());
     let mut free = Vec::new();
-    for &mutation in MUTATIONS {
-        match caught_after(mutation, 100) {
-            Some((calls, call)) => println!("{mutation:?}: after {calls} calls, by {call}"),
-            None => free.push(mutation),
+    for (name, mutant) in MUTATIONS {
+        match caught_after(*mutant, 100) {
+            Some((calls, call)) => println!("{name}: after {calls} calls, by {call}"),
+            None => free.push(name),
         }
     }
     assert!(free.is_empty(), "not caught in {BOUND} calls: {free:?}");
@@ -104,5 +102,5 @@ fn each_mutant_is_caught() {
 /// The rules themselves are not taken for a mutant.
 #[test]
 fn the_rules_are_not_caught() {
-    assert_eq!(caught_after(Mutation::None, 500), None);
+    assert_eq!(caught_after(&TRUE, 500), None);
 }

@@ -4,6 +4,8 @@
 //! A chain is a list of piece numbers, "own" is a length of its front, each call first plans the
 //! pieces that it wants and only then builds them. Nothing here is meant to be fast.
 
+use std::mem;
+
 /// Bytes of one buffer.
 pub const SIZE: u64 = 512;
 /// The most buffers, pieces and slips of a pool.
@@ -177,6 +179,16 @@ pub enum Slip {
     Heads(usize),
 }
 
+impl Slip {
+    /// The piece that the slip heads, if any.
+    pub fn head(self) -> Option<usize> {
+        match self {
+            Slip::Heads(d) => Some(d),
+            _ => None,
+        }
+    }
+}
+
 /// A piece's entry.
 #[derive(Clone, Copy, Debug, PartialEq, Eq)]
 pub struct Piece {
@@ -187,7 +199,7 @@ pub struct Piece {
     pub next: Option<usize>,
 }
 
-const ZERO: Piece = Piece {
+pub const ZERO: Piece = Piece {
     count: 0,
     buffer: 0,
     offset: 0,
@@ -220,6 +232,12 @@ fn counts_fit(buffers: u64, pieces: u64, slips: u64) -> bool {
         && (1..=MOST.2).contains(&slips)
 }
 
+/// Whether both lengths are exactly those that the counts ask.
+fn lengths_fit(pool: &[u8], storage: &[u8], buffers: u64, pieces: u64, slips: u64) -> bool {
+    pool.len() as u64 == pool_length(buffers, pieces, slips)
+        && storage.len() as u64 == SIZE * buffers
+}
+
 impl Tables {
     pub fn fresh(buffers: usize, pieces: usize, slips: usize) -> Tables {
         Tables {
@@ -235,38 +253,30 @@ impl Tables {
             return None;
         }
         let (b, p, s) = (word(pool, 5), word(pool, 7), word(pool, 9));
-        let lengths_fit =
-            pool.len() as u64 == pool_length(b, p, s) && storage.len() as u64 == SIZE * b;
-        if !counts_fit(b, p, s) || !lengths_fit {
+        if !counts_fit(b, p, s) || !lengths_fit(pool, storage, b, p, s) {
             return None;
         }
         let (b, p, s) = (b as usize, p as usize, s as usize);
-        let slips = (0..s)
-            .map(|i| match word(pool, 11 + 2 * i) {
-                0 => Slip::Vacant,
-                1 => Slip::Empty,
-                more => Slip::Heads(more as usize - 2),
-            })
-            .collect();
-        let pieces = (0..p)
-            .map(|d| {
-                let field = |k: usize| word(pool, 11 + 2 * s + 10 * d + 2 * k);
-                Piece {
-                    count: field(0),
-                    buffer: field(1) as usize,
-                    offset: field(2),
-                    length: field(3),
-                    next: field(4).checked_sub(1).map(|d| d as usize),
-                }
-            })
-            .collect();
-        let buffers = (0..b)
-            .map(|k| word(pool, 11 + 2 * s + 10 * p + 2 * k))
-            .collect();
+        let slip = |i: usize| match word(pool, 11 + 2 * i) {
+            0 => Slip::Vacant,
+            1 => Slip::Empty,
+            more => Slip::Heads(more as usize - 2),
+        };
+        let piece = |d: usize| {
+            let field = |k: usize| word(pool, 11 + 2 * s + 10 * d + 2 * k);
+            Piece {
+                count: field(0),
+                buffer: field(1) as usize,
+                offset: field(2),
+                length: field(3),
+                next: field(4).checked_sub(1).map(|d| d as usize),
+            }
+        };
+        let count = |k: usize| word(pool, 11 + 2 * s + 10 * p + 2 * k);
         Some(Tables {
-            slips,
-            pieces,
-            buffers,
+            slips: (0..s).map(slip).collect(),
+            pieces: (0..p).map(piece).collect(),
+            buffers: (0..b).map(count).collect(),
         })
     }
 
@@ -311,13 +321,14 @@ impl Tables {
         }
     }
 
+    pub fn vacate(&mut self, slip: u16) {
+        self.slips[slip as usize] = Slip::Vacant;
+    }
+
     /// The chain's piece numbers in order; the pool must be sound.
     pub fn chain(&self, slip: Slip) -> Vec<usize> {
         let mut chain = Vec::new();
-        let mut at = match slip {
-            Slip::Heads(d) => Some(d),
-            _ => None,
-        };
+        let mut at = slip.head();
         while let Some(d) = at {
             chain.push(d);
             at = self.pieces[d].next;
@@ -343,63 +354,105 @@ impl Tables {
         chain.iter().map(|&d| self.pieces[d].length).sum()
     }
 
+    /// The length of the chain's first piece, 0 if it has none.
+    pub fn first_length(&self, chain: &[usize]) -> u64 {
+        chain.first().map_or(0, |d| self.pieces[*d].length)
+    }
+
+    /// Where a buffer starts in storage.
+    pub fn buffer_start(&self, b: usize) -> u64 {
+        SIZE * b as u64
+    }
+
+    /// Where a piece's bytes start in storage.
+    pub fn start(&self, d: usize) -> u64 {
+        self.buffer_start(self.pieces[d].buffer) + self.pieces[d].offset
+    }
+
     /// The chain's bytes.
     pub fn read(&self, storage: &[u8], chain: &[usize]) -> Vec<u8> {
         let mut bytes = Vec::new();
         for &d in chain {
-            let piece = &self.pieces[d];
-            let start = SIZE as usize * piece.buffer + piece.offset as usize;
-            bytes.extend(&storage[start..start + piece.length as usize]);
+            let from = &storage[self.start(d) as usize..];
+            bytes.extend(&from[..self.pieces[d].length as usize]);
         }
         bytes
+    }
+
+    /// Whether there is such a piece and its count is above 0.
+    pub fn is_used(&self, d: usize) -> bool {
+        d < self.pieces.len() && self.pieces[d].count > 0
+    }
+
+    /// The pieces in use.
+    pub fn used(&self) -> impl Iterator<Item = &Piece> {
+        self.pieces.iter().filter(|piece| piece.count > 0)
+    }
+
+    /// Where a piece lies.
+    pub fn place(&self, d: usize) -> Place {
+        let piece = &self.pieces[d];
+        Place {
+            buffer: piece.buffer,
+            offset: piece.offset,
+            length: piece.length,
+        }
+    }
+
+    /// Where the pieces lie, in order.
+    pub fn places(&self, pieces: &[usize]) -> Vec<Place> {
+        pieces.iter().map(|d| self.place(*d)).collect()
     }
 }
 
 /// The numbers free at entry, lowest first.
-struct Room {
-    slips: Vec<usize>,
-    pieces: Vec<usize>,
-    buffers: Vec<usize>,
+pub struct Room {
+    pub slips: Vec<usize>,
+    pub pieces: Vec<usize>,
+    pub buffers: Vec<usize>,
 }
 
 /// A stretch of a buffer that a new piece is to lie on.
 #[derive(Clone, Copy)]
-struct Place {
-    buffer: usize,
-    offset: u64,
-    length: u64,
+pub struct Place {
+    pub buffer: usize,
+    pub offset: u64,
+    pub length: u64,
 }
 
 /// What holds a reference to a piece.
 #[derive(Clone, Copy)]
-enum Holder {
+pub enum Holder {
     Slip(usize),
     Piece(usize),
 }
 
 /// What drop of n leaves: perhaps a piece shortened in place, perhaps a new piece, then the rest.
-struct Left {
-    shortened: Option<(usize, u64)>,
-    places: Vec<Place>,
-    then: Option<usize>,
+pub struct Left {
+    pub shortened: Option<(usize, u64)>,
+    pub places: Vec<Place>,
+    pub then: Option<usize>,
 }
 
 /// What a call does once no code applies.
-struct Done {
-    number: u64,
+pub struct Done {
+    pub number: u64,
     /// The new tables, if they change.
-    tables: Option<Tables>,
-    /// Buffers to be set: number, and bytes from the buffer's start.
-    fills: Vec<(usize, Vec<u8>)>,
+    pub tables: Option<Tables>,
+    /// Bytes to be set in storage: where they start, and the bytes.
+    pub fills: Vec<(u64, Vec<u8>)>,
     /// Bytes for the front of the lent output or scratch.
-    copied: Vec<u8>,
+    pub copied: Vec<u8>,
     /// Numbers for the front of the lent list.
-    listed: Vec<u32>,
-    view: View,
+    pub listed: Vec<u32>,
+    pub view: View,
 }
 
+/// What a call does, or the lowest code that applies.
+pub type Judged = Result<Done, u16>;
+
 impl Done {
-    fn nothing(number: u64) -> Done {
+    pub fn nothing(number: u64) -> Done {
         Done {
             number,
             tables: None,
@@ -410,16 +463,29 @@ impl Done {
         }
     }
 
-    fn changed(number: u64, tables: Tables, fills: Vec<(usize, Vec<u8>)>) -> Done {
+    pub fn changed(number: u64, tables: Tables) -> Done {
         Done {
             tables: Some(tables),
-            fills,
             ..Done::nothing(number)
         }
     }
+
+    /// Writes everything that the call changes.
+    fn write(self, after: &mut Outcome) {
+        after.number = self.number;
+        after.view = self.view;
+        if let Some(tables) = self.tables {
+            after.pool = tables.bytes();
+        }
+        for (start, bytes) in self.fills {
+            after.storage[start as usize..][..bytes.len()].copy_from_slice(&bytes);
+        }
+        after.lent[..self.copied.len()].copy_from_slice(&self.copied);
+        after.list[..self.listed.len()].copy_from_slice(&self.listed);
+    }
 }
 
-fn refuse_if(applies: bool, code: u16) -> Result<(), u16> {
+pub fn refuse_if(applies: bool, code: u16) -> Result<(), u16> {
     if applies {
         Err(code)
     } else {
@@ -427,159 +493,25 @@ fn refuse_if(applies: bool, code: u16) -> Result<(), u16> {
     }
 }
 
-/// How often a number stands in a list.
-fn occurrences(list: &[usize], number: usize) -> u64 {
-    list.iter().filter(|other| **other == number).count() as u64
-}
+/// The rules as the papers have them.
+#[derive(Clone, Copy)]
+pub struct Paper;
 
-macro_rules! mutations {
-    ($($(#[$what:meta])* $name:ident,)*) => {
-        /// One wrong reading of the rules, to be told from the right one.
-        #[derive(Clone, Copy, Debug, PartialEq, Eq)]
-        pub enum Mutation {
-            /// The rules as they stand.
-            None,
-            $($(#[$what])* $name,)*
-        }
+pub const TRUE: Paper = Paper;
 
-        /// Every wrong reading.
-        pub const MUTATIONS: &[Mutation] = &[$(Mutation::$name,)*];
-    };
-}
+impl Rules for Paper {}
 
-mutations! {
-    /// Release frees the whole chain past a piece that another slip still reaches.
-    FreesPastShared,
-    /// A piece of count 1 behind a shared piece is shortened in place.
-    OwnByOwnCount,
-    /// A new chain adds 1 to a buffer, however many of its pieces lie on it.
-    BufferHeldBySlips,
-    /// The audit counts a buffer's holders by slips.
-    AuditCountsSlips,
-    /// Offset and length are added in 32 bits.
-    RangeWraps,
-    /// A slip is taken for the new chain before no piece is found, and kept.
-    SlipKeptWithoutPiece,
-    /// New pieces are the highest free.
-    HighestPiece,
-    /// New buffers are the highest free.
-    HighestBuffer,
-    /// Pack takes room that it gives back itself.
-    RoomGivenBack,
-    /// Keep at a border cuts the next of a piece that isn't own.
-    KeepBorderInPlace,
-    /// Drop at a border takes a new piece for the shared piece behind it.
-    DropBorderTakesPiece,
-    /// Pullup goes on although the first piece has just n bytes.
-    PullupOfWholeFirst,
-    /// The front of pullup takes the higher number.
-    PullupFrontHigher,
-    /// Pullup asks for two pieces always.
-    PullupAsksTwo,
-    /// Pack leaves a chain that is packed already.
-    PackSparesPacked,
-    /// Cut up to the chain's end shares the tail.
-    CutSharesTail,
-    /// Cut takes a piece that the range only touches.
-    CutTakesTouched,
-    /// The rest of the last buffer keeps its old bytes.
-    RestNotZeroed,
-    /// Dup heads the same piece.
-    DupHeadsSame,
-    /// Show judges the scratch where nothing is copied too.
-    ShowAlwaysNarrow,
-    /// Read judges the output before the range.
-    NarrowBeforeRange,
-    /// Append judges one number twice before the slips.
-    SameBeforeSlip,
-    /// Drop of the whole length leaves the slip vacant.
-    DropAllVacates,
-    /// The audit doesn't see a ring.
-    RingUnseen,
-    /// The audit adds a piece's offset and length in 16 bits.
-    EndWraps,
-    /// The audit doesn't look at the rest of a piece with count 0.
-    DirtyFreePassed,
-    /// The audit lets next point at a piece with count 0.
-    NextToFreePassed,
-    /// A released buffer's bytes are zeroed.
-    ReleasedCleaned,
-    /// Append judges own without the reference that b holds.
-    AppendOwnWithoutB,
-    /// Append of an empty b replaces pieces that aren't own.
-    AppendEmptyReplaces,
-    /// Code 5 is given from 512 on.
-    LongFrom512,
-    /// A buffer's count goes down with every reference released.
-    BufferLeftEarly,
-    /// Put of 512 bytes takes two pieces.
-    PutOneMore,
-    /// Show of 0 bytes answers the head's place.
-    ShowNothingAtHead,
-    /// Open zeroes storage.
-    OpenClears,
-    /// Pieces are judged before slips.
-    PiecesBeforeSlips,
-    /// Open takes lengths greater than the ones it asks.
-    OpenTakesLonger,
-    /// List takes a lone last number for the room of a record.
-    ListTakesLone,
-    /// A list too short for all records gets those that it takes.
-    ListWrittenShort,
-    /// List zeroes the numbers past the last record.
-    ListClearsRest,
-    /// List answers how many numbers it wrote.
-    ListAnswersNumbers,
-    /// A record's position is that in its buffer.
-    ListWithinBuffer,
-    /// A record has its length first.
-    ListLengthFirst,
-    /// List goes by the pieces' numbers, not along the chain.
-    ListByNumber,
-    /// Two pieces that follow each other in storage make one record.
-    ListJoins,
-    /// List of an empty chain wants room for a record.
-    ListEmptyWantsOne,
-    /// Stretches takes the count of its records for that of numbers.
-    StretchesHalfRoom,
-    /// Gather adds the lengths in 32 bits.
-    GatherSumWraps,
-    /// Gather adds a record's position and length in 32 bits.
-    GatherEndWraps,
-    /// Gather judges the records before the output.
-    GatherListFirst,
-    /// Gather judges record by record, its place and then its room in the output.
-    GatherByRecord,
-    /// Gather takes a lone last number for a record of no length.
-    GatherTakesLone,
-    /// Gather passes over a record of no length.
-    GatherPassesEmpty,
-    /// Gather refuses a record that ends where storage ends.
-    GatherShortStorage,
-    /// Gather copies the records before the one that it refuses.
-    GatherCopiesFirst,
-    /// Gather zeroes the output past the bytes.
-    GatherClearsRest,
-}
-
-/// The rules, or the rules with one mutation.
-#[derive(Clone, Copy, Debug)]
-pub struct Model {
-    pub mutation: Mutation,
-}
-
-/// The rules as they stand.
-pub const TRUE: Model = Model {
-    mutation: Mutation::None,
-};
-
-impl Model {
-    fn is(&self, mutation: Mutation) -> bool {
-        self.mutation == mutation
-    }
-
+impl Paper {
     /// One call on any bytes: its answer and every byte after it.
     pub fn step(&self, pool: &[u8], storage: &[u8], call: &Call) -> Outcome {
+        Rules::step(self, pool, storage, call)
+    }
+}
+
+/// The rules, one function each; they call each other by `self`, so that any one can be replaced.
+pub trait Rules {
+    /// One call on any bytes: its answer and every byte after it.
+    fn step(&self, pool: &[u8], storage: &[u8], call: &Call) -> Outcome {
         let mut after = Outcome {
             code: DONE,
             number: 0,
@@ -589,233 +521,135 @@ impl Model {
             lent: call.lent().to_vec(),
             list: call.list(),
         };
-        match self.attempt(pool, storage, call) {
-            Err(code) => self.refuse(call, code, &mut after),
-            Ok(done) => self.carry_out(call, done, &mut after),
+        match self.judge(pool, storage, call) {
+            // Any other code comes with number 0 and leaves everything unchanged.
+            Err(code) => after.code = code,
+            Ok(done) => done.write(&mut after),
         }
         after
     }
 
-    /// Any other code comes with number 0 and leaves everything unchanged.
-    fn refuse(&self, call: &Call, code: u16, after: &mut Outcome) {
-        after.code = code;
-        let takes_slip = matches!(call, Call::Put { .. } | Call::Dup { .. } | Call::Cut { .. });
-        if self.is(Mutation::SlipKeptWithoutPiece) && code == PIECES && takes_slip {
-            let mut tables = Tables::parse(&after.pool, &after.storage).expect("sound");
-            let vacant = tables.slips.iter().position(|s| *s == Slip::Vacant);
-            tables.slips[vacant.expect("code 8 comes first")] = Slip::Empty;
-            after.pool = tables.bytes();
-        }
-        if self.is(Mutation::ListWrittenShort) && code == NARROW && !after.list.is_empty() {
-            self.write_short(call, after);
-        }
-        if self.is(Mutation::GatherCopiesFirst) && code == LIST {
-            self.copy_first(after);
-        }
-    }
-
-    /// Only for a mutation: the records that the list takes, of a chain that has more.
-    fn write_short(&self, call: &Call, after: &mut Outcome) {
-        if let Call::List { slip, .. } | Call::Stretches { slip, .. } = call {
-            let tables = Tables::parse(&after.pool, &after.storage).expect("sound");
-            let chain = tables.chain(tables.held(*slip).expect("code 3 comes first"));
-            let room = after.list.len() / 2;
-            let listed = self.records(&tables, &chain[..room]).concat();
-            after.list[..listed.len()].copy_from_slice(&listed);
-        }
-    }
-
-    /// Only for a mutation: the bytes of the records before the first that is of no length or
-    /// leaves storage.
-    fn copy_first(&self, after: &mut Outcome) {
-        let mut at = 0;
-        for record in after.list.chunks_exact(2) {
-            let (start, length) = (record[0] as usize, record[1] as usize);
-            if length == 0 || start + length > after.storage.len() {
-                return;
-            }
-            let bytes = &after.storage[start..start + length];
-            after.lent[at..at + length].copy_from_slice(bytes);
-            at += length;
-        }
-    }
-
-    /// Everything that a done call writes.
-    fn carry_out(&self, call: &Call, done: Done, after: &mut Outcome) {
-        after.number = done.number;
-        after.view = done.view;
-        if let Some(tables) = done.tables {
-            let before = std::mem::replace(&mut after.pool, tables.bytes());
-            if self.is(Mutation::ReleasedCleaned) {
-                self.clean(&before, &tables, &mut after.storage);
-            }
-        }
-        for (buffer, bytes) in done.fills {
-            let start = SIZE as usize * buffer;
-            after.storage[start..start + bytes.len()].copy_from_slice(&bytes);
-        }
-        after.lent[..done.copied.len()].copy_from_slice(&done.copied);
-        after.list[..done.listed.len()].copy_from_slice(&done.listed);
-        if self.is(Mutation::OpenClears) && matches!(call, Call::Open { .. }) {
-            after.storage.fill(0);
-        }
-        let gather = matches!(call, Call::Gather { .. });
-        if self.is(Mutation::ListClearsRest) && !gather {
-            after.list[done.listed.len()..].fill(0);
-        }
-        if self.is(Mutation::GatherClearsRest) && gather {
-            after.lent[done.copied.len()..].fill(0);
-        }
-    }
-
-    /// Only for a mutation: zeroes each buffer whose count has fallen to 0.
-    fn clean(&self, pool: &[u8], tables: &Tables, storage: &mut [u8]) {
-        if let Some(before) = Tables::parse(pool, storage) {
-            for (b, count) in before.buffers.iter().enumerate() {
-                if *count > 0 && tables.buffers.get(b) == Some(&0) {
-                    storage[SIZE as usize * b..][..SIZE as usize].fill(0);
-                }
-            }
-        }
-    }
-
     /// What the call does, or the lowest code that applies.
-    fn attempt(&self, pool: &[u8], storage: &[u8], call: &Call) -> Result<Done, u16> {
-        if let Call::Open {
-            buffers,
-            pieces,
-            slips,
-        } = call
-        {
-            return self.open(pool, storage, *buffers, *pieces, *slips);
+    fn judge(&self, pool: &[u8], storage: &[u8], call: &Call) -> Judged {
+        match call {
+            Call::Open {
+                buffers,
+                pieces,
+                slips,
+            } => self.open(pool, storage, *buffers, *pieces, *slips),
+            Call::Gather { list, output } => self.gather(storage, list, output.len() as u64),
+            _ => {
+                let tables = Tables::parse(pool, storage).ok_or(TORN)?;
+                refuse_if(!self.is_sound(&tables), TORN)?;
+                self.operate(tables, storage, call)
+            }
         }
-        if let Call::Gather { list, output } = call {
-            return self.gather(storage, list, output.len() as u64);
-        }
-        let tables = Tables::parse(pool, storage).ok_or(TORN)?;
-        refuse_if(!self.is_sound(&tables), TORN)?;
-        self.operate(tables, storage, call)
     }
 
     /// What the call does on a sound pool, or the lowest code from 3 on that applies.
-    fn operate(&self, tables: Tables, storage: &[u8], call: &Call) -> Result<Done, u16> {
+    fn operate(&self, t: Tables, storage: &[u8], call: &Call) -> Judged {
         match call {
             Call::Open { .. } | Call::Gather { .. } => unreachable!("judged above"),
             Call::Audit => Ok(Done::nothing(0)),
-            Call::Put { data } => self.put(tables, data),
-            Call::Free { slip } => self.free(tables, *slip),
-            Call::Dup { slip } => self.dup(tables, *slip),
+            Call::Put { data } => self.put(t, data),
+            Call::Free { slip } => self.free(t, *slip),
+            Call::Dup { slip } => self.dup(t, *slip),
             Call::Cut {
                 slip,
                 offset,
                 length,
-            } => self.cut(tables, *slip, *offset, *length),
-            Call::Append { a, b } => self.append(tables, *a, *b),
-            Call::Drop { slip, n } => self.drop(tables, *slip, *n as u64),
-            Call::Keep { slip, n } => self.keep(tables, *slip, *n as u64),
-            Call::Pullup { slip, n } => self.pullup(tables, storage, *slip, *n as u64),
-            Call::Pack { slip } => self.pack(tables, storage, *slip),
+            } => self.cut(t, *slip, *offset, *length),
+            Call::Append { a, b } => self.append(t, *a, *b),
+            Call::Drop { slip, n } => self.drop(t, *slip, *n as u64),
+            Call::Keep { slip, n } => self.keep(t, *slip, *n as u64),
+            Call::Pullup { slip, n } => self.pullup(t, storage, *slip, *n as u64),
+            Call::Pack { slip } => self.pack(t, storage, *slip),
             Call::Length { slip } => {
-                let state = tables.held(*slip).ok_or(SLIP)?;
-                Ok(Done::nothing(tables.length(&tables.chain(state))))
+                let chain = t.chain(t.held(*slip).ok_or(SLIP)?);
+                Ok(Done::nothing(t.length(&chain)))
             }
             Call::Read {
                 slip,
                 offset,
                 length,
                 output,
-            } => self.read(tables, storage, *slip, *offset, *length, output.len()),
+            } => self.read(t, storage, *slip, *offset, *length, output.len()),
             Call::Show { slip, n, scratch } => {
-                self.show(tables, storage, *slip, *n as u64, scratch.len())
+                self.show(t, storage, *slip, *n as u64, scratch.len())
             }
-            Call::List { slip, list } => self.list(tables, *slip, list.len()),
-            Call::Stretches { slip, list } => self.list_in_records(tables, *slip, list.len()),
+            Call::List { slip, list } => self.list(t, *slip, list.len()),
+            Call::Stretches { slip, list } => self.list_in_records(t, *slip, list.len()),
         }
     }
 
-    /// Whether the parsed tables are sound, by the paper's list.
+    // A pool is sound when mark, version, counts and both lengths fit, and:
+
     fn is_sound(&self, t: &Tables) -> bool {
-        let in_use = |d: usize| d < t.pieces.len() && t.pieces[d].count > 0;
+        let mut pieces = 0..t.pieces.len();
+        let mut used = pieces.clone().filter(|d| t.is_used(*d));
+        t.pieces.iter().all(|piece| self.is_well_formed(t, piece))
+            && t.slips.iter().all(|slip| self.has_good_head(t, *slip))
+            && pieces.all(|d| self.is_counted(t, d))
+            && used.all(|d| self.never_comes_back(t, d))
+            && (0..t.buffers.len()).all(|b| t.buffers[b] == self.holders(t, b))
+    }
 
-        // A piece with count 0 is all zero; any other is well formed.
-        for piece in &t.pieces {
-            if piece.count == 0 {
-                if *piece != ZERO && !self.is(Mutation::DirtyFreePassed) {
-                    return false;
-                }
-                continue;
-            }
-            let mut end = piece.offset + piece.length;
-            if self.is(Mutation::EndWraps) {
-                end %= 65_536;
-            }
-            if piece.buffer >= t.buffers.len() || piece.length < 1 || end > SIZE {
+    /// Count 0: all zero. Any other: buffer below B, length at least 1, end at most 512, good next.
+    fn is_well_formed(&self, t: &Tables, piece: &Piece) -> bool {
+        if piece.count == 0 {
+            return *piece == ZERO;
+        }
+        piece.buffer < t.buffers.len()
+            && piece.length >= 1
+            && self.end_in_buffer(piece) <= SIZE
+            && self.is_good_next(t, piece.next)
+    }
+
+    /// Where a piece ends in its buffer: offset + length, as whole numbers.
+    fn end_in_buffer(&self, piece: &Piece) -> u64 {
+        piece.offset + piece.length
+    }
+
+    /// No next, or a next below P with a count above 0.
+    fn is_good_next(&self, t: &Tables, next: Option<usize>) -> bool {
+        next.map_or(true, |d| t.is_used(d))
+    }
+
+    /// A slip is vacant, empty or heads a piece below P with a count above 0.
+    fn has_good_head(&self, t: &Tables, slip: Slip) -> bool {
+        slip.head().map_or(true, |d| t.is_used(d))
+    }
+
+    /// A piece's count is the number of slips heading it plus pieces in use whose next it is.
+    fn is_counted(&self, t: &Tables, d: usize) -> bool {
+        let heading = t.slips.iter().filter(|slip| slip.head() == Some(d));
+        let before = t.used().filter(|piece| piece.next == Some(d));
+        t.pieces[d].count == (heading.count() + before.count()) as u64
+    }
+
+    /// Following next never comes back to a piece already met, reached from a slip or not.
+    fn never_comes_back(&self, t: &Tables, first: usize) -> bool {
+        let mut met = vec![false; t.pieces.len()];
+        let mut at = Some(first);
+        while let Some(d) = at {
+            if met[d] {
                 return false;
             }
-            if let Some(d) = piece.next {
-                let passed = self.is(Mutation::NextToFreePassed) && d < t.pieces.len();
-                if !in_use(d) && !passed {
-                    return false;
-                }
-            }
-        }
-
-        // A slip is vacant, empty or heads a piece in use.
-        for slip in &t.slips {
-            if let Slip::Heads(d) = slip {
-                if !in_use(*d) {
-                    return false;
-                }
-            }
-        }
-
-        // A piece's count is the slips heading it plus the pieces in use whose next it is.
-        let used: Vec<&Piece> = t.pieces.iter().filter(|q| q.count > 0).collect();
-        let mut references: Vec<usize> = used.iter().filter_map(|q| q.next).collect();
-        references.extend(t.slips.iter().filter_map(|slip| match slip {
-            Slip::Heads(d) => Some(*d),
-            _ => None,
-        }));
-        for (d, piece) in t.pieces.iter().enumerate() {
-            let passed = self.is(Mutation::NextToFreePassed) && piece.count == 0;
-            if piece.count != occurrences(&references, d) && !passed {
-                return false;
-            }
-        }
-
-        // Following next never comes back to a piece already met, from wherever one starts.
-        for first in (0..t.pieces.len()).filter(|d| in_use(*d)) {
-            let mut met = vec![false; t.pieces.len()];
-            let mut at = Some(first);
-            while let Some(d) = at {
-                if met[d] {
-                    if self.is(Mutation::RingUnseen) {
-                        break;
-                    }
-                    return false;
-                }
-                met[d] = true;
-                at = t.pieces[d].next;
-            }
-        }
-
-        // A buffer's count is the number of pieces in use lying on it.
-        let lying: Vec<usize> = used.iter().map(|q| q.buffer).collect();
-        for (b, count) in t.buffers.iter().enumerate() {
-            let mut holders = occurrences(&lying, b);
-            if self.is(Mutation::AuditCountsSlips) {
-                let holds = |s: &&Slip| t.chain(**s).iter().any(|d| t.pieces[*d].buffer == b);
-                holders = t.slips.iter().filter(holds).count() as u64;
-            }
-            if *count != holders {
-                return false;
-            }
+            met[d] = true;
+            at = t.pieces[d].next;
         }
         true
     }
 
+    /// A buffer's count is the number of pieces in use lying on it.
+    fn holders(&self, t: &Tables, b: usize) -> u64 {
+        t.used().filter(|piece| piece.buffer == b).count() as u64
+    }
+
+    // Room is counted at entry; new numbers are the lowest free at entry.
+
     fn room(&self, t: &Tables) -> Room {
-        let mut room = Room {
+        Room {
             slips: (0..t.slips.len())
                 .filter(|i| t.slips[*i] == Slip::Vacant)
                 .collect(),
@@ -825,57 +659,40 @@ impl Model {
             buffers: (0..t.buffers.len())
                 .filter(|b| t.buffers[*b] == 0)
                 .collect(),
-        };
-        if self.is(Mutation::HighestPiece) {
-            room.pieces.reverse();
         }
-        if self.is(Mutation::HighestBuffer) {
-            room.buffers.reverse();
-        }
-        room
     }
 
     /// Codes 8 to 10: more new slips, pieces or buffers wanted than free at entry.
     fn ask(&self, room: &Room, slips: u64, pieces: u64, buffers: u64) -> Result<(), u16> {
-        if self.is(Mutation::PiecesBeforeSlips) {
-            refuse_if(pieces > room.pieces.len() as u64, PIECES)?;
-        }
         refuse_if(slips > room.slips.len() as u64, SLIPS)?;
         refuse_if(pieces > room.pieces.len() as u64, PIECES)?;
         refuse_if(buffers > room.buffers.len() as u64, BUFFERS)
     }
 
+    // What the operations are made of.
+
     /// How many pieces at the chain's front are own: they and all before them have count 1.
     fn own(&self, t: &Tables, chain: &[usize]) -> usize {
-        chain
-            .iter()
-            .take_while(|d| t.pieces[**d].count == 1)
-            .count()
+        let once = |d: &&usize| t.pieces[**d].count == 1;
+        chain.iter().take_while(once).count()
     }
 
     /// Whether the chain's i-th piece is own.
     fn is_own(&self, t: &Tables, chain: &[usize], i: usize) -> bool {
-        if self.is(Mutation::OwnByOwnCount) {
-            return t.pieces[chain[i]].count == 1;
-        }
         i < self.own(t, chain)
     }
 
-    /// Releases one reference to a piece.
-    fn release(&self, t: &mut Tables, piece: usize) {
-        let mut at = Some(piece);
-        while let Some(d) = at {
-            let buffer = t.pieces[d].buffer;
-            t.pieces[d].count = t.pieces[d].count.saturating_sub(1);
-            if t.pieces[d].count > 0 && !self.is(Mutation::FreesPastShared) {
-                if self.is(Mutation::BufferLeftEarly) {
-                    t.buffers[buffer] = t.buffers[buffer].saturating_sub(1);
-                }
-                return;
-            }
-            t.buffers[buffer] = t.buffers[buffer].saturating_sub(1);
-            at = t.pieces[d].next;
-            t.pieces[d] = ZERO;
+    /// Takes 1 from the count; only at 0 from the buffer too, zeroes the piece, releases its next.
+    fn release(&self, t: &mut Tables, d: usize) {
+        t.pieces[d].count -= 1;
+        if t.pieces[d].count > 0 {
+            return;
+        }
+        let Piece { buffer, next, .. } = t.pieces[d];
+        t.buffers[buffer] -= 1;
+        t.pieces[d] = ZERO;
+        if let Some(next) = next {
+            self.release(t, next);
         }
     }
 
@@ -886,28 +703,17 @@ impl Model {
         }
         let old = match holder {
             Holder::Slip(s) => {
-                let old = t.slips[s];
-                t.slips[s] = match to {
-                    None => Slip::Empty,
-                    Some(d) => Slip::Heads(d),
-                };
-                match old {
-                    Slip::Heads(d) => Some(d),
-                    _ => None,
-                }
+                let new = to.map_or(Slip::Empty, Slip::Heads);
+                mem::replace(&mut t.slips[s], new).head()
             }
-            Holder::Piece(d) => {
-                let old = t.pieces[d].next;
-                t.pieces[d].next = to;
-                old
-            }
+            Holder::Piece(d) => mem::replace(&mut t.pieces[d].next, to),
         };
         if let Some(d) = old {
             self.release(t, d);
         }
     }
 
-    /// Builds a new piece for each place, the last pointing at `then`; nothing refers to the first yet.
+    /// Builds a new piece for each place, `then` behind the last; nothing refers to the first yet.
     fn build(
         &self,
         t: &mut Tables,
@@ -916,209 +722,188 @@ impl Model {
         then: Option<usize>,
     ) -> Option<usize> {
         let numbers = &room.pieces[..places.len()];
-        for (i, place) in places.iter().enumerate() {
-            let met = places[..i].iter().any(|q| q.buffer == place.buffer);
-            if !(self.is(Mutation::BufferHeldBySlips) && met) {
-                t.buffers[place.buffer] += 1;
-            }
-            t.pieces[numbers[i]] = Piece {
-                // The piece before refers to this one; the first waits for its holder.
-                count: if i == 0 { 0 } else { 1 },
+        let mut head = then;
+        for (place, d) in places.iter().zip(numbers).rev() {
+            t.buffers[place.buffer] += 1;
+            t.pieces[*d] = Piece {
+                count: 0,
                 buffer: place.buffer,
                 offset: place.offset,
                 length: place.length,
-                next: numbers.get(i + 1).copied().or(then),
+                next: None,
             };
+            self.refer(t, Holder::Piece(*d), head);
+            head = Some(*d);
         }
-        match (numbers.first(), then) {
-            (Some(first), Some(d)) => {
-                t.pieces[d].count += 1;
-                Some(*first)
-            }
-            (Some(first), None) => Some(*first),
-            (None, _) => then,
-        }
+        head
     }
 
-    fn place(&self, t: &Tables, d: usize) -> Place {
-        let piece = &t.pieces[d];
-        Place {
-            buffer: piece.buffer,
-            offset: piece.offset,
-            length: piece.length,
-        }
+    /// The data in portions of 512, each full but the last.
+    fn portions<'a>(&self, data: &'a [u8]) -> Vec<&'a [u8]> {
+        data.chunks(SIZE as usize).collect()
     }
 
     /// The bytes of a fresh buffer: the data, then zeros.
     fn filled(&self, data: &[u8]) -> Vec<u8> {
         let mut bytes = data.to_vec();
-        if !self.is(Mutation::RestNotZeroed) {
-            bytes.resize(SIZE as usize, 0);
-        }
+        bytes.resize(SIZE as usize, 0);
         bytes
     }
 
-    /// The data in stretches of 512, the last perhaps shorter.
-    fn stretches<'a>(&self, data: &'a [u8]) -> Vec<&'a [u8]> {
-        let mut stretches: Vec<&[u8]> = data.chunks(SIZE as usize).collect();
-        if self.is(Mutation::PutOneMore) && !data.is_empty() && data.len() % 512 == 0 {
-            stretches.push(&[]);
-        }
-        stretches
-    }
-
-    /// Places on fresh buffers for the stretches, and the buffers' bytes.
-    fn fresh_places(
-        &self,
-        room: &Room,
-        stretches: &[&[u8]],
-    ) -> (Vec<Place>, Vec<(usize, Vec<u8>)>) {
+    /// Puts data into fresh pieces and buffers under a slip, and releases what the slip headed.
+    fn put_under(&self, mut t: Tables, room: &Room, slip: usize, data: &[u8]) -> Done {
         let mut places = Vec::new();
         let mut fills = Vec::new();
-        for (i, stretch) in stretches.iter().enumerate() {
-            let buffer = room.buffers[i];
+        for (portion, &buffer) in self.portions(data).iter().zip(&room.buffers) {
             places.push(Place {
                 buffer,
                 offset: 0,
-                length: stretch.len() as u64,
+                length: portion.len() as u64,
             });
-            fills.push((buffer, self.filled(stretch)));
+            fills.push((t.buffer_start(buffer), self.filled(portion)));
         }
-        (places, fills)
+        let head = self.build(&mut t, room, &places, None);
+        self.refer(&mut t, Holder::Slip(slip), head);
+        Done {
+            fills,
+            ..Done::changed(0, t)
+        }
     }
 
-    fn open(
+    /// A new slip on new pieces for these places, with `then` behind them; answers the slip.
+    fn new_chain(&self, mut t: Tables, places: &[Place], then: Option<usize>) -> Judged {
+        let room = self.room(&t);
+        self.ask(&room, 1, places.len() as u64, 0)?;
+        let slip = room.slips[0];
+        let head = self.build(&mut t, &room, places, then);
+        self.refer(&mut t, Holder::Slip(slip), head);
+        Ok(Done::changed(slip as u64, t))
+    }
+
+    /// Behind the own pieces come new ones for these places, then `then`; the old reference goes.
+    fn replace(
         &self,
-        pool: &[u8],
-        storage: &[u8],
-        buffers: u16,
-        pieces: u16,
-        slips: u16,
-    ) -> Result<Done, u16> {
+        t: &mut Tables,
+        slip: u16,
+        own: &[usize],
+        places: &[Place],
+        then: Option<usize>,
+    ) -> Result<(), u16> {
+        let room = self.room(t);
+        self.ask(&room, 0, places.len() as u64, 0)?;
+        let rest = self.build(t, &room, places, then);
+        let holder = match own.last() {
+            None => Holder::Slip(slip as usize),
+            Some(d) => Holder::Piece(*d),
+        };
+        self.refer(t, holder, rest);
+        Ok(())
+    }
+
+    // The operations.
+
+    /// Writes the fresh pool; storage is unchanged, old bytes are never looked at.
+    fn open(&self, pool: &[u8], storage: &[u8], buffers: u16, pieces: u16, slips: u16) -> Judged {
         let (b, p, s) = (buffers as u64, pieces as u64, slips as u64);
         refuse_if(!counts_fit(b, p, s), COUNTS)?;
-        let length = pool_length(b, p, s);
-        if self.is(Mutation::OpenTakesLonger) {
-            refuse_if((pool.len() as u64) < length, COUNTS)?;
-        } else {
-            refuse_if(pool.len() as u64 != length, COUNTS)?;
-        }
-        refuse_if(storage.len() as u64 != SIZE * b, COUNTS)?;
+        refuse_if(!lengths_fit(pool, storage, b, p, s), COUNTS)?;
         let fresh = Tables::fresh(b as usize, p as usize, s as usize);
-        Ok(Done::changed(0, fresh, Vec::new()))
+        Ok(Done::changed(0, fresh))
     }
 
-    fn put(&self, mut t: Tables, data: &[u8]) -> Result<Done, u16> {
+    /// As many fresh pieces as the data has portions, under a new slip; answers the slip.
+    fn put(&self, t: Tables, data: &[u8]) -> Judged {
         let room = self.room(&t);
-        let stretches = self.stretches(data);
-        let wanted = stretches.len() as u64;
+        let wanted = self.portions(data).len() as u64;
         self.ask(&room, 1, wanted, wanted)?;
         let slip = room.slips[0];
-        let (places, fills) = self.fresh_places(&room, &stretches);
-        let head = self.build(&mut t, &room, &places, None);
-        self.refer(&mut t, Holder::Slip(slip), head);
-        Ok(Done::changed(slip as u64, t, fills))
+        Ok(Done {
+            number: slip as u64,
+            ..self.put_under(t, &room, slip, data)
+        })
     }
 
-    fn free(&self, mut t: Tables, slip: u16) -> Result<Done, u16> {
+    /// Releases the head; the slip is vacant.
+    fn free(&self, mut t: Tables, slip: u16) -> Judged {
         t.held(slip).ok_or(SLIP)?;
         self.refer(&mut t, Holder::Slip(slip as usize), None);
-        t.slips[slip as usize] = Slip::Vacant;
-        Ok(Done::changed(0, t, Vec::new()))
+        t.vacate(slip);
+        Ok(Done::changed(0, t))
     }
 
-    fn dup(&self, mut t: Tables, slip: u16) -> Result<Done, u16> {
+    /// A new slip on one new piece equal to the head, sharing its next and buffer.
+    fn dup(&self, t: Tables, slip: u16) -> Judged {
         let chain = t.chain(t.held(slip).ok_or(SLIP)?);
-        let room = self.room(&t);
-        let mut places: Vec<Place> = chain.iter().take(1).map(|d| self.place(&t, *d)).collect();
-        let mut then = chain.get(1).copied();
-        if self.is(Mutation::DupHeadsSame) {
-            places.clear();
-            then = chain.first().copied();
-        }
-        self.ask(&room, 1, places.len() as u64, 0)?;
-        let new = room.slips[0];
-        let head = self.build(&mut t, &room, &places, then);
-        self.refer(&mut t, Holder::Slip(new), head);
-        Ok(Done::changed(new as u64, t, Vec::new()))
+        let head: Vec<Place> = t.places(&chain).into_iter().take(1).collect();
+        self.new_chain(t, &head, chain.get(1).copied())
     }
 
-    fn cut(&self, mut t: Tables, slip: u16, offset: u32, length: u32) -> Result<Done, u16> {
+    /// A new slip on one new piece for each piece that overlaps the range, on the same buffers.
+    fn cut(&self, t: Tables, slip: u16, offset: u32, length: u32) -> Judged {
         let chain = t.chain(t.held(slip).ok_or(SLIP)?);
-        let whole = t.length(&chain);
-        let from = offset as u64;
-        let to = self.end(offset, length);
-        refuse_if(to > whole, RANGE)?;
+        let (from, to) = (offset as u64, self.end(offset, length));
+        refuse_if(to > t.length(&chain), RANGE)?;
         let mut places = Vec::new();
-        let mut then = None;
-        for (d, (start, end)) in chain.iter().zip(t.spans(&chain)) {
-            let (low, high) = (start.max(from), end.min(to));
-            let overlaps = low < high;
-            let touched = self.is(Mutation::CutTakesTouched) && low == high && length > 0;
-            if self.is(Mutation::CutSharesTail) && low == start && overlaps && to == whole {
-                then = Some(*d);
-                break;
-            }
-            if overlaps || touched {
+        for (place, span) in t.places(&chain).into_iter().zip(t.spans(&chain)) {
+            if self.overlaps(span, (from, to)) {
+                let (low, high) = (span.0.max(from), span.1.min(to));
                 places.push(Place {
-                    buffer: t.pieces[*d].buffer,
-                    offset: t.pieces[*d].offset + (low - start),
+                    buffer: place.buffer,
+                    offset: place.offset + (low - span.0),
                     length: high - low,
                 });
             }
         }
-        let room = self.room(&t);
-        self.ask(&room, 1, places.len() as u64, 0)?;
-        let new = room.slips[0];
-        let head = self.build(&mut t, &room, &places, then);
-        self.refer(&mut t, Holder::Slip(new), head);
-        Ok(Done::changed(new as u64, t, Vec::new()))
+        self.new_chain(t, &places, None)
+    }
+
+    /// Whether two stretches of a chain have a byte in common.
+    fn overlaps(&self, span: (u64, u64), range: (u64, u64)) -> bool {
+        span.0.max(range.0) < span.1.min(range.1)
     }
 
     /// The end of the asked bytes, as whole numbers.
     fn end(&self, offset: u32, length: u32) -> u64 {
-        if self.is(Mutation::RangeWraps) {
-            return offset.wrapping_add(length) as u64;
-        }
         offset as u64 + length as u64
     }
 
-    fn append(&self, mut t: Tables, a: u16, b: u16) -> Result<Done, u16> {
-        if self.is(Mutation::SameBeforeSlip) {
-            refuse_if(a == b, SAME)?;
-        }
+    /// a reads as a then b; b is vacant. If either is empty, no piece is needed.
+    fn append(&self, mut t: Tables, a: u16, b: u16) -> Judged {
         let state_a = t.held(a).ok_or(SLIP)?;
         let state_b = t.held(b).ok_or(SLIP)?;
         refuse_if(a == b, SAME)?;
-        let chain = t.chain(state_a);
-        match (state_a, state_b) {
+        match (state_a, state_b.head()) {
             // a takes b's head, or stays empty with it.
             (Slip::Empty, _) => t.slips[a as usize] = state_b,
             // a stays.
-            (_, Slip::Empty) if !self.is(Mutation::AppendEmptyReplaces) => {}
-            _ => {
-                let head_b = t.chain(state_b).first().copied();
-                let mut own = self.own(&t, &chain);
-                if self.is(Mutation::AppendOwnWithoutB) {
-                    let without_b =
-                        |d: &usize| t.pieces[*d].count - u64::from(Some(*d) == head_b) == 1;
-                    own = chain.iter().take_while(|d| without_b(d)).count();
-                }
-                let places: Vec<Place> = chain[own..].iter().map(|d| self.place(&t, *d)).collect();
-                let room = self.room(&t);
-                self.ask(&room, 0, places.len() as u64, 0)?;
-                let holder = match own {
-                    0 => Holder::Slip(a as usize),
-                    _ => Holder::Piece(chain[own - 1]),
-                };
-                let rest = self.build(&mut t, &room, &places, head_b);
-                self.refer(&mut t, holder, rest);
+            (_, None) => {}
+            (_, Some(head)) => {
+                let chain = t.chain(state_a);
+                let (own, others) = chain.split_at(self.own(&t, &chain));
+                let places = t.places(others);
+                self.replace(&mut t, a, own, &places, Some(head))?;
                 // The reference that b held goes.
                 self.refer(&mut t, Holder::Slip(b as usize), None);
             }
         }
-        t.slips[b as usize] = Slip::Vacant;
-        Ok(Done::changed(0, t, Vec::new()))
+        t.vacate(b);
+        Ok(Done::changed(0, t))
+    }
+
+    /// The first n bytes go: 0 changes nothing, the whole length leaves the slip empty.
+    fn drop(&self, mut t: Tables, slip: u16, n: u64) -> Judged {
+        let chain = t.chain(t.held(slip).ok_or(SLIP)?);
+        refuse_if(n > t.length(&chain), RANGE)?;
+        if n == 0 {
+            return Ok(Done::nothing(0));
+        }
+        let left = self.left_by_drop(&t, &chain, n);
+        let room = self.room(&t);
+        self.ask(&room, 0, left.places.len() as u64, 0)?;
+        self.shorten_front(&mut t, left.shortened);
+        let head = self.build(&mut t, &room, &left.places, left.then);
+        self.refer(&mut t, Holder::Slip(slip as usize), head);
+        Ok(Done::changed(0, t))
     }
 
     /// What drop of n leaves of a chain, n above 0 and at most the length.
@@ -1130,21 +915,18 @@ impl Model {
         };
         // The piece that holds byte n, if any is left.
         let spans = t.spans(chain);
-        let Some(i) = spans
-            .iter()
-            .position(|(start, end)| *start <= n && n < *end)
-        else {
+        let holds_n = |(start, end): &(u64, u64)| *start <= n && n < *end;
+        let Some(i) = spans.iter().position(holds_n) else {
             return left;
         };
         let by = n - spans[i].0;
-        let own = self.is_own(t, chain, i);
-        if by == 0 && (own || !self.is(Mutation::DropBorderTakesPiece)) {
+        if by == 0 {
             left.then = Some(chain[i]);
-        } else if own {
+        } else if self.is_own(t, chain, i) {
             left.shortened = Some((chain[i], by));
             left.then = Some(chain[i]);
         } else {
-            let place = self.place(t, chain[i]);
+            let place = t.place(chain[i]);
             left.places.push(Place {
                 buffer: place.buffer,
                 offset: place.offset + by,
@@ -1163,26 +945,8 @@ impl Model {
         }
     }
 
-    fn drop(&self, mut t: Tables, slip: u16, n: u64) -> Result<Done, u16> {
-        let chain = t.chain(t.held(slip).ok_or(SLIP)?);
-        let whole = t.length(&chain);
-        refuse_if(n > whole, RANGE)?;
-        if n == 0 {
-            return Ok(Done::nothing(0));
-        }
-        let left = self.left_by_drop(&t, &chain, n);
-        let room = self.room(&t);
-        self.ask(&room, 0, left.places.len() as u64, 0)?;
-        self.shorten_front(&mut t, left.shortened);
-        let head = self.build(&mut t, &room, &left.places, left.then);
-        self.refer(&mut t, Holder::Slip(slip as usize), head);
-        if self.is(Mutation::DropAllVacates) && n == whole {
-            t.slips[slip as usize] = Slip::Vacant;
-        }
-        Ok(Done::changed(0, t, Vec::new()))
-    }
-
-    fn keep(&self, mut t: Tables, slip: u16, n: u64) -> Result<Done, u16> {
+    /// The first n bytes stay: the whole length changes nothing, 0 empties.
+    fn keep(&self, mut t: Tables, slip: u16, n: u64) -> Judged {
         let chain = t.chain(t.held(slip).ok_or(SLIP)?);
         let whole = t.length(&chain);
         refuse_if(n > whole, RANGE)?;
@@ -1191,106 +955,79 @@ impl Model {
         }
         if n == 0 {
             self.refer(&mut t, Holder::Slip(slip as usize), None);
-            return Ok(Done::changed(0, t, Vec::new()));
+            return Ok(Done::changed(0, t));
         }
         // The last piece kept holds byte n - 1.
         let spans = t.spans(&chain);
-        let last = spans
-            .iter()
-            .position(|(start, end)| *start < n && n <= *end)
-            .expect("0 < n < length");
+        let holds_last = |(start, end): &(u64, u64)| *start < n && n <= *end;
+        let last = spans.iter().position(holds_last).expect("0 < n < length");
         let kept = n - spans[last].0;
-        let border = self.is(Mutation::KeepBorderInPlace) && n == spans[last].1;
-        if self.is_own(&t, &chain, last) || border {
+        if self.is_own(&t, &chain, last) {
             t.pieces[chain[last]].length = kept;
             self.refer(&mut t, Holder::Piece(chain[last]), None);
-            return Ok(Done::changed(0, t, Vec::new()));
+        } else {
+            // From the first piece not own to the last one kept, each is replaced.
+            let own = self.own(&t, &chain);
+            let mut places = t.places(&chain[own..=last]);
+            places.last_mut().expect("the last one kept").length = kept;
+            self.replace(&mut t, slip, &chain[..own], &places, None)?;
         }
-        // From the first piece not own to the last one kept, each is replaced.
-        let own = self.own(&t, &chain);
-        let mut places: Vec<Place> = chain[own..=last]
-            .iter()
-            .map(|d| self.place(&t, *d))
-            .collect();
-        places.last_mut().expect("the last one kept").length = kept;
-        let room = self.room(&t);
-        self.ask(&room, 0, places.len() as u64, 0)?;
-        let holder = match own {
-            0 => Holder::Slip(slip as usize),
-            _ => Holder::Piece(chain[own - 1]),
-        };
-        let rest = self.build(&mut t, &room, &places, None);
-        self.refer(&mut t, holder, rest);
-        Ok(Done::changed(0, t, Vec::new()))
+        Ok(Done::changed(0, t))
     }
 
-    fn pullup(&self, mut t: Tables, storage: &[u8], slip: u16, n: u64) -> Result<Done, u16> {
+    /// If the first piece has n bytes or n is 0, nothing changes.
+    fn pullup(&self, t: Tables, storage: &[u8], slip: u16, n: u64) -> Judged {
         let chain = t.chain(t.held(slip).ok_or(SLIP)?);
-        let longest = if self.is(Mutation::LongFrom512) {
-            511
-        } else {
-            512
-        };
-        refuse_if(n > longest, LONG)?;
+        refuse_if(self.is_long(n), LONG)?;
         refuse_if(n > t.length(&chain), RANGE)?;
-        let first = chain.first().map_or(0, |d| t.pieces[*d].length);
-        let stays = if self.is(Mutation::PullupOfWholeFirst) {
-            n < first || n == 0
-        } else {
-            n <= first || n == 0
-        };
-        if stays {
+        if n == 0 || n <= t.first_length(&chain) {
             return Ok(Done::nothing(0));
         }
+        self.pull(t, storage, slip, n)
+    }
+
+    /// Code 5: more than one buffer takes.
+    fn is_long(&self, n: u64) -> bool {
+        n > SIZE
+    }
+
+    /// The first n bytes on a new piece and buffer, before what drop of n would leave.
+    fn pull(&self, mut t: Tables, storage: &[u8], slip: u16, n: u64) -> Judged {
+        let chain = t.chain(t.slips[slip as usize]);
         let left = self.left_by_drop(&t, &chain, n);
-        let mut wanted = 1 + left.places.len() as u64;
-        if self.is(Mutation::PullupAsksTwo) {
-            wanted = 2;
-        }
-        let mut room = self.room(&t);
-        self.ask(&room, 0, wanted, 1)?;
-        let bytes = t.read(storage, &chain)[..n as usize].to_vec();
+        let room = self.room(&t);
+        self.ask(&room, 0, 1 + left.places.len() as u64, 1)?;
         let buffer = room.buffers[0];
-        let mut places = vec![Place {
+        let front = Place {
             buffer,
             offset: 0,
             length: n,
-        }];
-        places.extend(left.places);
-        if self.is(Mutation::PullupFrontHigher) && places.len() == 2 {
-            room.pieces.swap(0, 1);
-        }
+        };
+        let bytes = self.filled(&t.read(storage, &chain)[..n as usize]);
+        let places = [vec![front], left.places].concat();
         self.shorten_front(&mut t, left.shortened);
         let head = self.build(&mut t, &room, &places, left.then);
         self.refer(&mut t, Holder::Slip(slip as usize), head);
-        Ok(Done::changed(0, t, vec![(buffer, self.filled(&bytes))]))
+        Ok(Done {
+            fills: vec![(t.buffer_start(buffer), bytes)],
+            ..Done::changed(0, t)
+        })
     }
 
-    fn pack(&self, mut t: Tables, storage: &[u8], slip: u16) -> Result<Done, u16> {
+    /// A chain of at most one piece stays; otherwise its bytes are put afresh under the same slip.
+    fn pack(&self, t: Tables, storage: &[u8], slip: u16) -> Judged {
         let chain = t.chain(t.held(slip).ok_or(SLIP)?);
         if chain.len() <= 1 {
             return Ok(Done::nothing(0));
         }
-        let (last, full) = chain.split_last().expect("two pieces or more");
-        let packed =
-            full.iter().all(|d| t.pieces[*d].length == SIZE) && t.pieces[*last].offset == 0;
-        if self.is(Mutation::PackSparesPacked) && packed {
-            return Ok(Done::nothing(0));
-        }
         let bytes = t.read(storage, &chain);
-        if self.is(Mutation::RoomGivenBack) {
-            self.refer(&mut t, Holder::Slip(slip as usize), None);
-        }
         let room = self.room(&t);
-        let stretches = self.stretches(&bytes);
-        let wanted = stretches.len() as u64;
+        let wanted = self.portions(&bytes).len() as u64;
         self.ask(&room, 0, wanted, wanted)?;
-        let (places, fills) = self.fresh_places(&room, &stretches);
-        let head = self.build(&mut t, &room, &places, None);
-        self.refer(&mut t, Holder::Slip(slip as usize), head);
-        Ok(Done::changed(0, t, fills))
+        Ok(self.put_under(t, &room, slip as usize, &bytes))
     }
 
+    /// The asked bytes to the front of the output; answers their count.
     fn read(
         &self,
         t: Tables,
@@ -1299,61 +1036,32 @@ impl Model {
         offset: u32,
         length: u32,
         output: usize,
-    ) -> Result<Done, u16> {
+    ) -> Judged {
         let chain = t.chain(t.held(slip).ok_or(SLIP)?);
-        let narrow = (output as u64) < length as u64;
-        if self.is(Mutation::NarrowBeforeRange) {
-            refuse_if(narrow, NARROW)?;
-        }
         refuse_if(self.end(offset, length) > t.length(&chain), RANGE)?;
-        refuse_if(narrow, NARROW)?;
-        let bytes = t.read(storage, &chain);
-        let copied: Vec<u8> = bytes
-            .into_iter()
-            .skip(offset as usize)
-            .take(length as usize)
-            .collect();
+        refuse_if((output as u64) < length as u64, NARROW)?;
+        let bytes = t.read(storage, &chain).into_iter();
         Ok(Done {
-            copied,
+            copied: bytes.skip(offset as usize).take(length as usize).collect(),
             ..Done::nothing(length as u64)
         })
     }
 
-    fn show(
-        &self,
-        t: Tables,
-        storage: &[u8],
-        slip: u16,
-        n: u64,
-        scratch: usize,
-    ) -> Result<Done, u16> {
+    /// The first n bytes in one stretch: in storage if the first piece has them, else in scratch.
+    fn show(&self, t: Tables, storage: &[u8], slip: u16, n: u64, scratch: usize) -> Judged {
         let chain = t.chain(t.held(slip).ok_or(SLIP)?);
-        let longest = if self.is(Mutation::LongFrom512) {
-            511
-        } else {
-            512
-        };
-        refuse_if(n > longest, LONG)?;
+        refuse_if(self.is_long(n), LONG)?;
         refuse_if(n > t.length(&chain), RANGE)?;
-        if self.is(Mutation::ShowAlwaysNarrow) {
-            refuse_if((scratch as u64) < n, NARROW)?;
-        }
-        // With no piece there are no bytes to ask for.
-        let first = chain.first().map_or(ZERO, |d| t.pieces[*d]);
-        let in_storage = View {
-            in_scratch: false,
-            start: SIZE * first.buffer as u64 + first.offset,
-        };
         if n == 0 {
-            let mut done = Done::nothing(0);
-            if self.is(Mutation::ShowNothingAtHead) {
-                done.view = in_storage;
-            }
-            return Ok(done);
+            return Ok(Done::nothing(0));
         }
-        if n <= first.length {
+        if n <= t.first_length(&chain) {
+            let view = View {
+                in_scratch: false,
+                start: t.start(chain[0]),
+            };
             return Ok(Done {
-                view: in_storage,
+                view,
                 ..Done::nothing(n)
             });
         }
@@ -1368,95 +1076,41 @@ impl Model {
         })
     }
 
-    /// As list, each record taking the place of two numbers.
-    fn list_in_records(&self, t: Tables, slip: u16, records: usize) -> Result<Done, u16> {
-        if self.is(Mutation::StretchesHalfRoom) {
-            return self.list(t, slip, records);
-        }
-        self.list(t, slip, 2 * records)
-    }
+    // The wire list and its reader.
 
     /// The records of the slip's chain, where so many numbers take all of them.
-    fn list(&self, t: Tables, slip: u16, numbers: usize) -> Result<Done, u16> {
-        let mut chain = t.chain(t.held(slip).ok_or(SLIP)?);
-        if self.is(Mutation::ListByNumber) {
-            chain.sort_unstable();
-        }
+    fn list(&self, t: Tables, slip: u16, numbers: usize) -> Judged {
+        let chain = t.chain(t.held(slip).ok_or(SLIP)?);
         let records = self.records(&t, &chain);
-        let mut room = numbers / 2;
-        if self.is(Mutation::ListTakesLone) {
-            room = numbers.div_ceil(2);
-        }
-        if self.is(Mutation::ListEmptyWantsOne) {
-            refuse_if(room == 0, NARROW)?;
-        }
-        refuse_if(records.len() > room, NARROW)?;
-        let mut listed = records.concat();
-        if self.is(Mutation::ListTakesLone) {
-            listed.truncate(numbers);
-        }
-        let mut number = records.len() as u64;
-        if self.is(Mutation::ListAnswersNumbers) {
-            number *= 2;
-        }
+        refuse_if(records.len() > numbers / 2, NARROW)?;
         Ok(Done {
-            listed,
-            ..Done::nothing(number)
+            listed: records.concat(),
+            ..Done::nothing(records.len() as u64)
         })
+    }
+
+    /// stretches: as list, each record taking the place of two numbers.
+    fn list_in_records(&self, t: Tables, slip: u16, records: usize) -> Judged {
+        self.list(t, slip, 2 * records)
     }
 
     /// One record for each piece in chain order: position in storage, then length.
     fn records(&self, t: &Tables, chain: &[usize]) -> Vec<[u32; 2]> {
-        let mut records: Vec<[u32; 2]> = Vec::new();
-        for &d in chain {
-            let piece = &t.pieces[d];
-            let mut position = (SIZE * piece.buffer as u64 + piece.offset) as u32;
-            let length = piece.length as u32;
-            if self.is(Mutation::ListWithinBuffer) {
-                position = piece.offset as u32;
-            }
-            let joins = |last: &&mut [u32; 2]| last[0] + last[1] == position;
-            match records.last_mut().filter(joins) {
-                Some(last) if self.is(Mutation::ListJoins) => last[1] += length,
-                _ => records.push([position, length]),
-            }
-        }
-        if self.is(Mutation::ListLengthFirst) {
-            records.iter_mut().for_each(|record| record.swap(0, 1));
-        }
-        records
+        let record = |d: &usize| [t.start(*d) as u32, t.pieces[*d].length as u32];
+        chain.iter().map(record).collect()
     }
 
     /// gather: the bytes of the list's records, from storage alone.
-    fn gather(&self, storage: &[u8], list: &[u32], output: u64) -> Result<Done, u16> {
-        let mut records: Vec<(u64, u64)> = list
-            .chunks_exact(2)
-            .map(|two| (two[0] as u64, two[1] as u64))
-            .collect();
-        if self.is(Mutation::GatherTakesLone) && list.len() % 2 == 1 {
-            records.push((list[list.len() - 1] as u64, 0));
-        }
-        // As many lengths of 32 bits as memory holds have a sum of less than 64 bits.
-        let mut sum: u64 = records.iter().map(|(_, length)| length).sum();
-        if self.is(Mutation::GatherSumWraps) {
-            sum %= 1 << 32;
-        }
-        if self.is(Mutation::GatherByRecord) {
-            self.judge_by_record(storage, &records, output)?;
-        }
-        let amiss = records.iter().any(|record| self.is_amiss(storage, *record));
-        if self.is(Mutation::GatherListFirst) {
-            refuse_if(amiss, LIST)?;
-        }
+    fn gather(&self, storage: &[u8], list: &[u32], output: u64) -> Judged {
+        let records = pairs(list);
+        let sum = self.sum(&records);
+        let amiss = |record: &(u64, u64)| self.is_amiss(storage, *record);
         refuse_if(sum > output, NARROW)?;
-        refuse_if(amiss, LIST)?;
+        refuse_if(records.iter().any(amiss), LIST)?;
         let mut copied = Vec::new();
         for (position, length) in records {
             let from = storage.iter().skip(position as usize);
             copied.extend(from.take(length as usize));
-        }
-        if self.is(Mutation::GatherSumWraps) {
-            copied.truncate(output as usize);
         }
         Ok(Done {
             copied,
@@ -1464,32 +1118,20 @@ impl Model {
         })
     }
 
-    /// Whether a record is of no length or leaves storage.
-    fn is_amiss(&self, storage: &[u8], (position, length): (u64, u64)) -> bool {
-        let mut end = position + length;
-        if self.is(Mutation::GatherEndWraps) {
-            end %= 1 << 32;
-        }
-        if self.is(Mutation::GatherShortStorage) {
-            end += 1;
-        }
-        let none = length == 0 && !self.is(Mutation::GatherPassesEmpty);
-        none || end > storage.len() as u64
+    /// All lengths as a whole number: of as many as memory holds it stays below 64 bits.
+    fn sum(&self, records: &[(u64, u64)]) -> u64 {
+        records.iter().map(|(_, length)| length).sum()
     }
 
-    /// Only for a mutation: the code of the first record with a fault.
-    fn judge_by_record(
-        &self,
-        storage: &[u8],
-        records: &[(u64, u64)],
-        output: u64,
-    ) -> Result<(), u16> {
-        let mut left = output;
-        for (position, length) in records {
-            refuse_if(self.is_amiss(storage, (*position, *length)), LIST)?;
-            refuse_if(*length > left, NARROW)?;
-            left -= length;
-        }
-        Ok(())
+    /// Whether a record is of no length or leaves storage.
+    fn is_amiss(&self, storage: &[u8], (position, length): (u64, u64)) -> bool {
+        length == 0 || position + length > storage.len() as u64
     }
+}
+
+/// The records of a list, position and length; a lone last number is none.
+pub fn pairs(list: &[u32]) -> Vec<(u64, u64)> {
+    list.chunks_exact(2)
+        .map(|two| (two[0] as u64, two[1] as u64))
+        .collect()
 }

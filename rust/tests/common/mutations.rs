@@ -1,0 +1,812 @@
+//! Wrong programs, each the rules with one of them read or done wrong, as an apprentice might.
+
+use super::model::{
+    pairs, pool_length, refuse_if, Call, Done, Holder, Judged, Left, Outcome, Piece, Place, Room,
+    Rules, Slip, Tables, DONE, LIST, NARROW, PIECES, RANGE, SAME, SIZE, SLIP, TRUE, ZERO,
+};
+
+macro_rules! named {
+    ($($wrong:ident,)*) => {
+        &[$((stringify!($wrong), &$wrong),)*]
+    };
+}
+
+/// Every wrong program by its name.
+pub const MUTATIONS: &[(&str, &dyn Rules)] = named![
+    FreesPastShared,
+    OwnByOwnCount,
+    BufferHeldBySlips,
+    AuditCountsSlips,
+    RangeWraps,
+    SlipKeptWithoutPiece,
+    HighestPiece,
+    HighestBuffer,
+    RoomGivenBack,
+    KeepBorderInPlace,
+    DropBorderTakesPiece,
+    PullupOfWholeFirst,
+    PullupFrontHigher,
+    PullupAsksTwo,
+    PackSparesPacked,
+    CutSharesTail,
+    CutTakesTouched,
+    RestNotZeroed,
+    DupHeadsSame,
+    ShowAlwaysNarrow,
+    NarrowBeforeRange,
+    SameBeforeSlip,
+    DropAllVacates,
+    RingUnseen,
+    EndWraps,
+    DirtyFreePassed,
+    NextToFreePassed,
+    ReleasedCleaned,
+    AppendOwnWithoutB,
+    AppendEmptyReplaces,
+    LongFrom512,
+    BufferLeftEarly,
+    PutOneMore,
+    ShowNothingAtHead,
+    OpenClears,
+    PiecesBeforeSlips,
+    OpenTakesLonger,
+    ListTakesLone,
+    ListWrittenShort,
+    ListClearsRest,
+    ListAnswersNumbers,
+    ListWithinBuffer,
+    ListLengthFirst,
+    ListByNumber,
+    ListJoins,
+    ListEmptyWantsOne,
+    StretchesHalfRoom,
+    GatherSumWraps,
+    GatherEndWraps,
+    GatherListFirst,
+    GatherByRecord,
+    GatherTakesLone,
+    GatherPassesEmpty,
+    GatherShortStorage,
+    GatherCopiesFirst,
+    GatherClearsRest,
+];
+
+/// Release frees the whole chain past a piece that another slip still reaches.
+struct FreesPastShared;
+
+impl Rules for FreesPastShared {
+    fn release(&self, t: &mut Tables, d: usize) {
+        let Piece { buffer, next, .. } = t.pieces[d];
+        t.pieces[d] = ZERO;
+        t.buffers[buffer] = t.buffers[buffer].saturating_sub(1);
+        if let Some(next) = next {
+            self.release(t, next);
+        }
+    }
+}
+
+/// A piece of count 1 behind a shared piece is shortened in place.
+struct OwnByOwnCount;
+
+impl Rules for OwnByOwnCount {
+    fn is_own(&self, t: &Tables, chain: &[usize], i: usize) -> bool {
+        t.pieces[chain[i]].count == 1
+    }
+}
+
+/// A new chain adds 1 to a buffer, however many of its pieces lie on it.
+struct BufferHeldBySlips;
+
+impl Rules for BufferHeldBySlips {
+    fn build(
+        &self,
+        t: &mut Tables,
+        room: &Room,
+        places: &[Place],
+        then: Option<usize>,
+    ) -> Option<usize> {
+        let head = TRUE.build(t, room, places, then);
+        for (i, place) in places.iter().enumerate() {
+            if places[..i].iter().any(|met| met.buffer == place.buffer) {
+                t.buffers[place.buffer] -= 1;
+            }
+        }
+        head
+    }
+}
+
+/// The audit counts a buffer's holders by slips.
+struct AuditCountsSlips;
+
+impl Rules for AuditCountsSlips {
+    fn holders(&self, t: &Tables, b: usize) -> u64 {
+        let lies = |slip: &&Slip| t.places(&t.chain(**slip)).iter().any(|q| q.buffer == b);
+        t.slips.iter().filter(lies).count() as u64
+    }
+}
+
+/// Offset and length are added in 32 bits.
+struct RangeWraps;
+
+impl Rules for RangeWraps {
+    fn end(&self, offset: u32, length: u32) -> u64 {
+        offset.wrapping_add(length) as u64
+    }
+}
+
+/// A slip is taken for the new chain before no piece is found, and kept.
+struct SlipKeptWithoutPiece;
+
+impl Rules for SlipKeptWithoutPiece {
+    fn step(&self, pool: &[u8], storage: &[u8], call: &Call) -> Outcome {
+        let mut after = TRUE.step(pool, storage, call);
+        let takes_slip = matches!(call, Call::Put { .. } | Call::Dup { .. } | Call::Cut { .. });
+        if takes_slip && after.code == PIECES {
+            let mut t = Tables::parse(pool, storage).expect("sound");
+            let vacant = TRUE.room(&t).slips[0];
+            t.slips[vacant] = Slip::Empty;
+            after.pool = t.bytes();
+        }
+        after
+    }
+}
+
+/// New pieces are the highest free.
+struct HighestPiece;
+
+impl Rules for HighestPiece {
+    fn room(&self, t: &Tables) -> Room {
+        let mut room = TRUE.room(t);
+        room.pieces.reverse();
+        room
+    }
+}
+
+/// New buffers are the highest free.
+struct HighestBuffer;
+
+impl Rules for HighestBuffer {
+    fn room(&self, t: &Tables) -> Room {
+        let mut room = TRUE.room(t);
+        room.buffers.reverse();
+        room
+    }
+}
+
+/// Pack takes room that it gives back itself.
+struct RoomGivenBack;
+
+impl Rules for RoomGivenBack {
+    fn pack(&self, mut t: Tables, storage: &[u8], slip: u16) -> Judged {
+        let chain = t.chain(t.held(slip).ok_or(SLIP)?);
+        if chain.len() <= 1 {
+            return TRUE.pack(t, storage, slip);
+        }
+        let bytes = t.read(storage, &chain);
+        TRUE.refer(&mut t, Holder::Slip(slip as usize), None);
+        let room = TRUE.room(&t);
+        let wanted = TRUE.portions(&bytes).len() as u64;
+        TRUE.ask(&room, 0, wanted, wanted)?;
+        Ok(TRUE.put_under(t, &room, slip as usize, &bytes))
+    }
+}
+
+/// Keep at a border cuts the next of a piece that isn't own.
+struct KeepBorderInPlace;
+
+impl Rules for KeepBorderInPlace {
+    fn keep(&self, mut t: Tables, slip: u16, n: u64) -> Judged {
+        let chain = t.chain(t.held(slip).ok_or(SLIP)?);
+        let last = t.spans(&chain).iter().position(|(_, end)| *end == n);
+        match last {
+            Some(i) if i + 1 < chain.len() => {
+                TRUE.refer(&mut t, Holder::Piece(chain[i]), None);
+                Ok(Done::changed(0, t))
+            }
+            _ => TRUE.keep(t, slip, n),
+        }
+    }
+}
+
+/// Drop at a border takes a new piece for the shared piece behind it.
+struct DropBorderTakesPiece;
+
+impl Rules for DropBorderTakesPiece {
+    fn left_by_drop(&self, t: &Tables, chain: &[usize], n: u64) -> Left {
+        let border = t.spans(chain).iter().position(|(start, _)| *start == n);
+        match border {
+            Some(i) if !TRUE.is_own(t, chain, i) => Left {
+                shortened: None,
+                places: vec![t.place(chain[i])],
+                then: t.pieces[chain[i]].next,
+            },
+            _ => TRUE.left_by_drop(t, chain, n),
+        }
+    }
+}
+
+/// Pullup goes on although the first piece has just n bytes.
+struct PullupOfWholeFirst;
+
+impl Rules for PullupOfWholeFirst {
+    fn pullup(&self, t: Tables, storage: &[u8], slip: u16, n: u64) -> Judged {
+        let chain = t.chain(t.held(slip).ok_or(SLIP)?);
+        if n > 0 && n == t.first_length(&chain) {
+            return TRUE.pull(t, storage, slip, n);
+        }
+        TRUE.pullup(t, storage, slip, n)
+    }
+}
+
+/// The front of pullup takes the higher number.
+struct PullupFrontHigher;
+
+impl Rules for PullupFrontHigher {
+    fn pull(&self, t: Tables, storage: &[u8], slip: u16, n: u64) -> Judged {
+        let free = TRUE.room(&t).pieces;
+        let mut done = TRUE.pull(t, storage, slip, n)?;
+        if let (Some(t), [front, behind, ..]) = (&mut done.tables, &free[..]) {
+            if t.is_used(*behind) {
+                t.pieces.swap(*front, *behind);
+                t.pieces[*behind].next = Some(*front);
+                t.slips[slip as usize] = Slip::Heads(*behind);
+            }
+        }
+        Ok(done)
+    }
+}
+
+/// Pullup asks for two pieces always.
+struct PullupAsksTwo;
+
+impl Rules for PullupAsksTwo {
+    fn pull(&self, t: Tables, storage: &[u8], slip: u16, n: u64) -> Judged {
+        TRUE.ask(&TRUE.room(&t), 0, 2, 1)?;
+        TRUE.pull(t, storage, slip, n)
+    }
+}
+
+/// Pack leaves a chain that is packed already.
+struct PackSparesPacked;
+
+impl Rules for PackSparesPacked {
+    fn pack(&self, t: Tables, storage: &[u8], slip: u16) -> Judged {
+        let places = t.places(&t.chain(t.held(slip).ok_or(SLIP)?));
+        match places.split_last() {
+            Some((last, full)) if last.offset == 0 && full.iter().all(|q| q.length == SIZE) => {
+                Ok(Done::nothing(0))
+            }
+            _ => TRUE.pack(t, storage, slip),
+        }
+    }
+}
+
+/// Cut up to the chain's end shares the tail.
+struct CutSharesTail;
+
+impl Rules for CutSharesTail {
+    fn cut(&self, t: Tables, slip: u16, offset: u32, length: u32) -> Judged {
+        let chain = t.chain(t.held(slip).ok_or(SLIP)?);
+        let spans = t.spans(&chain);
+        let tail = spans.iter().position(|(start, _)| *start >= offset as u64);
+        match tail {
+            Some(i) if TRUE.end(offset, length) == t.length(&chain) => {
+                // The part before the tail, on a new piece, and then the tail itself.
+                let before = spans[i].0 as u32 - offset;
+                let mut done = TRUE.cut(t, slip, offset, before)?;
+                let t = done.tables.as_mut().expect("a new slip");
+                let new = done.number as usize;
+                let holder = match t.chain(t.slips[new]).last() {
+                    None => Holder::Slip(new),
+                    Some(d) => Holder::Piece(*d),
+                };
+                TRUE.refer(t, holder, Some(chain[i]));
+                Ok(done)
+            }
+            _ => TRUE.cut(t, slip, offset, length),
+        }
+    }
+}
+
+/// Cut takes a piece that the range only touches.
+struct CutTakesTouched;
+
+impl Rules for CutTakesTouched {
+    fn overlaps(&self, span: (u64, u64), range: (u64, u64)) -> bool {
+        range.0 < range.1 && span.0.max(range.0) <= span.1.min(range.1)
+    }
+}
+
+/// The rest of the last buffer keeps its old bytes.
+struct RestNotZeroed;
+
+impl Rules for RestNotZeroed {
+    fn filled(&self, data: &[u8]) -> Vec<u8> {
+        data.to_vec()
+    }
+}
+
+/// Dup heads the same piece.
+struct DupHeadsSame;
+
+impl Rules for DupHeadsSame {
+    fn dup(&self, t: Tables, slip: u16) -> Judged {
+        let head = t.held(slip).ok_or(SLIP)?.head();
+        TRUE.new_chain(t, &[], head)
+    }
+}
+
+/// Show judges the scratch where nothing is copied too.
+struct ShowAlwaysNarrow;
+
+impl Rules for ShowAlwaysNarrow {
+    fn show(&self, t: Tables, storage: &[u8], slip: u16, n: u64, scratch: usize) -> Judged {
+        let done = TRUE.show(t, storage, slip, n, scratch)?;
+        refuse_if((scratch as u64) < n, NARROW)?;
+        Ok(done)
+    }
+}
+
+/// Read judges the output before the range.
+struct NarrowBeforeRange;
+
+impl Rules for NarrowBeforeRange {
+    fn read(
+        &self,
+        t: Tables,
+        storage: &[u8],
+        slip: u16,
+        offset: u32,
+        length: u32,
+        output: usize,
+    ) -> Judged {
+        match TRUE.read(t, storage, slip, offset, length, output) {
+            Err(RANGE) if (output as u64) < length as u64 => Err(NARROW),
+            judged => judged,
+        }
+    }
+}
+
+/// Append judges one number twice before the slips.
+struct SameBeforeSlip;
+
+impl Rules for SameBeforeSlip {
+    fn append(&self, t: Tables, a: u16, b: u16) -> Judged {
+        refuse_if(a == b, SAME)?;
+        TRUE.append(t, a, b)
+    }
+}
+
+/// Drop of the whole length leaves the slip vacant.
+struct DropAllVacates;
+
+impl Rules for DropAllVacates {
+    fn drop(&self, t: Tables, slip: u16, n: u64) -> Judged {
+        let mut done = TRUE.drop(t, slip, n)?;
+        if let Some(t) = &mut done.tables {
+            if t.slips[slip as usize] == Slip::Empty {
+                t.vacate(slip);
+            }
+        }
+        Ok(done)
+    }
+}
+
+/// The audit doesn't see a ring.
+struct RingUnseen;
+
+impl Rules for RingUnseen {
+    fn never_comes_back(&self, _: &Tables, _: usize) -> bool {
+        true
+    }
+}
+
+/// The audit adds a piece's offset and length in 16 bits.
+struct EndWraps;
+
+impl Rules for EndWraps {
+    fn end_in_buffer(&self, piece: &Piece) -> u64 {
+        (piece.offset + piece.length) % 65_536
+    }
+}
+
+/// The audit doesn't look at the rest of a piece with count 0.
+struct DirtyFreePassed;
+
+impl Rules for DirtyFreePassed {
+    fn is_well_formed(&self, t: &Tables, piece: &Piece) -> bool {
+        piece.count == 0 || TRUE.is_well_formed(t, piece)
+    }
+}
+
+/// The audit lets next point at a piece with count 0.
+struct NextToFreePassed;
+
+impl Rules for NextToFreePassed {
+    fn is_good_next(&self, t: &Tables, next: Option<usize>) -> bool {
+        next.map_or(true, |d| d < t.pieces.len())
+    }
+
+    fn is_counted(&self, t: &Tables, d: usize) -> bool {
+        t.pieces[d].count == 0 || TRUE.is_counted(t, d)
+    }
+}
+
+/// A released buffer's bytes are zeroed.
+struct ReleasedCleaned;
+
+impl Rules for ReleasedCleaned {
+    fn step(&self, pool: &[u8], storage: &[u8], call: &Call) -> Outcome {
+        let mut after = TRUE.step(pool, storage, call);
+        let tables = [pool, &after.pool].map(|pool| Tables::parse(pool, storage));
+        if let [Some(before), Some(now)] = tables {
+            for b in 0..now.buffers.len() {
+                if before.buffers[b] > 0 && now.buffers[b] == 0 {
+                    after.storage[now.buffer_start(b) as usize..][..SIZE as usize].fill(0);
+                }
+            }
+        }
+        after
+    }
+}
+
+/// Append judges own without the reference that b holds.
+struct AppendOwnWithoutB;
+
+impl Rules for AppendOwnWithoutB {
+    fn append(&self, t: Tables, a: u16, b: u16) -> Judged {
+        match t.held(b) {
+            Some(Slip::Heads(d)) => OwnWithout(d).append(t, a, b),
+            _ => TRUE.append(t, a, b),
+        }
+    }
+}
+
+/// Own is judged without one reference to this piece.
+struct OwnWithout(usize);
+
+impl Rules for OwnWithout {
+    fn own(&self, t: &Tables, chain: &[usize]) -> usize {
+        let mut t = t.clone();
+        t.pieces[self.0].count -= 1;
+        TRUE.own(&t, chain)
+    }
+}
+
+/// Append of an empty b replaces pieces that aren't own.
+struct AppendEmptyReplaces;
+
+impl Rules for AppendEmptyReplaces {
+    fn append(&self, mut t: Tables, a: u16, b: u16) -> Judged {
+        match (t.held(a), t.held(b)) {
+            (Some(state @ Slip::Heads(_)), Some(Slip::Empty)) => {
+                let chain = t.chain(state);
+                let (own, others) = chain.split_at(TRUE.own(&t, &chain));
+                let places = t.places(others);
+                TRUE.replace(&mut t, a, own, &places, None)?;
+                t.vacate(b);
+                Ok(Done::changed(0, t))
+            }
+            _ => TRUE.append(t, a, b),
+        }
+    }
+}
+
+/// Code 5 is given from 512 on.
+struct LongFrom512;
+
+impl Rules for LongFrom512 {
+    fn is_long(&self, n: u64) -> bool {
+        n >= SIZE
+    }
+}
+
+/// A buffer's count goes down with every reference released.
+struct BufferLeftEarly;
+
+impl Rules for BufferLeftEarly {
+    fn release(&self, t: &mut Tables, d: usize) {
+        let Piece { buffer, next, .. } = t.pieces[d];
+        t.buffers[buffer] = t.buffers[buffer].saturating_sub(1);
+        if t.pieces[d].count > 1 {
+            t.pieces[d].count -= 1;
+            return;
+        }
+        t.pieces[d] = ZERO;
+        if let Some(next) = next {
+            self.release(t, next);
+        }
+    }
+}
+
+/// Put of 512 bytes takes two pieces.
+struct PutOneMore;
+
+impl Rules for PutOneMore {
+    fn portions<'a>(&self, data: &'a [u8]) -> Vec<&'a [u8]> {
+        let mut portions = TRUE.portions(data);
+        if !data.is_empty() && data.len() as u64 % SIZE == 0 {
+            portions.push(&[]);
+        }
+        portions
+    }
+}
+
+/// Show of 0 bytes answers the head's place.
+struct ShowNothingAtHead;
+
+impl Rules for ShowNothingAtHead {
+    fn show(&self, t: Tables, storage: &[u8], slip: u16, n: u64, scratch: usize) -> Judged {
+        let state = t.held(slip).ok_or(SLIP)?;
+        let place = state.head().map_or(0, |d| t.start(d));
+        let mut done = TRUE.show(t, storage, slip, n, scratch)?;
+        if n == 0 {
+            done.view.start = place;
+        }
+        Ok(done)
+    }
+}
+
+/// Open zeroes storage.
+struct OpenClears;
+
+impl Rules for OpenClears {
+    fn step(&self, pool: &[u8], storage: &[u8], call: &Call) -> Outcome {
+        let mut after = TRUE.step(pool, storage, call);
+        if matches!(call, Call::Open { .. }) && after.code == DONE {
+            after.storage.fill(0);
+        }
+        after
+    }
+}
+
+/// Pieces are judged before slips.
+struct PiecesBeforeSlips;
+
+impl Rules for PiecesBeforeSlips {
+    fn ask(&self, room: &Room, slips: u64, pieces: u64, buffers: u64) -> Result<(), u16> {
+        refuse_if(pieces > room.pieces.len() as u64, PIECES)?;
+        TRUE.ask(room, slips, pieces, buffers)
+    }
+}
+
+/// Open takes lengths greater than the ones it asks.
+struct OpenTakesLonger;
+
+impl Rules for OpenTakesLonger {
+    fn open(&self, pool: &[u8], storage: &[u8], buffers: u16, pieces: u16, slips: u16) -> Judged {
+        let asked = pool_length(buffers as u64, pieces as u64, slips as u64) as usize;
+        let front = pool.get(..asked).unwrap_or(pool);
+        TRUE.open(front, storage, buffers, pieces, slips)
+    }
+}
+
+/// List takes a lone last number for the room of a record.
+struct ListTakesLone;
+
+impl Rules for ListTakesLone {
+    fn list(&self, t: Tables, slip: u16, numbers: usize) -> Judged {
+        let mut done = TRUE.list(t, slip, numbers + numbers % 2)?;
+        done.listed.truncate(numbers);
+        Ok(done)
+    }
+}
+
+/// A list too short for all records gets those that it takes.
+struct ListWrittenShort;
+
+impl Rules for ListWrittenShort {
+    fn step(&self, pool: &[u8], storage: &[u8], call: &Call) -> Outcome {
+        let mut after = TRUE.step(pool, storage, call);
+        if let (NARROW, Call::List { slip, .. } | Call::Stretches { slip, .. }) = (after.code, call)
+        {
+            let t = Tables::parse(pool, storage).expect("sound");
+            let chain = t.chain(t.slips[*slip as usize]);
+            let numbers = TRUE.records(&t, &chain).concat();
+            let room = after.list.len() / 2 * 2;
+            after.list[..room].copy_from_slice(&numbers[..room]);
+        }
+        after
+    }
+}
+
+/// List zeroes the numbers past the last record.
+struct ListClearsRest;
+
+impl Rules for ListClearsRest {
+    fn step(&self, pool: &[u8], storage: &[u8], call: &Call) -> Outcome {
+        let mut after = TRUE.step(pool, storage, call);
+        let lists = matches!(call, Call::List { .. } | Call::Stretches { .. });
+        if lists && after.code == DONE {
+            after.list[2 * after.number as usize..].fill(0);
+        }
+        after
+    }
+}
+
+/// List answers how many numbers it wrote.
+struct ListAnswersNumbers;
+
+impl Rules for ListAnswersNumbers {
+    fn list(&self, t: Tables, slip: u16, numbers: usize) -> Judged {
+        let done = TRUE.list(t, slip, numbers)?;
+        Ok(Done {
+            number: done.listed.len() as u64,
+            ..done
+        })
+    }
+}
+
+/// A record's position is that in its buffer.
+struct ListWithinBuffer;
+
+impl Rules for ListWithinBuffer {
+    fn records(&self, t: &Tables, chain: &[usize]) -> Vec<[u32; 2]> {
+        let record = |q: Place| [q.offset as u32, q.length as u32];
+        t.places(chain).into_iter().map(record).collect()
+    }
+}
+
+/// A record has its length first.
+struct ListLengthFirst;
+
+impl Rules for ListLengthFirst {
+    fn records(&self, t: &Tables, chain: &[usize]) -> Vec<[u32; 2]> {
+        let records = TRUE.records(t, chain).into_iter();
+        records
+            .map(|[position, length]| [length, position])
+            .collect()
+    }
+}
+
+/// List goes by the pieces' numbers, not along the chain.
+struct ListByNumber;
+
+impl Rules for ListByNumber {
+    fn records(&self, t: &Tables, chain: &[usize]) -> Vec<[u32; 2]> {
+        let mut pieces = chain.to_vec();
+        pieces.sort_unstable();
+        TRUE.records(t, &pieces)
+    }
+}
+
+/// Two pieces that follow each other in storage make one record.
+struct ListJoins;
+
+impl Rules for ListJoins {
+    fn records(&self, t: &Tables, chain: &[usize]) -> Vec<[u32; 2]> {
+        let mut joined: Vec<[u32; 2]> = Vec::new();
+        for [position, length] in TRUE.records(t, chain) {
+            match joined.last_mut() {
+                Some(last) if last[0] + last[1] == position => last[1] += length,
+                _ => joined.push([position, length]),
+            }
+        }
+        joined
+    }
+}
+
+/// List of an empty chain wants room for a record.
+struct ListEmptyWantsOne;
+
+impl Rules for ListEmptyWantsOne {
+    fn list(&self, t: Tables, slip: u16, numbers: usize) -> Judged {
+        let done = TRUE.list(t, slip, numbers)?;
+        refuse_if(numbers < 2, NARROW)?;
+        Ok(done)
+    }
+}
+
+/// Stretches takes the count of its records for that of numbers.
+struct StretchesHalfRoom;
+
+impl Rules for StretchesHalfRoom {
+    fn list_in_records(&self, t: Tables, slip: u16, records: usize) -> Judged {
+        TRUE.list(t, slip, records)
+    }
+}
+
+/// Gather adds the lengths in 32 bits.
+struct GatherSumWraps;
+
+impl Rules for GatherSumWraps {
+    fn sum(&self, records: &[(u64, u64)]) -> u64 {
+        TRUE.sum(records) % (1 << 32)
+    }
+}
+
+/// Gather adds a record's position and length in 32 bits.
+struct GatherEndWraps;
+
+impl Rules for GatherEndWraps {
+    fn is_amiss(&self, storage: &[u8], (position, length): (u64, u64)) -> bool {
+        length == 0 || (position + length) % (1 << 32) > storage.len() as u64
+    }
+}
+
+/// Gather judges the records before the output.
+struct GatherListFirst;
+
+impl Rules for GatherListFirst {
+    fn gather(&self, storage: &[u8], list: &[u32], output: u64) -> Judged {
+        let amiss = |record: &(u64, u64)| TRUE.is_amiss(storage, *record);
+        refuse_if(pairs(list).iter().any(amiss), LIST)?;
+        TRUE.gather(storage, list, output)
+    }
+}
+
+/// Gather judges record by record, its place and then its room in the output.
+struct GatherByRecord;
+
+impl Rules for GatherByRecord {
+    fn gather(&self, storage: &[u8], list: &[u32], output: u64) -> Judged {
+        let mut left = output;
+        for record in pairs(list) {
+            refuse_if(TRUE.is_amiss(storage, record), LIST)?;
+            refuse_if(record.1 > left, NARROW)?;
+            left -= record.1;
+        }
+        TRUE.gather(storage, list, output)
+    }
+}
+
+/// Gather takes a lone last number for a record of no length.
+struct GatherTakesLone;
+
+impl Rules for GatherTakesLone {
+    fn gather(&self, storage: &[u8], list: &[u32], output: u64) -> Judged {
+        let mut whole = list.to_vec();
+        whole.resize(list.len() + list.len() % 2, 0);
+        TRUE.gather(storage, &whole, output)
+    }
+}
+
+/// Gather passes over a record of no length.
+struct GatherPassesEmpty;
+
+impl Rules for GatherPassesEmpty {
+    fn is_amiss(&self, storage: &[u8], (position, length): (u64, u64)) -> bool {
+        position + length > storage.len() as u64
+    }
+}
+
+/// Gather refuses a record that ends where storage ends.
+struct GatherShortStorage;
+
+impl Rules for GatherShortStorage {
+    fn is_amiss(&self, storage: &[u8], (position, length): (u64, u64)) -> bool {
+        length == 0 || position + length >= storage.len() as u64
+    }
+}
+
+/// Gather copies the records before the one that it refuses.
+struct GatherCopiesFirst;
+
+impl Rules for GatherCopiesFirst {
+    fn step(&self, pool: &[u8], storage: &[u8], call: &Call) -> Outcome {
+        let mut after = TRUE.step(pool, storage, call);
+        if let (LIST, Call::Gather { list, .. }) = (after.code, call) {
+            let good = |record: &(u64, u64)| !TRUE.is_amiss(storage, *record);
+            let mut at = 0;
+            for (position, length) in pairs(list).into_iter().take_while(good) {
+                let bytes = &storage[position as usize..][..length as usize];
+                after.lent[at..at + bytes.len()].copy_from_slice(bytes);
+                at += bytes.len();
+            }
+        }
+        after
+    }
+}
+
+/// Gather zeroes the output past the bytes.
+struct GatherClearsRest;
+
+impl Rules for GatherClearsRest {
+    fn step(&self, pool: &[u8], storage: &[u8], call: &Call) -> Outcome {
+        let mut after = TRUE.step(pool, storage, call);
+        if matches!(call, Call::Gather { .. }) && after.code == DONE {
+            after.lent[after.number as usize..].fill(0);
+        }
+        after
+    }
+}
