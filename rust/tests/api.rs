@@ -7,6 +7,7 @@ use std::error::Error;
 
 use common::desk::data;
 use common::model::{Call, Outcome, View, NO_VIEW};
+use common::morning::{self, Chain, MORNING};
 use common::random::SHAPES;
 use common::sequence::{pools, run_lists, setting};
 use common::wire;
@@ -36,6 +37,10 @@ impl Memory {
 
     fn open(&mut self, shape: Shape) -> Pool<'_> {
         Pool::open(&mut self.pool, &mut self.storage, shape).expect("the lengths that it asks")
+    }
+
+    fn attach(&mut self) -> Pool<'_> {
+        Pool::attach(&mut self.pool, &mut self.storage).expect("a sound pool")
     }
 }
 
@@ -401,60 +406,77 @@ fn views_are_handed_back() {
     });
 }
 
+/// The memory after row 2 of the morning, whose slips are the whole and a part of it.
+fn whole_and_part() -> (Memory, [&'static Chain; 2]) {
+    let desk = morning::after(step, 2);
+    let memory = Memory {
+        pool: desk.pool,
+        storage: desk.storage,
+    };
+    let [whole, part] = MORNING[1].chains else {
+        panic!("row 2 has two slips");
+    };
+    (memory, [whole, part])
+}
+
 #[test]
 fn list() {
-    with(4, 6, 4, |mut pool| {
-        let slip = pool.put(&data(600)).unwrap();
-        let part = pool.cut(slip, 500, 50).unwrap();
-        let mut numbers = [0x99; 7];
-        let written = pool.list(part, &mut numbers).unwrap();
-        assert_eq!(written, [500, 12, 512, 38]);
-        assert_eq!(numbers[4..], [0x99; 3]);
-        let mut numbers = [0x99; 3];
-        assert_eq!(pool.list(slip, &mut numbers), Err(Refusal::Narrow));
-        assert_eq!(pool.list(Slip(2), &mut numbers), Err(Refusal::Slip));
-        assert_eq!(pool.list(Slip(4), &mut []), Err(Refusal::Slip));
-        assert_eq!(numbers, [0x99; 3]);
-        let empty = pool.put(&[]).unwrap();
-        assert_eq!(pool.list(empty, &mut []).unwrap(), [0; 0]);
-        assert_eq!(pool.list(empty, &mut numbers).unwrap(), [0; 0]);
-    });
+    let (mut memory, [whole, part]) = whole_and_part();
+    let mut pool = memory.attach();
+    let mut numbers = vec![0x99; part.list.len() + 3];
+    let written = pool.list(Slip(part.slip), &mut numbers).unwrap();
+    assert_eq!(written, part.list);
+    assert_eq!(numbers[part.list.len()..], [0x99; 3]);
+    let old = vec![0x99; whole.list.len() - 1];
+    let mut numbers = old.clone();
+    let narrow = pool.list(Slip(whole.slip), &mut numbers);
+    assert_eq!(narrow, Err(Refusal::Narrow));
+    assert_eq!(pool.list(Slip(2), &mut numbers), Err(Refusal::Slip));
+    assert_eq!(pool.list(Slip(4), &mut []), Err(Refusal::Slip));
+    assert_eq!(numbers, old);
+    let empty = pool.put(&[]).unwrap();
+    assert_eq!(pool.list(empty, &mut []).unwrap(), [0; 0]);
+    assert_eq!(pool.list(empty, &mut numbers).unwrap(), [0; 0]);
 }
 
 #[test]
 fn stretches() {
-    let stretch = |position, length| Stretch { position, length };
-    with(4, 6, 4, |mut pool| {
-        let slip = pool.put(&data(600)).unwrap();
-        let part = pool.cut(slip, 500, 50).unwrap();
-        let old = stretch(7, 9);
-        let mut records = [old; 3];
-        let written = pool.stretches(part, &mut records).unwrap();
-        assert_eq!(written, [stretch(500, 12), stretch(512, 38)]);
-        assert_eq!(records[2], old);
-        let mut records = [old];
-        assert_eq!(pool.stretches(slip, &mut records), Err(Refusal::Narrow));
-        assert_eq!(pool.stretches(Slip(2), &mut records), Err(Refusal::Slip));
-        assert_eq!(records, [old]);
-        let empty = pool.put(&[]).unwrap();
-        assert_eq!(pool.stretches(empty, &mut []).unwrap(), []);
-    });
+    let (mut memory, [whole, part]) = whole_and_part();
+    let mut pool = memory.attach();
+    let stretch = |two: &[u32]| Stretch {
+        position: two[0],
+        length: two[1],
+    };
+    let old = stretch(&[7, 9]);
+    let wanted: Vec<Stretch> = part.list.chunks(2).map(stretch).collect();
+    let mut records = vec![old; wanted.len() + 1];
+    let written = pool.stretches(Slip(part.slip), &mut records).unwrap();
+    assert_eq!(written, wanted);
+    assert_eq!(records[wanted.len()], old);
+    let mut records = vec![old; whole.list.len() / 2 - 1];
+    let before = records.clone();
+    let narrow = pool.stretches(Slip(whole.slip), &mut records);
+    assert_eq!(narrow, Err(Refusal::Narrow));
+    assert_eq!(pool.stretches(Slip(2), &mut records), Err(Refusal::Slip));
+    assert_eq!(records, before);
+    let empty = pool.put(&[]).unwrap();
+    assert_eq!(pool.stretches(empty, &mut []).unwrap(), []);
 }
 
 /// The bytes of a list, by the pool's storage and by the lent memory when the pool is given up.
 #[test]
 fn gather() {
-    let mut memory = Memory::new(SHAPE);
-    let mut pool = memory.open(SHAPE);
-    let slip = pool.put(&data(600)).unwrap();
-    let part = pool.cut(slip, 500, 50).unwrap();
-    let (mut numbers, mut output) = ([0; 8], [0x99; 52]);
-    let list = pool.list(part, &mut numbers).unwrap();
+    let (mut memory, [_, part]) = whole_and_part();
+    let pool = memory.attach();
+    let wanted = part.bytes();
+    let mut numbers = vec![0; part.list.len() + 4];
+    let mut output = vec![0x99; wanted.len() + 2];
+    let list = pool.list(Slip(part.slip), &mut numbers).unwrap();
     let copied = fulcrumnest::gather(pool.storage(), list, &mut output).unwrap();
-    assert_eq!(copied, &data(600)[500..550]);
-    assert_eq!(output[50..], [0x99; 2]);
+    assert_eq!(copied, wanted);
+    assert_eq!(output[wanted.len()..], [0x99; 2]);
     let copied = fulcrumnest::gather(&memory.storage, list, &mut output).unwrap();
-    assert_eq!(copied, &data(600)[500..550]);
+    assert_eq!(copied, wanted);
 
     let mut output = [0x99; 9];
     for (list, refusal) in [

@@ -5,7 +5,9 @@ mod common;
 
 use common::damage;
 use common::desk::data;
+use common::library;
 use common::model::Tables;
+use common::morning;
 use common::random::{Random, SHAPES};
 use common::sequence::{setting, List};
 use common::xml::{self, Element};
@@ -27,12 +29,9 @@ fn drawn(buffers: u16, pieces: u16, slips: u16, work: impl FnOnce(&mut Pool<'_>)
 
 #[test]
 fn lengths_are_aligned_and_counts_marked() {
-    let text = drawn(4, 6, 4, |pool| {
-        pool.put(&data(600)).unwrap();
-        pool.cut(Slip(0), 500, 50).unwrap();
-        pool.dup(Slip(0)).unwrap();
-        pool.put(&[]).unwrap();
-    });
+    let mut desk = morning::after(library::step, 3);
+    desk.put(0, 3);
+    let text = Picture::new(&desk.pool, &desk.storage).to_string();
     let wanted = "\
 slip 0  600 bytes  p0[b0 0+512] > p1[b1 0+88]x2
 slip 1   50 bytes  p2[b0 500+12] > p3[b1 0+38]

@@ -11,6 +11,9 @@ pub fn by_model(pool: &[u8], storage: &[u8], call: &Call) -> Outcome {
     model::TRUE.step(pool, storage, call)
 }
 
+/// What stands in storage before the opening.
+pub const UNTOUCHED: u8 = 0xEE;
+
 /// Data byte i is i mod 251.
 pub fn data(n: usize) -> Vec<u8> {
     (0..n).map(|i| (i % 251) as u8).collect()
@@ -29,7 +32,7 @@ impl Desk {
         let mut desk = Desk {
             engine,
             pool: vec![0xDD; length as usize],
-            storage: vec![0xEE; 512 * buffers as usize],
+            storage: vec![UNTOUCHED; 512 * buffers as usize],
         };
         desk.done(
             Call::Open {
@@ -83,15 +86,15 @@ impl Desk {
     }
 
     pub fn put(&mut self, n: usize, slip: u64) {
-        self.done(Call::Put { data: data(n) }, slip);
+        self.done(put(n), slip);
     }
 
     pub fn free(&mut self, slip: u16) {
-        self.done(Call::Free { slip }, 0);
+        self.done(free(slip), 0);
     }
 
     pub fn dup(&mut self, slip: u16, new: u64) {
-        self.done(Call::Dup { slip }, new);
+        self.done(dup(slip), new);
     }
 
     pub fn cut(&mut self, slip: u16, offset: u32, length: u32, new: u64) {
@@ -99,23 +102,23 @@ impl Desk {
     }
 
     pub fn append(&mut self, a: u16, b: u16) {
-        self.done(Call::Append { a, b }, 0);
+        self.done(append(a, b), 0);
     }
 
     pub fn drop(&mut self, slip: u16, n: u32) {
-        self.done(Call::Drop { slip, n }, 0);
+        self.done(drop(slip, n), 0);
     }
 
     pub fn keep(&mut self, slip: u16, n: u32) {
-        self.done(Call::Keep { slip, n }, 0);
+        self.done(keep(slip, n), 0);
     }
 
     pub fn pullup(&mut self, slip: u16, n: u32) {
-        self.done(Call::Pullup { slip, n }, 0);
+        self.done(pullup(slip, n), 0);
     }
 
     pub fn pack(&mut self, slip: u16) {
-        self.done(Call::Pack { slip }, 0);
+        self.done(pack(slip), 0);
     }
 
     pub fn length(&mut self, slip: u16, n: u64) {
@@ -172,6 +175,12 @@ impl Desk {
         assert!(text.is_empty(), "{text}");
     }
 
+    /// Storage is exactly these bytes.
+    pub fn stores(&self, bytes: &[u8]) {
+        let text = differences("storage", bytes, &self.storage);
+        assert!(text.is_empty(), "{text}");
+    }
+
     /// Buffer b is exactly these bytes, then zeros.
     pub fn buffer_holds(&self, b: usize, bytes: &[u8]) {
         let mut whole = bytes.to_vec();
@@ -192,6 +201,39 @@ impl Desk {
     pub fn set(&mut self, at: usize, word: u16) {
         self.pool[at..at + 2].copy_from_slice(&word.to_le_bytes());
     }
+}
+
+/// A put of so many bytes of the data.
+pub fn put(n: usize) -> Call {
+    Call::Put { data: data(n) }
+}
+
+pub fn free(slip: u16) -> Call {
+    Call::Free { slip }
+}
+
+pub fn dup(slip: u16) -> Call {
+    Call::Dup { slip }
+}
+
+pub fn append(a: u16, b: u16) -> Call {
+    Call::Append { a, b }
+}
+
+pub fn drop(slip: u16, n: u32) -> Call {
+    Call::Drop { slip, n }
+}
+
+pub fn keep(slip: u16, n: u32) -> Call {
+    Call::Keep { slip, n }
+}
+
+pub fn pullup(slip: u16, n: u32) -> Call {
+    Call::Pullup { slip, n }
+}
+
+pub fn pack(slip: u16) -> Call {
+    Call::Pack { slip }
 }
 
 pub fn cut(slip: u16, offset: u32, length: u32) -> Call {

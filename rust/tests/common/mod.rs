@@ -12,6 +12,7 @@ pub mod desk;
 #[cfg(fulcrumnest_lib)]
 pub mod library;
 pub mod model;
+pub mod morning;
 pub mod mutations;
 pub mod nexts;
 pub mod random;

@@ -1,19 +1,24 @@
-//! The paper's own cases, for any engine: the marked rows, the edges, the five common errors, each
-//! point where the paper can be read in two ways, and the wire list with its reader.
+//! The paper's own cases, for any engine: beside the rows and edges of the morning the five common
+//! errors, each point where the paper can be read in two ways, and the wire list with its reader.
 
 use super::desk::{cut, data, gather, list, read, show, stretches, Desk, Engine, OLD};
 use super::model::{
     Call, View, BUFFERS, COUNTS, LIST, LONG, NARROW, NO_VIEW, PIECES, RANGE, SAME, SLIP, SLIPS,
     TORN,
 };
+use super::morning::{self, MORNING, Z};
 
 /// Makes one test of each case.
 #[macro_export]
 macro_rules! paper_cases {
     ($engine:path) => {
-        $crate::paper_cases! { $engine;
-            fresh_pool, ten_rows, longest_chain, most_holders,
+        $crate::paper_cases! { $engine; morning;
+            ten_rows,
             edge_put_at_512, edge_storage_full, edge_cut_at_end, edge_long, edge_append_same,
+            list_of_the_morning, gather_of_the_morning,
+        }
+        $crate::paper_cases! { $engine; scenarios;
+            fresh_pool, longest_chain, most_holders,
             error_freeing_past_shared, error_shortening_behind_shared,
             error_counting_holders_by_slips, error_adding_in_32_bits, error_keeping_the_slip,
             reading_01_own_at_entry, reading_02_one_reference_released,
@@ -24,23 +29,20 @@ macro_rules! paper_cases {
             reading_14_append_twice, reading_15_read_and_show, reading_16_whole_numbers,
             reading_17_exact_lengths, reading_18_rings, reading_19_released_bytes_stay,
             reading_20_empty_slices,
-            list_of_the_morning, list_of_the_largest, list_too_short, list_of_nothing,
-            list_order_of_codes,
-            gather_of_the_morning, gather_repeats, gather_refuses_records,
-            gather_order_of_codes, gather_whole_numbers, gather_without_a_pool,
+            list_of_the_largest, list_too_short, list_of_nothing, list_order_of_codes,
+            gather_repeats, gather_refuses_records, gather_order_of_codes,
+            gather_whole_numbers, gather_without_a_pool,
         }
     };
-    ($engine:path; $($case:ident,)*) => {
+    ($engine:path; $place:ident; $($case:ident,)*) => {
         $(
             #[test]
             fn $case() {
-                common::scenarios::$case($engine);
+                common::$place::$case($engine);
             }
         )*
     };
 }
-
-const Z: [u16; 5] = [0; 5];
 
 /// The fresh pool for B 4, P 6, S 4 is 87 bytes; open leaves storage as it was.
 pub fn fresh_pool(engine: Engine) {
@@ -53,145 +55,6 @@ pub fn fresh_pool(engine: Engine) {
     assert_eq!(desk.pool.len(), 87);
     assert_eq!(desk.storage, vec![0xEE; 2_048]);
     desk.done_unchanged(Call::Audit, 0);
-}
-
-/// Rows 1 to 10 of the morning, each with the whole tables and the chains' bytes.
-pub fn ten_rows(engine: Engine) {
-    let mut desk = Desk::open(engine, 4, 6, 4);
-    let d = data(600);
-
-    // 1: put 600.
-    desk.put(600, 0);
-    desk.tables(
-        &[2, 0, 0, 0],
-        &[[1, 0, 0, 512, 2], [1, 1, 0, 88, 0], Z, Z, Z, Z],
-        &[1, 1, 0, 0],
-    );
-    desk.buffer_holds(0, &d[..512]);
-    desk.buffer_holds(1, &d[512..]);
-    assert_eq!(desk.storage[1_024..], [0xEE; 1_024]);
-    desk.reads(0, &d);
-
-    // 2: cut 0, 500, 50.
-    let storage = desk.storage.clone();
-    desk.cut(0, 500, 50, 1);
-    desk.tables(
-        &[2, 4, 0, 0],
-        &[
-            [1, 0, 0, 512, 2],
-            [1, 1, 0, 88, 0],
-            [1, 0, 500, 12, 4],
-            [1, 1, 0, 38, 0],
-            Z,
-            Z,
-        ],
-        &[2, 2, 0, 0],
-    );
-    desk.reads(1, &d[500..550]);
-
-    // 3: dup 0.
-    desk.dup(0, 2);
-    desk.tables(
-        &[2, 4, 6, 0],
-        &[
-            [1, 0, 0, 512, 2],
-            [2, 1, 0, 88, 0],
-            [1, 0, 500, 12, 4],
-            [1, 1, 0, 38, 0],
-            [1, 0, 0, 512, 2],
-            Z,
-        ],
-        &[3, 2, 0, 0],
-    );
-    desk.reads(0, &d);
-    desk.reads(2, &d);
-
-    // 4: free 0.
-    desk.free(0);
-    desk.tables(
-        &[0, 4, 6, 0],
-        &[
-            Z,
-            [1, 1, 0, 88, 0],
-            [1, 0, 500, 12, 4],
-            [1, 1, 0, 38, 0],
-            [1, 0, 0, 512, 2],
-            Z,
-        ],
-        &[2, 2, 0, 0],
-    );
-    desk.reads(2, &d);
-
-    // 5: drop 2, 520.
-    desk.drop(2, 520);
-    desk.tables(
-        &[0, 4, 3, 0],
-        &[
-            Z,
-            [1, 1, 8, 80, 0],
-            [1, 0, 500, 12, 4],
-            [1, 1, 0, 38, 0],
-            Z,
-            Z,
-        ],
-        &[1, 2, 0, 0],
-    );
-    desk.reads(2, &d[520..]);
-
-    // 6: append 1, 2.
-    desk.append(1, 2);
-    desk.tables(
-        &[0, 4, 0, 0],
-        &[
-            Z,
-            [1, 1, 8, 80, 0],
-            [1, 0, 500, 12, 4],
-            [1, 1, 0, 38, 2],
-            Z,
-            Z,
-        ],
-        &[1, 2, 0, 0],
-    );
-    desk.length(1, 130);
-    desk.reads(1, &[&d[500..550], &d[520..]].concat());
-
-    // 7: keep 1, 40.
-    desk.keep(1, 40);
-    desk.tables(
-        &[0, 4, 0, 0],
-        &[Z, Z, [1, 0, 500, 12, 4], [1, 1, 0, 28, 0], Z, Z],
-        &[1, 1, 0, 0],
-    );
-    desk.reads(1, &d[500..540]);
-    assert_eq!(desk.storage, storage, "rows 2 to 7 write no storage");
-
-    // 8: pullup 1, 20.
-    desk.pullup(1, 20);
-    desk.tables(
-        &[0, 2, 0, 0],
-        &[[1, 2, 0, 20, 4], Z, Z, [1, 1, 8, 20, 0], Z, Z],
-        &[0, 1, 1, 0],
-    );
-    desk.buffer_holds(2, &d[500..520]);
-    desk.buffer_holds(0, &d[..512]);
-    desk.reads(1, &d[500..540]);
-
-    // 9: pack 1; the bytes are 249, 250, 0 to 37.
-    desk.pack(1);
-    desk.tables(
-        &[0, 3, 0, 0],
-        &[Z, [1, 0, 0, 40, 0], Z, Z, Z, Z],
-        &[1, 0, 0, 0],
-    );
-    let bytes: Vec<u8> = [249, 250].into_iter().chain(0..=37).collect();
-    assert_eq!(bytes, d[500..540]);
-    desk.buffer_holds(0, &bytes);
-    desk.reads(1, &bytes);
-
-    // 10: free 1 gives the tables of a fresh pool again.
-    desk.free(1);
-    desk.tables(&[0; 4], &[Z; 6], &[0; 4]);
-    assert_eq!(desk.storage[1_536..], [0xEE; 512]);
 }
 
 /// The longest chain is 512·P bytes: 256 pieces, here all on one buffer.
@@ -246,66 +109,6 @@ pub fn most_holders(engine: Engine) {
     slips[63] = 66;
     desk.tables(&slips, &pieces, &[1, 1]);
     desk.reads(63, &data(600));
-}
-
-/// Put of 512 takes one piece, of 513 two.
-pub fn edge_put_at_512(engine: Engine) {
-    let mut desk = Desk::open(engine, 4, 6, 4);
-    desk.put(512, 0);
-    desk.tables(
-        &[2, 0, 0, 0],
-        &[[1, 0, 0, 512, 0], Z, Z, Z, Z, Z],
-        &[1, 0, 0, 0],
-    );
-    let mut desk = Desk::open(engine, 4, 6, 4);
-    desk.put(513, 0);
-    desk.tables(
-        &[2, 0, 0, 0],
-        &[[1, 0, 0, 512, 2], [1, 1, 0, 1, 0], Z, Z, Z, Z],
-        &[1, 1, 0, 0],
-    );
-    desk.reads(0, &data(513));
-}
-
-/// 2,048 bytes fit, 2,049 are code 10.
-pub fn edge_storage_full(engine: Engine) {
-    let mut desk = Desk::open(engine, 4, 6, 4);
-    desk.put(2_048, 0);
-    desk.reads(0, &data(2_048));
-    let mut desk = Desk::open(engine, 4, 6, 4);
-    desk.refused(Call::Put { data: data(2_049) }, BUFFERS);
-}
-
-/// Cut of 600 at 600 for 0 is empty, at 601 for 0 is code 6.
-pub fn edge_cut_at_end(engine: Engine) {
-    let mut desk = Desk::open(engine, 4, 6, 4);
-    desk.put(600, 0);
-    desk.refused(cut(0, 601, 0), RANGE);
-    desk.cut(0, 600, 0, 1);
-    desk.tables(
-        &[2, 1, 0, 0],
-        &[[1, 0, 0, 512, 2], [1, 1, 0, 88, 0], Z, Z, Z, Z],
-        &[1, 1, 0, 0],
-    );
-    desk.length(1, 0);
-}
-
-/// Pullup of 513 of a 10-byte chain is code 5.
-pub fn edge_long(engine: Engine) {
-    let mut desk = Desk::open(engine, 4, 6, 4);
-    desk.put(10, 0);
-    desk.refused(Call::Pullup { slip: 0, n: 513 }, LONG);
-    desk.refused(show(0, 513, 600), LONG);
-    desk.refused(Call::Pullup { slip: 0, n: 512 }, RANGE);
-    desk.refused(Call::Pullup { slip: 0, n: 11 }, RANGE);
-}
-
-/// Append of one held slip to itself is 4, of a vacant one 3.
-pub fn edge_append_same(engine: Engine) {
-    let mut desk = Desk::open(engine, 4, 6, 4);
-    desk.put(10, 0);
-    desk.refused(Call::Append { a: 0, b: 0 }, SAME);
-    desk.refused(Call::Append { a: 1, b: 1 }, SLIP);
 }
 
 /// Free stops at a piece that another slip still reaches.
@@ -1242,32 +1045,6 @@ pub fn reading_20_empty_slices(engine: Engine) {
     desk.done_unchanged(stretches(0, 0), 0);
 }
 
-/// The wire lists of the morning's slips: position 512·buffer + offset, then length.
-pub fn list_of_the_morning(engine: Engine) {
-    let mut desk = Desk::open(engine, 4, 6, 4);
-    // Rows 1 to 3.
-    desk.put(600, 0);
-    desk.lists(0, &[0, 512, 512, 88]);
-    desk.cut(0, 500, 50, 1);
-    desk.lists(1, &[500, 12, 512, 38]);
-    desk.lists(0, &[0, 512, 512, 88]);
-    desk.dup(0, 2);
-    desk.lists(2, &[0, 512, 512, 88]);
-    desk.lists(0, &[0, 512, 512, 88]);
-    // Rows 4 to 9: in chain order, whatever the pieces' numbers.
-    desk.free(0);
-    desk.drop(2, 520);
-    desk.lists(2, &[520, 80]);
-    desk.append(1, 2);
-    desk.lists(1, &[500, 12, 512, 38, 520, 80]);
-    desk.keep(1, 40);
-    desk.lists(1, &[500, 12, 512, 28]);
-    desk.pullup(1, 20);
-    desk.lists(1, &[1_024, 20, 520, 20]);
-    desk.pack(1);
-    desk.lists(1, &[0, 40]);
-}
-
 /// The longest list, all on one buffer, and the last byte of the largest storage.
 pub fn list_of_the_largest(engine: Engine) {
     let mut desk = Desk::open(engine, 1, 256, 2);
@@ -1290,23 +1067,23 @@ pub fn list_of_the_largest(engine: Engine) {
 
 /// A list too short for all records is left alone; a lone last number is no record, and stays.
 pub fn list_too_short(engine: Engine) {
-    let mut desk = Desk::open(engine, 4, 6, 4);
-    desk.put(600, 0);
-    for numbers in 0..4 {
-        desk.refused(list(0, numbers), NARROW);
+    let mut desk = morning::after(engine, 1);
+    let wanted = MORNING[0].chains[0].list;
+    let (numbers, records) = (wanted.len(), wanted.len() / 2);
+    for short in 0..numbers {
+        desk.refused(list(0, short), NARROW);
     }
-    for records in 0..2 {
-        desk.refused(stretches(0, records), NARROW);
+    for short in 0..records {
+        desk.refused(stretches(0, short), NARROW);
     }
-    for numbers in 4..8 {
-        let outcome = desk.done_unchanged(list(0, numbers), 2);
-        assert_eq!(outcome.list[..4], [0, 512, 512, 88]);
-        assert_eq!(outcome.list[4..], vec![OLD; numbers - 4]);
+    for spare in 0..4 {
+        let outcome = desk.done_unchanged(list(0, numbers + spare), records as u64);
+        assert_eq!(outcome.list, [wanted, &[OLD; 3][..spare]].concat());
     }
-    let outcome = desk.done_unchanged(stretches(0, 2), 2);
-    assert_eq!(outcome.list, [0, 512, 512, 88]);
-    let outcome = desk.done_unchanged(stretches(0, 3), 2);
-    assert_eq!(outcome.list, [0, 512, 512, 88, OLD, OLD]);
+    for spare in 0..2 {
+        let outcome = desk.done_unchanged(stretches(0, records + spare), records as u64);
+        assert_eq!(outcome.list, [wanted, &[OLD; 2][..2 * spare]].concat());
+    }
 }
 
 /// An empty chain has no records, and any list takes them.
@@ -1344,24 +1121,6 @@ pub fn list_order_of_codes(engine: Engine) {
             desk.refused(stretches(slip, length), TORN);
         }
     }
-}
-
-/// The bytes of the morning's lists, as read gives them; output past them is unchanged.
-pub fn gather_of_the_morning(engine: Engine) {
-    let mut desk = Desk::open(engine, 4, 6, 4);
-    let d = data(600);
-    desk.put(600, 0);
-    desk.cut(0, 500, 50, 1);
-    let outcome = desk.done_unchanged(gather(&[500, 12, 512, 38], 52), 50);
-    assert_eq!(outcome.lent[..50], d[500..550]);
-    assert_eq!(outcome.lent[50..], [0x99; 2]);
-    let outcome = desk.done_unchanged(gather(&[0, 512, 512, 88], 600), 600);
-    assert_eq!(outcome.lent, d);
-    // Read of the whole chain is refused by the same output.
-    desk.refused(gather(&[500, 12, 512, 38], 49), NARROW);
-    desk.refused(read(1, 0, 50, 49), NARROW);
-    desk.refused(gather(&[0, 512, 512, 88], 0), NARROW);
-    desk.refused(read(0, 0, 600, 0), NARROW);
 }
 
 /// Records may overlap, repeat and run backwards; no record copies nothing.
