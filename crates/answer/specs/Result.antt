@@ -6,13 +6,8 @@ use Rattle.kinds.specs.declared.SlipState.{SlipState}
 use Rattle.kinds.specs.declared.Outcome.{Outcome}
 use Rattle.kinds.specs.declared.Outcome.the-variants.{Done, Refused}
 use Rattle.kinds.specs.Outcome.{codeOf, numberOf}
-use Rattle.rules.specs.Sound.{Lent}
 use Rattle.rules.specs.Rule.{View}
 use Rattle.rules.specs.Step.{Result}
-
--- the pool and storage that a call is lent
-abbrev pub lent : List ℕ → List ℕ → Lent
-lent pool storage = record { pool = pool; storage = storage }
 
 -- an outcome, with every byte after it
 abbrev pub resultOf : Outcome → List ℕ → List ℕ → List ℕ → View → Result

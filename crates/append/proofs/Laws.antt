@@ -14,9 +14,8 @@ use Rattle.kinds.specs.declared.Outcome.the-variants.{Done, Refused}
 use Rattle.rules.specs.Basics.{Is, if_then_else_}
 use Rattle.rules.specs.Tables.{Tables, slip, headOf, vacant, setSlip}
 use Rattle.rules.specs.Bytes.{decode}
-use Rattle.rules.specs.Chain.{State}
+use Rattle.rules.specs.Chain.{State, withTables}
 use Rattle.rules.specs.Room.{freePieces}
-use Rattle.rules.specs.Release.{withTables}
 use Rattle.rules.specs.Append.{ownOf, notOwn, oneEmpty, joined, appendAfter}
 use Rattle.rules.specs.Rule.{_⇐_, firstCode, unnamed, want, noView}
 use Rattle.rules.specs.Step.{Append, rule, stateIn, perform}
@@ -30,7 +29,8 @@ use Rattle.tables.specs.declared.Shape.{Shape}
 use Rattle.tables.specs.Shape.{Holds}
 use Rattle.tables.proofs.Laws.{whole, total-pieces, onward}
 use Rattle.chain.specs.Opened.{Opened}
-use Rattle.answer.specs.Result.{lent, resultOf}
+use Rattle.rules.specs.Sound.{lent}
+use Rattle.answer.specs.Result.{resultOf}
 use Rattle.answer.proofs.Perform.{perform-first, perform-pieces, perform-all, changed}
 
 -- ---- what the rule leaves

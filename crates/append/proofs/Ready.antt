@@ -7,10 +7,9 @@ use lib.ListN.{length}
 use Rattle.rules.specs.Basics.{Is}
 use Rattle.rules.specs.Tables.{Tables, piece, headOf, vacant, pieceTotal, setSlip}
 use Rattle.rules.specs.Bytes.{decode}
-use Rattle.rules.specs.Chain.{Stretch, follow, cutOut}
-use Rattle.rules.specs.Sound.{linkOk}
+use Rattle.rules.specs.Chain.{Stretch, follow, cutOut, withTables}
+use Rattle.rules.specs.Sound.{linkOk, lent}
 use Rattle.rules.specs.Room.{freePieces}
-use Rattle.rules.specs.Release.{withTables}
 use Rattle.rules.specs.Build.{built, builtLink}
 use Rattle.rules.specs.Append.{ownOf, notOwn, joined}
 use Rattle.rules.specs.Step.{stateIn}
@@ -29,7 +28,6 @@ use Rattle.own.proofs.Own.{OwnLaws, own-laws}
 use Rattle.chain.proofs.Parts.{part-all}
 use Rattle.release.specs.Hang.{Hangable, hungTo}
 use Rattle.release.proofs.Behind.{behind-tables, hangable}
-use Rattle.answer.specs.Result.{lent}
 use Rattle.answer.proofs.New.{new-link}
 use Rattle.append.specs.Join.{Joinable}
 use Rattle.build.proofs.Forward.{built-slip}

@@ -12,7 +12,8 @@ ghost use Rattle.rules.specs.Bytes.{decode};
 ghost use Rattle.rules.specs.Rule.{noView};
 ghost use Rattle.rules.specs.Step.{Append, perform};
 ghost use Rattle.chain.specs.Opened.{Opened};
-ghost use Rattle.answer.specs.Result.{lent, resultOf, Leaves};
+ghost use Rattle.rules.specs.Sound.{lent};
+ghost use Rattle.answer.specs.Result.{resultOf, Leaves};
 ghost use Rattle.append.specs.Join.{Joinable};
 
 // The chain that `tail` starts, of slip `b`, goes behind that of slip `a`, which `head` starts: a chain concatenated, with its shared part copied.

@@ -7,14 +7,13 @@ use native.Mathlib.Omega.{arith}
 use lib.ListN.{length, length-replicate}
 use Rattle.rules.specs.Basics.{Is}
 use Rattle.rules.specs.Bytes.{decode}
-use Rattle.rules.specs.Sound.{sound, Sound, SoundTables}
+use Rattle.rules.specs.Sound.{sound, Sound, SoundTables, lent}
 use Rattle.rules.proofs.Audit.{sound-is}
 use Rattle.rules.proofs.Bytes.{Header, header-facts}
 use Rattle.tables.specs.Shape.{Shaped}
 use Rattle.audit.specs.declared.Audited.{Audited}
 use Rattle.counts.specs.Counters.{Limited, zeros}
 use Rattle.audit.specs.Verdict.{Verdict}
-use Rattle.audit.proofs.Verdict.{lent}
 
 module _ {p : List ℕ} {n : ℕ} {r : Audited} (v : Verdict p n r) where
   -- the pool is torn

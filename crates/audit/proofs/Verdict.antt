@@ -8,7 +8,7 @@ use lib.ListN.{length, length-replicate}
 use Rattle.rules.specs.Basics.{Is}
 use Rattle.rules.specs.Tables.{pieceTotal}
 use Rattle.rules.specs.Bytes.{buffersIn, piecesIn, slipsIn, decode}
-use Rattle.rules.specs.Sound.{Lent, headerOk, soundTables, sound}
+use Rattle.rules.specs.Sound.{Lent, headerOk, soundTables, sound, lent}
 use Rattle.rules.proofs.Logic.{is-true, is-false, and-0, if-T, if-F}
 use Rattle.rules.proofs.Bytes.{and-is, eqb-is, leb-is, Header, header-facts, header-test, decode-pieces}
 use Rattle.tables.specs.declared.Shape.{Shape}
@@ -23,9 +23,6 @@ pub record Of (p : List ℕ) (h : Shape) : Type 0 where
   pub buffers : h .buffers ≡ buffersIn p
   pub pieces : h .pieces ≡ piecesIn p
   pub slips : h .slips ≡ slipsIn p
-
-abbrev pub lent : List ℕ → List ℕ → Lent
-lent p st = record { pool = p; storage = st }
 
 -- a header that is not good makes the pool torn
 torn : (p : List ℕ) (n : ℕ) (h : Shape) → ((st : List ℕ) → length st ≡ n → Header (lent p st) → ⊥) → Verdict p n (tornAnswer h)

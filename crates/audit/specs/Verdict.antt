@@ -5,7 +5,7 @@ use mathlib.Core.List.{List}
 use Prim.Native.Nat.{ℕ, _≤_}
 use lib.ListN.{length}
 use Rattle.rules.specs.Bytes.{piecesIn}
-use Rattle.rules.specs.Sound.{sound}
+use Rattle.rules.specs.Sound.{sound, lent}
 use Rattle.tables.specs.declared.Shape.{Shape}
 use Rattle.tables.specs.Shape.{Shaped}
 use Rattle.audit.specs.declared.Audited.{Audited}
@@ -18,7 +18,7 @@ tornAnswer h = record { sound = false; follows = 0; shape = h }
 -- r is the audit of the pool p beside storage of n bytes: sound exactly by the rules' test, and next followed exactly as often as
 -- `auditFollows` says, at most P times.
 pub record Verdict (p : List ℕ) (n : ℕ) (r : Audited) : Type 0 where
-  pub exact : (st : List ℕ) → length st ≡ n → r .sound ≡ sound (record { pool = p; storage = st })
-  pub counted : (st : List ℕ) → length st ≡ n → r .follows ≡ auditFollows (record { pool = p; storage = st })
+  pub exact : (st : List ℕ) → length st ≡ n → r .sound ≡ sound (lent p st)
+  pub counted : (st : List ℕ) → length st ≡ n → r .follows ≡ auditFollows (lent p st)
   pub bounded : r .follows ≤ piecesIn p
   pub shaped : r .sound ≡ true → Shaped p (r .shape)

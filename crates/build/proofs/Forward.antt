@@ -10,7 +10,7 @@ use lib.ListN.{getD, set}
 use lib.Seq.{set-comm, getD-set-other}
 use lib.Dec.{eqb}
 use Rattle.rules.specs.Basics.{if_then_else_, places}
-use Rattle.rules.specs.Tables.{Piece, Tables, blank, piece, setSlip}
+use Rattle.rules.specs.Tables.{Piece, Tables, blank, piece, setSlip, withBoth}
 use Rattle.rules.specs.Chain.{Stretch}
 use Rattle.rules.specs.Room.{isFree, isUnheld}
 use Rattle.rules.specs.Build.{fresh, taken, built, builtLink}
@@ -34,7 +34,7 @@ bump-comm l a b =
 -- two pieces may be taken in either order
 taken-comm : (T : Tables) (f g : ℕ) (p q : Piece) → f ≢ g → taken (taken T g q) f p ≡ taken (taken T f p) g q
 taken-comm T f g p q h =
-    ap₂ (λ (x : List Piece) (y : List ℕ). record { slips = T .slips; pieces = x; counts = y }) (set-comm (T .pieces) g f q p (λ e. h (sym e))) (bump-comm (T .counts) (q .buffer) (p .buffer))
+    ap₂ (withBoth T) (set-comm (T .pieces) g f q p (λ e. h (sym e))) (bump-comm (T .counts) (q .buffer) (p .buffer))
 
 -- the front piece may be taken before the pieces behind it
 pub taken-first : (T : Tables) (f : ℕ) (p : Piece) (fs : List ℕ) (xs : List Stretch) (tail : ℕ) → (List·Memᴰ f fs → ⊥)

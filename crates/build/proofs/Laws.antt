@@ -6,7 +6,7 @@ use Prim.Native.Nat.{ℕ, zero, suc, _+_, _-_, _≤_, _<_}
 use native.Mathlib.Omega.{arith}
 use lib.ListN.{length}
 use lib.Dec.{eqb}
-use Rattle.rules.specs.Tables.{Piece, Tables, piece, bufferCount, headOf, slipTotal, pieceTotal, setPiece, setPieceCount, withCount}
+use Rattle.rules.specs.Tables.{Piece, Tables, piece, bufferCount, headOf, slipTotal, pieceTotal, setPiece, setPieceCount, withCount, setCount}
 use Rattle.rules.specs.Basics.{Is}
 use Rattle.rules.specs.Sound.{inUse, leads, heads, lying, linkOk}
 use Rattle.rules.specs.Bytes.{decode}
@@ -17,7 +17,7 @@ use Rattle.rules.proofs.Sums.{sumTo-ones}
 use Rattle.rules.proofs.Audit.{tables-now}
 use Rattle.rules.proofs.Moves.{SoundWith, hit, lies, links, occ, used-in-range}
 use Rattle.tables.specs.declared.Shape.{Shape}
-use Rattle.tables.specs.Shape.{Shaped, Holds, setCount}
+use Rattle.tables.specs.Shape.{Shaped, Holds}
 use Rattle.tables.proofs.Laws.{whole, total-slips, total-pieces, onward}
 use Rattle.chain.specs.Opened.{Opened}
 use Rattle.chain.proofs.Links.{InUse, link-leads}

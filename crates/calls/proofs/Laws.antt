@@ -18,8 +18,8 @@ use Rattle.audit.specs.declared.Audited.{Audited}
 use Rattle.audit.specs.Verdict.{Verdict}
 use Rattle.audit.proofs.Laws.{verdict-torn, verdict-is, verdict-sound, verdict-header, verdict-shaped, verdict-limited}
 use Rattle.chain.specs.Opened.{Opened}
+use Rattle.rules.specs.Sound.{lent}
 use Rattle.answer.specs.Result as seen
-use Rattle.answer.specs.Result.{lent}
 use Rattle.calls.specs.Result.{resultOf}
 
 module _ {p : List ℕ} (st : List ℕ) {r : Audited} (v : Verdict p (length st) r) where

@@ -28,7 +28,6 @@ use Rattle.look.specs.declared.Place.the-variants.{Storage, Scratch}
 use Rattle.look.specs.declared.Shown as look
 use Rattle.look.specs.Place.{viewAt, Lies}
 use Rattle.look.specs.Show.{Seen}
-use Rattle.answer.specs.Result.{lent}
 use Rattle.answer.proofs.Perform.{named-below}
 use Rattle.list.specs.declared.Begun as list
 use Rattle.list.specs.Begin.{begun}
@@ -38,6 +37,7 @@ use Rattle.calls.proofs.Laws.{torn-step, torn-answer, opened, sound-step, answe
 use Rattle.calls_look.specs.declared.Shown.{Shown}
 use Rattle.calls_look.specs.Shown.{shownAs, shownOf}
 use Rattle.calls_look.specs.Begin.{Begins}
+use Rattle.rules.specs.Sound.{lent}
 
 -- ---- show's answer
 

@@ -5,14 +5,13 @@ use Prim.Native.Nat.{ℕ, _*_, _≤_}
 use lib.ListN.{length}
 use Rattle.rules.specs.Basics.{Is}
 use Rattle.rules.specs.Bytes.{decode}
-use Rattle.rules.specs.Sound.{linkOk}
+use Rattle.rules.specs.Sound.{linkOk, lent}
 use Rattle.rules.specs.Rule.{noView}
 use Rattle.rules.specs.Read.{copied}
 use Rattle.rules.specs.List.{records}
 use Rattle.rules.specs.Step.{WireList, Do, step}
 use Rattle.chain.specs.Opened.{Opened}
 use Rattle.chain.specs.Length.{stretchesFrom}
-use Rattle.answer.specs.Result.{lent}
 use Rattle.calls.specs.Result.{resultOf}
 use Rattle.calls_look.specs.declared.Begun.{Begun}
 

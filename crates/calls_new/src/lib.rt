@@ -6,8 +6,8 @@ ghost use mathlib.Core.Path.{_≡_};
 ghost use mathlib.Core.List.{[]};
 ghost use Rattle.rules.specs.Rule.{noView};
 ghost use Rattle.rules.specs.Step.{Put, Dup, Cut, Do, step};
-ghost use Rattle.answer.specs.Result.{lent};
 ghost use Rattle.calls.specs.Result.{resultOf};
+ghost use Rattle.rules.specs.Sound.{lent};
 
 // put: bytes into fresh buffers, under a new slip.
 pub fn put(pool: &mut [u8], storage: &mut [u8], input: &[u8]) -> Answer

@@ -21,10 +21,10 @@ use Rattle.tables.proofs.Laws.{fits-decode}
 use Rattle.audit.specs.declared.Audited.{Audited}
 use Rattle.audit.specs.Header.{sizesOk}
 use Rattle.audit.specs.Verdict.{Verdict}
-use Rattle.answer.specs.Result.{lent}
 use Rattle.answer.proofs.Perform.{perform-none}
 use Rattle.calls.specs.Result.{resultOf}
 use Rattle.calls.proofs.Laws.{opened, sound-step}
+use Rattle.rules.specs.Sound.{lent}
 
 -- ---- open
 

@@ -15,7 +15,7 @@ use Rattle.rules.specs.Basics.{Is}
 use Rattle.rules.specs.Tables.{Tables, pieceTotal}
 use Rattle.rules.specs.Bytes.{decode}
 use Rattle.rules.specs.Chain.{Stretch, spans, lengthOf, cutOut}
-use Rattle.rules.specs.Sound.{linkOk, SoundTables}
+use Rattle.rules.specs.Sound.{linkOk, SoundTables, lent}
 use Rattle.rules.specs.Room.{vacantSlips, freePieces, newSlip}
 use Rattle.rules.specs.Build.{plain, underNew}
 use Rattle.rules.specs.Rule.{_⇐_, firstCode, unnamed, want, noView}
@@ -32,7 +32,7 @@ use Rattle.chain.specs.Length.{stretchesFrom}
 use Rattle.chain.specs.Part.{partOf}
 use Rattle.chain.proofs.Spots.{Found, found, cutOut-none}
 use Rattle.chain.proofs.Parts.{part-from}
-use Rattle.answer.specs.Result.{lent, resultOf}
+use Rattle.answer.specs.Result.{resultOf}
 use Rattle.answer.proofs.Perform.{perform-first, perform-slips, perform-pieces, perform-all, changed}
 
 -- ---- the range, from the place found

@@ -13,7 +13,8 @@ ghost use Rattle.rules.specs.Bytes.{decode};
 ghost use Rattle.rules.specs.Rule.{noView};
 ghost use Rattle.rules.specs.Step.{Cut, perform};
 ghost use Rattle.chain.specs.Opened.{Opened};
-ghost use Rattle.answer.specs.Result.{lent, resultOf, Leaves};
+ghost use Rattle.rules.specs.Sound.{lent};
+ghost use Rattle.answer.specs.Result.{resultOf, Leaves};
 
 // How many pieces a range of `n` bytes overlaps, from those that its bytes and the bytes before it overlap: none where it is empty.
 fn overlapped(n: u32, pieces: u16) -> u16

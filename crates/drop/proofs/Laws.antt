@@ -26,7 +26,8 @@ use Rattle.rules.proofs.Drop.{drop-none}
 use Rattle.rules.proofs.Sizes.{old-storage}
 use Rattle.tables.specs.declared.Shape.{Shape}
 use Rattle.tables.specs.Shape.{Shaped, Holds}
-use Rattle.answer.specs.Result.{lent, resultOf}
+use Rattle.rules.specs.Sound.{lent}
+use Rattle.answer.specs.Result.{resultOf}
 use Rattle.answer.proofs.Perform.{perform-first, perform-pieces, perform-all, changed}
 
 -- ---- the plan, from what the code has

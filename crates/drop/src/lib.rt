@@ -12,7 +12,8 @@ ghost use Rattle.rules.specs.Bytes.{decode};
 ghost use Rattle.rules.specs.Rule.{noView};
 ghost use Rattle.rules.specs.Step.{Drop, perform};
 ghost use Rattle.chain.specs.Opened.{Opened};
-ghost use Rattle.answer.specs.Result.{lent, resultOf, Leaves};
+ghost use Rattle.rules.specs.Sound.{lent};
+ghost use Rattle.answer.specs.Result.{resultOf, Leaves};
 
 // Takes the first `n` bytes from the chain of slip `s`: a chain trimmed at its front.
 pub fn drop_first(pool: &mut [u8], shape: Shape, s: SlipNumber, n: u32) -> Outcome

@@ -14,7 +14,8 @@ ghost use Rattle.rules.specs.Bytes.{decode};
 ghost use Rattle.rules.specs.Rule.{noView};
 ghost use Rattle.rules.specs.Step.{Dup, perform};
 ghost use Rattle.chain.specs.Opened.{Opened};
-ghost use Rattle.answer.specs.Result.{lent, resultOf, Leaves};
+ghost use Rattle.rules.specs.Sound.{lent};
+ghost use Rattle.answer.specs.Result.{resultOf, Leaves};
 
 // Gives a new slip the chain of slip `s`; an empty chain needs no piece: a handle duplicated.
 pub fn dup(pool: &mut [u8], shape: Shape, s: SlipNumber) -> Outcome

@@ -10,11 +10,11 @@ use Rattle.rules.specs.Basics.{Is}
 use Rattle.rules.specs.Step.{Result, Audit, Do, rule, done, step}
 use Rattle.rules.proofs.Codes.{first-none}
 use Rattle.rules.proofs.Step.{step-torn, step-sound-pool}
-use Rattle.answer.specs.Result.{lent}
 use Rattle.answer.proofs.Perform.{perform-none}
 use Rattle.audit.specs.declared.Audited.{Audited}
 use Rattle.audit.specs.Verdict.{Verdict}
 use Rattle.audit.proofs.Laws.{verdict-torn, verdict-is}
+use Rattle.rules.specs.Sound.{lent}
 
 module _ {p : List ℕ} (st : List ℕ) {r : Audited} (v : Verdict p (length st) r) where
   pub code-torn : r .sound ≡ false → refusalCode Torn ≡ step (Do Audit) (lent p st) .code

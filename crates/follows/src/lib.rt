@@ -4,8 +4,8 @@ ghost use mathlib.Core.Path.{_≡_};
 ghost use Prim.Native.Nat.{_≤_};
 ghost use Rattle.rules.specs.Bytes.{piecesIn};
 ghost use Rattle.rules.specs.Step.{Audit, Do, step};
-ghost use Rattle.answer.specs.Result.{lent};
 ghost use Rattle.audit.specs.Follows.{auditFollows};
+ghost use Rattle.rules.specs.Sound.{lent};
 
 // An audit's code, and how often it followed next: also where the pool is torn.
 #[repr(C)]

@@ -19,7 +19,8 @@ use Rattle.tables.specs.declared.Shape.{Shape}
 use Rattle.tables.specs.Shape.{Holds}
 use Rattle.release.specs.Release.{turnedTo}
 use Rattle.release.proofs.Laws.{turned-tables}
-use Rattle.answer.specs.Result.{lent, resultOf}
+use Rattle.rules.specs.Sound.{lent}
+use Rattle.answer.specs.Result.{resultOf}
 use Rattle.answer.proofs.Perform.{perform-first, perform-none, changed}
 
 module _ (p st : List ℕ) (s : ℕ) where

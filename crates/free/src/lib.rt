@@ -12,7 +12,8 @@ ghost use Rattle.rules.specs.Bytes.{decode};
 ghost use Rattle.rules.specs.Rule.{noView};
 ghost use Rattle.rules.specs.Step.{Free, perform};
 ghost use Rattle.chain.specs.Opened.{Opened};
-ghost use Rattle.answer.specs.Result.{lent, resultOf, Leaves};
+ghost use Rattle.rules.specs.Sound.{lent};
+ghost use Rattle.answer.specs.Result.{resultOf, Leaves};
 
 // Releases the chain of slip `s`, which is then vacant: bf_afree of a handle's chain.
 pub fn free(pool: &mut [u8], shape: Shape, s: SlipNumber) -> Outcome

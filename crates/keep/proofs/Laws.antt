@@ -12,10 +12,9 @@ use Rattle.kinds.specs.declared.Outcome.the-variants.{Done, Refused}
 use Rattle.rules.specs.Basics.{Is, if_then_else_}
 use Rattle.rules.specs.Tables.{Tables, piece, headOf, slipTotal, bufferTotal}
 use Rattle.rules.specs.Bytes.{decode}
-use Rattle.rules.specs.Chain.{State, Stretch, follow, spans, lengthOf, stretches, total, cutOut}
-use Rattle.rules.specs.Sound.{linkOk}
+use Rattle.rules.specs.Chain.{State, Stretch, follow, spans, lengthOf, stretches, total, cutOut, withTables}
+use Rattle.rules.specs.Sound.{linkOk, lent}
 use Rattle.rules.specs.Room.{freePieces}
-use Rattle.rules.specs.Release.{withTables}
 use Rattle.rules.specs.Build.{built, builtLink, behindOwn}
 use Rattle.rules.specs.Keep.{kept, keptOwn, keptNotOwn, shortened, keptBy, keepAfter}
 use Rattle.rules.specs.Rule.{_⇐_, firstCode, unnamed, want, noView}
@@ -44,7 +43,7 @@ use Rattle.chain.proofs.Links.{link-leads, link-below}
 use Rattle.own.proofs.Own.{OwnLaws, own-laws}
 use Rattle.release.specs.Hang.{Hangable, hungTo}
 use Rattle.release.proofs.Behind.{behind-tables, hangable}
-use Rattle.answer.specs.Result.{lent, resultOf}
+use Rattle.answer.specs.Result.{resultOf}
 use Rattle.answer.proofs.New.{new-link}
 use Rattle.answer.proofs.Perform.{perform-first, perform-none, perform-pieces, perform-all, changed}
 use Rattle.keep.specs.Shorten.{shortenedBy}

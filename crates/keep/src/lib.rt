@@ -14,7 +14,8 @@ ghost use Rattle.rules.specs.Rule.{noView};
 ghost use Rattle.rules.specs.Step.{Keep, perform};
 ghost use Rattle.tables.specs.Shape.{Shaped, Holds};
 ghost use Rattle.chain.specs.Opened.{Opened};
-ghost use Rattle.answer.specs.Result.{lent, resultOf, Leaves};
+ghost use Rattle.rules.specs.Sound.{lent};
+ghost use Rattle.answer.specs.Result.{resultOf, Leaves};
 ghost use Rattle.keep.specs.Shorten.{shortenedBy};
 
 // The piece that `last` leads to loses its last `over` bytes, and nothing changes where `last` is 0: a data window shortened in place.

@@ -14,7 +14,7 @@ use Rattle.kinds.specs.declared.Outcome.the-variants.{Done}
 use Rattle.rules.specs.Basics.{Is}
 use Rattle.rules.specs.Tables.{Tables, slip, piece, headOf}
 use Rattle.rules.specs.Chain.{Stretch, follow, stretch, positionOf, spans}
-use Rattle.rules.specs.Sound.{linkOk, SoundTables}
+use Rattle.rules.specs.Sound.{linkOk, SoundTables, lent}
 use Rattle.rules.specs.Bytes.{decode, encode}
 use Rattle.rules.specs.Rule.{_⇐_, unnamed, noView}
 use Rattle.rules.specs.Read.{copied}
@@ -28,7 +28,7 @@ use Rattle.chain.specs.Length.{stretchesFrom}
 use Rattle.list.specs.declared.Begun.{Begun}
 use Rattle.list.specs.Begin.{nothing, begun}
 use Rattle.list.specs.Record.{recordOf}
-use Rattle.answer.specs.Result.{lent, resultOf, Leaves}
+use Rattle.answer.specs.Result.{resultOf, Leaves}
 use Rattle.chain.proofs.Links.{InUse, link-leads, stretches-none, stretches-on}
 use Rattle.list.proofs.Reached.{follow-start, follow-more, reached, reached-good, reached-piece, reached-next}
 

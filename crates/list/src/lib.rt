@@ -13,14 +13,14 @@ ghost use Rattle.rules.specs.Basics.{Is};
 ghost use Rattle.rules.specs.Tables.{slip, piece};
 ghost use Rattle.rules.specs.Bytes.{decode};
 ghost use Rattle.rules.specs.Chain.{follow};
-ghost use Rattle.rules.specs.Sound.{linkOk};
+ghost use Rattle.rules.specs.Sound.{linkOk, lent};
 ghost use Rattle.rules.specs.Rule.{noView};
 ghost use Rattle.rules.specs.Read.{copied};
 ghost use Rattle.rules.specs.List.{records};
 ghost use Rattle.rules.specs.Step.{WireList, perform};
 ghost use Rattle.chain.specs.Opened.{Opened};
 ghost use Rattle.chain.specs.Length.{stretchesFrom};
-ghost use Rattle.answer.specs.Result.{lent, resultOf, Leaves};
+ghost use Rattle.answer.specs.Result.{resultOf, Leaves};
 ghost use Rattle.list.specs.Begin.{begun};
 ghost use Rattle.list.specs.Record.{recordOf};
 

@@ -16,7 +16,8 @@ use Rattle.rules.specs.Rule.{_⇐_, unnamed, noView}
 use Rattle.rules.specs.Read.{copied}
 use Rattle.rules.specs.Step.{Length, Read, rule, stateIn, done, perform}
 use Rattle.rules.proofs.Codes.{first-yes, first-no, first-none}
-use Rattle.answer.specs.Result.{lent, resultOf}
+use Rattle.rules.specs.Sound.{lent}
+use Rattle.answer.specs.Result.{resultOf}
 use Rattle.answer.proofs.Perform.{perform-first, perform-none}
 
 -- ---- length

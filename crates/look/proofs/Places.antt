@@ -24,7 +24,7 @@ use Rattle.rules.specs.Read.{copied}
 use Rattle.rules.specs.Show.{scattered, viewOf}
 use Rattle.rules.specs.Step.{Operation, Show, rule, Result, stateIn, done, perform}
 use Rattle.rules.specs.After.{seen}
-use Rattle.rules.specs.Sound.{linkOk, SoundTables, Lent}
+use Rattle.rules.specs.Sound.{linkOk, SoundTables, Lent, lent}
 use Rattle.rules.proofs.Logic.{if-T, if-F, if-either, and-intro, and-0, and-1, eq→eqb}
 use Rattle.rules.proofs.Build.{Good}
 use Rattle.rules.proofs.Contents.{Fit}
@@ -37,7 +37,7 @@ use Rattle.look.specs.declared.Place.{Place}
 use Rattle.look.specs.declared.Place.the-variants.{Storage, Scratch}
 use Rattle.look.specs.Place.{viewAt, partAt, Lies}
 use Rattle.chain.specs.Length.{stretchesFrom}
-use Rattle.answer.specs.Result.{lent, resultOf}
+use Rattle.answer.specs.Result.{resultOf}
 use Rattle.look.specs.declared.Shown.{Shown}
 use Rattle.look.specs.Show.{Seen}
 use Rattle.answer.proofs.Perform.{perform-first, perform-none}

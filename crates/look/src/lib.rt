@@ -16,13 +16,13 @@ ghost use Rattle.rules.specs.Layout.{storageLength};
 ghost use Rattle.rules.specs.Tables.{slip};
 ghost use Rattle.rules.specs.Bytes.{decode};
 ghost use Rattle.rules.specs.Chain.{firstLength};
-ghost use Rattle.rules.specs.Sound.{linkOk};
+ghost use Rattle.rules.specs.Sound.{linkOk, lent};
 ghost use Rattle.rules.specs.Rule.{noView};
 ghost use Rattle.rules.specs.Show.{viewOf};
 ghost use Rattle.rules.specs.Step.{Length, Read, perform};
 ghost use Rattle.chain.specs.Opened.{Opened};
 ghost use Rattle.chain.specs.Length.{stretchesFrom};
-ghost use Rattle.answer.specs.Result.{lent, resultOf, Leaves};
+ghost use Rattle.answer.specs.Result.{resultOf, Leaves};
 ghost use Rattle.look.specs.Place.{viewAt, partAt, Lies};
 ghost use Rattle.look.specs.Show.{Seen};
 

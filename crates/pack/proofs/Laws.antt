@@ -16,8 +16,8 @@ use Rattle.rules.specs.Basics.{Is}
 use Rattle.rules.specs.Layout.{storageLength}
 use Rattle.rules.specs.Tables.{Tables, piece, headOf, holding, pieceTotal, bufferTotal}
 use Rattle.rules.specs.Bytes.{decode}
-use Rattle.rules.specs.Chain.{State, Stretch, walk, chain, lengthOf, contents, reads}
-use Rattle.rules.specs.Sound.{linkOk, SoundTables}
+use Rattle.rules.specs.Chain.{State, Stretch, walk, chain, lengthOf, contents, reads, stateOf}
+use Rattle.rules.specs.Sound.{linkOk, SoundTables, lent}
 use Rattle.rules.specs.Room.{freePieces, freeBuffers, newBuffers}
 use Rattle.rules.specs.Build.{built, builtLink, plain, underOld, buffersFor, laid, stored}
 use Rattle.rules.specs.Rule.{_⇐_, firstCode, unnamed, Wants, want, noView}
@@ -41,7 +41,7 @@ use Rattle.chain.proofs.Links.{walk-none, walk-on, walk-less, link-leads}
 use Rattle.release.specs.Release.{Releasable, turnedTo}
 use Rattle.release.proofs.Laws.{turned-tables}
 use Rattle.transfer.proofs.Afresh.{bytes-all}
-use Rattle.answer.specs.Result.{lent, resultOf}
+use Rattle.answer.specs.Result.{resultOf}
 use Rattle.answer.proofs.New.{new-link}
 use Rattle.answer.proofs.Perform.{perform-first, perform-none, perform-pieces, perform-buffers, perform-all, changed}
 
@@ -87,7 +87,7 @@ module _ {p : List ℕ} {h : Shape} {s n count : ℕ} (w : Found p h s n count) 
   -- all bytes of the chain go to the new buffers
   pub new-bytes : (st : List ℕ) {head : ℕ} {after : List ℕ} → length st ≡ storageLength (h .buffers) → Is (linkOk T head) → head ≡ headOf T s
       → after ≡ stored st (newBuffers T (buffersFor n)) (take n (contents st (stretchesFrom T head)))
-      → after ≡ stored st (newBuffers T (buffersFor (lengthOf T s))) (reads (record { tables = T; storage = st }) s)
+      → after ≡ stored st (newBuffers T (buffersFor (lengthOf T s))) (reads (stateOf T st) s)
   new-bytes st f t e is =
       let fit : Fit (bufferTotal T) st = f ∙ ap storageLength (sym (total-buffers (whole (w .opened .shaped)))) in
       let ok = subst (λ (x : ℕ). Is (linkOk T x)) e t in
@@ -114,10 +114,10 @@ module _ {p : List ℕ} {h : Shape} {s n count : ℕ} (w : Found p h s n count) 
         rw (is-built, e) (record { others = []; sound = it })
 
     -- once the slip holds it, the tables are the rule's
-    pub new-after : (st : List ℕ) {r : List ℕ} → Holds r h (turnedTo (decode q) s (first + 1)) → Holds r h (underOld (record { tables = T; storage = st }) (plain T (packed T s)) (freePieces T) s .tables)
+    pub new-after : (st : List ℕ) {r : List ℕ} → Holds r h (turnedTo (decode q) s (first + 1)) → Holds r h (underOld (stateOf T st) (plain T (packed T s)) (freePieces T) s .tables)
     unfolding underOld
     new-after st is =
-        let X : State = record { tables = built T (freePieces T) (packed T s) 0; storage = st } in
+        let X = stateOf (built T (freePieces T) (packed T s) 0) st in
         let e : first + 1 ≡ holding (builtLink (freePieces T) (packed T s) 0) = omega (arith, is-link) in
         record { shaped = is .shaped; is = is .is ∙ (λ i. turnedTo (is-built i) s (e i)) ∙ sym (turned-tables X s (holding (builtLink (freePieces T) (packed T s) 0))) }
 
@@ -181,13 +181,13 @@ module _ (p st : List ℕ) (s : ℕ) where
 
         -- the new pieces under the same slip, and the bytes in the new buffers
         pub pack-done : {o : Outcome} {x : SlipState} {q after : List ℕ} {h : Shape} → k ≤ length (freeBuffers (decode p)) → o ≡ Done (record { state = x; number = 0 }) → AllBytes q
-            → Holds q h (underOld (record { tables = decode p; storage = after }) (plain (decode p) (packed (decode p) s)) (freePieces (decode p)) s .tables)
+            → Holds q h (underOld (stateOf (decode p) after) (plain (decode p) (packed (decode p) s)) (freePieces (decode p)) s .tables)
             → after ≡ stored st (newBuffers (decode p) k) (reads (stateIn (lent p st)) s) → resultOf o q after [] noView ≡ perform (Pack s) (lent p st)
         unfolding rule packAfter
         pack-done {after = after} most a b is f =
             let T = decode p in
             let S = stateIn (lent p st) in
-            let X : List ℕ → State = λ z. underOld (record { tables = T; storage = z }) (plain T (packed T s)) (freePieces T) s in
+            let X : List ℕ → State = λ z. underOld (stateOf T z) (plain T (packed T s)) (freePieces T) s in
             let same : X after ≡ packAfter s S = ap X f ∙ sym (if-F _ S _ not-whole) in
             changed _ (packWants T s) 0 (packAfter s S) a refl b
             (record { shaped = is .shaped; is = is .is ∙ ap (λ (Y : State). Y .tables) same })

@@ -15,11 +15,11 @@ ghost use Rattle.rules.specs.Layout.{storageLength};
 ghost use Rattle.rules.specs.Tables.{slip, pieceTotal};
 ghost use Rattle.rules.specs.Bytes.{decode};
 ghost use Rattle.rules.specs.Chain.{walk};
-ghost use Rattle.rules.specs.Sound.{linkOk};
+ghost use Rattle.rules.specs.Sound.{linkOk, lent};
 ghost use Rattle.rules.specs.Rule.{noView};
 ghost use Rattle.rules.specs.Step.{Pack, perform};
 ghost use Rattle.chain.specs.Opened.{Opened};
-ghost use Rattle.answer.specs.Result.{lent, resultOf, Leaves};
+ghost use Rattle.answer.specs.Result.{resultOf, Leaves};
 
 // Whether the chain that starts at `link` has more than one piece: a fragmented chain.
 fn scattered(pool: &[u8], shape: Shape, link: u16) -> bool

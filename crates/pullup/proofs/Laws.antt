@@ -23,7 +23,8 @@ use Rattle.rules.proofs.Bytes.{AllBytes}
 use Rattle.rules.proofs.Codes.{first-yes, first-no, first-none}
 use Rattle.tables.specs.declared.Shape.{Shape}
 use Rattle.tables.specs.Shape.{Shaped}
-use Rattle.answer.specs.Result.{lent, resultOf}
+use Rattle.rules.specs.Sound.{lent}
+use Rattle.answer.specs.Result.{resultOf}
 use Rattle.answer.proofs.Perform.{perform-first, perform-none, perform-pieces, perform-buffers, perform-all, changed}
 use Rattle.pullup.specs.Pull.{Pulled}
 

@@ -12,7 +12,7 @@ use Rattle.kinds.specs.Limits.{bufferSize}
 use Rattle.rules.specs.Basics.{Is, places}
 use Rattle.rules.specs.Tables.{Tables, piece, pieceTotal, bufferTotal, bufferCount}
 use Rattle.rules.specs.Bytes.{decode}
-use Rattle.rules.specs.Chain.{State, Stretch, spans, firstLength, total, contents, reads}
+use Rattle.rules.specs.Chain.{State, Stretch, spans, firstLength, total, contents, reads, stateOf}
 use Rattle.rules.specs.Sound.{linkOk, SoundTables}
 use Rattle.rules.specs.Room.{isFree, isUnheld, freePieces, freeBuffers, newBuffers}
 use Rattle.rules.specs.Build.{fresh, taken, built, builtLink, Plan, made, madeLink, underOld, buffersFor, laid, stored}
@@ -153,8 +153,8 @@ pub pull-done : (p st : List ℕ) {g : Shape} {s n head : ℕ} {at : Spot} {f b 
 unfolding pullupAfter
 pull-done p st {s = s} {n = n} h is e =
     let T = decode p in
-    let S : State = record { tables = T; storage = st } in
-    let S₁ : State = record { tables = T; storage = stored st (newBuffers T 1) (take n (reads S s)) } in
+    let S = stateOf T st in
+    let S₁ = stateOf T (stored st (newBuffers T 1) (take n (reads S s))) in
     let after : pullupAfter s n S ≡ underOld S₁ (pulled T s n) (freePieces T) s = if-F (leb n (firstLength (spans T s))) _ _ (λ t. omega (arith, leb→le n (firstLength (spans T s)) t, h .scattered)) in
     let now = is S₁ in
     record {

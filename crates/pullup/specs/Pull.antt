@@ -7,7 +7,7 @@ use lib.ListN.{length}
 use Rattle.kinds.specs.Limits.{bufferSize}
 use Rattle.rules.specs.Tables.{Tables, headOf, slipTotal, pieceTotal, bufferTotal}
 use Rattle.rules.specs.Bytes.{decode}
-use Rattle.rules.specs.Chain.{spans, firstLength, lengthOf}
+use Rattle.rules.specs.Chain.{spans, firstLength, lengthOf, stateOf}
 use Rattle.rules.specs.Room.{isFree, isUnheld, freePieces}
 use Rattle.rules.specs.Build.{Plan}
 use Rattle.rules.specs.Drop.{dropped}
@@ -42,5 +42,5 @@ pub record Pullable (T : Tables) (s n head : ℕ) (at : Spot) (f b : ℕ) : Type
 
 -- the pool q and the storage st′ are what pullup of n bytes of slip s leaves of the pool p, of shape h, and the storage st
 pub record Pulled (p st : List ℕ) (h : Shape) (s n : ℕ) (q st′ : List ℕ) : Type 0 where
-  pub tables-are : Holds q h (pullupAfter s n (record { tables = decode p; storage = st }) .tables)
-  pub storage-is : st′ ≡ pullupAfter s n (record { tables = decode p; storage = st }) .storage
+  pub tables-are : Holds q h (pullupAfter s n (stateOf (decode p) st) .tables)
+  pub storage-is : st′ ≡ pullupAfter s n (stateOf (decode p) st) .storage

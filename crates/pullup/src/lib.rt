@@ -15,7 +15,7 @@ ghost use Rattle.rules.specs.Basics.{Is};
 ghost use Rattle.rules.specs.Layout.{storageLength};
 ghost use Rattle.rules.specs.Tables.{slip, piece, pieceTotal};
 ghost use Rattle.rules.specs.Bytes.{decode};
-ghost use Rattle.rules.specs.Sound.{linkOk};
+ghost use Rattle.rules.specs.Sound.{linkOk, lent};
 ghost use Rattle.rules.specs.Room.{isFree, freePieces};
 ghost use Rattle.rules.specs.Build.{made, madeLink};
 ghost use Rattle.rules.specs.Rule.{noView};
@@ -24,7 +24,7 @@ ghost use Rattle.tables.specs.Shape.{Holds};
 ghost use Rattle.chain.specs.Opened.{Opened};
 ghost use Rattle.chain.specs.Rest.{restFrom};
 ghost use Rattle.room.specs.Free.{firstFrom};
-ghost use Rattle.answer.specs.Result.{lent, resultOf, Leaves};
+ghost use Rattle.answer.specs.Result.{resultOf, Leaves};
 ghost use Rattle.pullup.specs.Pull.{pulledFrom, Pullable, Pulled};
 
 // Makes a first piece for the `n` bytes of buffer `b`, before what stays from the place `at`; answers the link to it: a new head descriptor.

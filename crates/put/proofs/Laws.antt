@@ -18,7 +18,8 @@ use Rattle.rules.proofs.Bytes.{AllBytes}
 use Rattle.rules.proofs.Codes.{first-none}
 use Rattle.tables.specs.declared.Shape.{Shape}
 use Rattle.tables.specs.Shape.{Holds}
-use Rattle.answer.specs.Result.{lent, resultOf}
+use Rattle.rules.specs.Sound.{lent}
+use Rattle.answer.specs.Result.{resultOf}
 use Rattle.answer.proofs.Perform.{perform-slips, perform-pieces, perform-buffers, perform-all, changed}
 
 module _ (p st input : List ℕ) where

@@ -14,7 +14,8 @@ ghost use Rattle.rules.specs.Bytes.{decode};
 ghost use Rattle.rules.specs.Rule.{noView};
 ghost use Rattle.rules.specs.Step.{Put, perform};
 ghost use Rattle.chain.specs.Opened.{Opened};
-ghost use Rattle.answer.specs.Result.{lent, resultOf, Leaves};
+ghost use Rattle.rules.specs.Sound.{lent};
+ghost use Rattle.answer.specs.Result.{resultOf, Leaves};
 
 // Puts `input` into fresh pieces on fresh buffers, each full but the last, under a new slip: a chain made from bytes.
 pub fn put(pool: &mut [u8], shape: Shape, storage: &mut [u8], input: &[u8]) -> Outcome

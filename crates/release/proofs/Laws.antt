@@ -6,16 +6,16 @@ use native.Mathlib.Omega.{arith}
 use lib.ListN.{length}
 use lib.Dec.{lt→ltb}
 use Rattle.rules.specs.Basics.{Is, if_then_else_, sumTo}
-use Rattle.rules.specs.Tables.{Tables, blank, slip, piece, bufferCount, headOf, slipTotal, pieceTotal, setSlip, setPiece, setPieceCount, withCount, withNext}
-use Rattle.rules.specs.Chain.{State}
+use Rattle.rules.specs.Tables.{Tables, blank, slip, piece, bufferCount, headOf, slipTotal, pieceTotal, setSlip, setPiece, setPieceCount, withCount, withNext, setCount}
+use Rattle.rules.specs.Chain.{State, withTables}
 use Rattle.rules.specs.Bytes.{decode}
-use Rattle.rules.specs.Release.{withTables, lowered, another, freed, releaseIn, release, turned, relinked}
+use Rattle.rules.specs.Release.{lowered, another, freed, releaseIn, release, turned, relinked}
 use Rattle.rules.proofs.Logic.{if-T, if-F, if-either, if-both}
 use Rattle.rules.proofs.Moves.{SoundBy, SoundWith, in-range, used-in-range, sum-set, reorder, slip-move, lower-move, buffer-pos, freedTables, free-move}
 use Rattle.rules.proofs.Rank.{low, low-below, lower-rank}
 use Rattle.rules.proofs.Release.{held-pos, some-other, last-one}
 use Rattle.tables.specs.declared.Shape.{Shape}
-use Rattle.tables.specs.Shape.{Holds, setCount}
+use Rattle.tables.specs.Shape.{Holds}
 use Rattle.tables.proofs.Laws.{onward}
 use Rattle.chain.proofs.Links.{head-none, head-some}
 use Rattle.release.specs.Release.{bare, released, turnedTo, relinkedTo, stepped, stepNext, Held, Releasable}

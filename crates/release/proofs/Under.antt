@@ -6,8 +6,7 @@ use native.Mathlib.Numerals.{add-one}
 use native.Mathlib.Omega.{arith}
 use Rattle.rules.specs.Tables.{Tables, pieceTotal}
 use Rattle.rules.specs.Bytes.{decode}
-use Rattle.rules.specs.Chain.{State}
-use Rattle.rules.specs.Release.{withTables}
+use Rattle.rules.specs.Chain.{State, withTables}
 use Rattle.rules.specs.Build.{Plan, made, madeLink, underOld}
 use Rattle.rules.proofs.Moves.{SoundBy, used-in-range}
 use Rattle.rules.proofs.Release.{held-pos}

@@ -3,13 +3,13 @@ use mathlib.Core.List.{List, [], _∷_}
 use Prim.Native.Nat.{ℕ, _<_}
 use Rattle.rules.specs.Basics.{if_then_else_}
 use Rattle.rules.specs.Tables.{Tables, piece, bufferCount, pieceTotal, bufferTotal}
-use Rattle.rules.specs.Chain.{State}
+use Rattle.rules.specs.Chain.{State, stateOf}
 use Rattle.rules.specs.Release.{lowered, another, freed, release, turned, relinked}
 use Rattle.rules.proofs.Moves.{SoundWith}
 
 -- the tables with no storage beside them
 abbrev pub bare : Tables → State
-bare T = record { tables = T; storage = [] }
+bare T = stateOf T []
 
 -- the tables after a release of the link n
 unfoldable pub released : Tables → ℕ → Tables

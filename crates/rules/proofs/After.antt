@@ -12,9 +12,9 @@ use lib.Dec.{eqb, eqb→eq, leb}
 use Rattle.kinds.specs.Limits.{bufferSize, sizeOf}
 use Rattle.rules.specs.Basics.{Is, if_then_else_}
 use Rattle.rules.specs.Tables.{Tables, slip, piece, bufferCount, headOf, vacant, slipTotal, pieceTotal, bufferTotal, setSlip}
-use Rattle.rules.specs.Chain.{Stretch, State, walk, chain, stretches, spans, firstLength, lengthOf, contents, reads, bytesOf}
+use Rattle.rules.specs.Chain.{Stretch, State, walk, chain, stretches, spans, firstLength, lengthOf, contents, reads, bytesOf, withTables, withStorage}
 use Rattle.rules.specs.Room.{isVacant, isUnheld, freePieces, freeBuffers, newSlip, newBuffers}
-use Rattle.rules.specs.Release.{withTables, turned}
+use Rattle.rules.specs.Release.{turned}
 use Rattle.rules.specs.Build.{plain, underOld, buffersFor, laid, stored}
 use Rattle.rules.specs.Rule.{Wants, want}
 use Rattle.rules.specs.Put.{putAfter}
@@ -350,7 +350,7 @@ pullup-reading s n S h f al =
     let rp : suc (length (dropped T s n .more)) ≤ length (freePieces T) = omega (arith, al .pieces-room, ap (λ (x : Wants). x .pieces) w) in
     let rb : 1 ≤ length (freeBuffers T) = omega (arith, al .buffers-room, ap (λ (x : Wants). x .buffers) w) in
     let front = take n (reads S s) in
-    let S₁ : State = record { tables = T; storage = stored (S .storage) (newBuffers T 1) front } in
+    let S₁ = withStorage S (stored (S .storage) (newBuffers T 1) front) in
     let S′ = underOld S₁ (pulled T s n) (freePieces T) s in
     let st = old-storage S₁ (pulled T s n) (freePieces T) s in
     let long : length front ≡ n = omega (arith, length-take n (reads S s), reads-length S h f s) in
@@ -381,7 +381,7 @@ pack-reading s S h f al =
     let rp : k ≤ length (freePieces T) = omega (arith, al .pieces-room, ap (λ (x : Wants). x .pieces) w) in
     let rb : k ≤ length (freeBuffers T) = omega (arith, al .buffers-room, ap (λ (x : Wants). x .buffers) w) in
     let bs = newBuffers T k in
-    let S₁ : State = record { tables = T; storage = stored (S .storage) bs (reads S s) } in
+    let S₁ = withStorage S (stored (S .storage) bs (reads S s)) in
     let S′ = underOld S₁ (plain T (laid bs n)) (freePieces T) s in
     let st = old-storage S₁ (plain T (laid bs n)) (freePieces T) s in
     let long = reads-length S h f s in
@@ -447,12 +447,12 @@ module _ (S : State) (f : Fit (bufferTotal (S .tables)) (S .storage)) (b : ℕ) 
   held-stays (Pullup s n) =
       let T = S .tables in
       if-either Stays (leb n (firstLength (spans T s))) _ _ (λ _. refl)
-      (λ _. stays-new 1 (take n (reads S s)) (old-storage (record { tables = T; storage = stored (S .storage) (newBuffers T 1) (take n (reads S s)) }) (pulled T s n) (freePieces T) s))
+      (λ _. stays-new 1 (take n (reads S s)) (old-storage (withStorage S (stored (S .storage) (newBuffers T 1) (take n (reads S s)))) (pulled T s n) (freePieces T) s))
   held-stays (Pack s) =
       let T = S .tables in
       let k = buffersFor (lengthOf T s) in
       if-either Stays (leb (length (chain T s)) 1) _ _ (λ _. refl)
-      (λ _. stays-new k (reads S s) (old-storage (record { tables = T; storage = stored (S .storage) (newBuffers T k) (reads S s) }) (plain T (laid (newBuffers T k) (lengthOf T s))) (freePieces T) s))
+      (λ _. stays-new k (reads S s) (old-storage (withStorage S (stored (S .storage) (newBuffers T k) (reads S s))) (plain T (laid (newBuffers T k) (lengthOf T s))) (freePieces T) s))
   held-stays (Length s) = refl
   held-stays (Read s off n out) = refl
   held-stays (Show s n scratch) = refl

@@ -8,9 +8,8 @@ use lib.ListN.{length, getD, length-set, take, take-append-drop}
 use lib.Seq.{getD-set-other}
 use lib.Dec.{eqb, eqb→eq}
 use Rattle.rules.specs.Tables.{Tables, slip, headOf, vacant, slipTotal, pieceTotal, bufferTotal, setSlip, piece}
-use Rattle.rules.specs.Chain.{State, spans, Stretch, chain, stretches}
+use Rattle.rules.specs.Chain.{State, spans, Stretch, chain, stretches, withTables}
 use Rattle.rules.specs.Room.{freePieces}
-use Rattle.rules.specs.Release.{withTables}
 use Rattle.rules.specs.Build.{built, builtLink}
 use Rattle.rules.specs.Append.{ownOf, notOwn, joined, appendAfter}
 use Rattle.rules.proofs.Logic.{if-either}

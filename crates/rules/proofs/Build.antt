@@ -9,9 +9,9 @@ use lib.Seq.{getD-set-same, getD-set-other, set-set, set-comm, set-getD}
 use lib.Dec.{eqb, eqb→eq}
 use Rattle.kinds.specs.Limits.{sizeOf}
 use Rattle.rules.specs.Basics.{if_then_else_, lastOf}
-use Rattle.rules.specs.Tables.{Piece, Tables, blank, slip, piece, headOf, holding, setSlip, setPiece, withCount, withNext}
-use Rattle.rules.specs.Chain.{Stretch, State, ownPieces}
-use Rattle.rules.specs.Release.{withTables, shared, relinked}
+use Rattle.rules.specs.Tables.{Piece, Tables, blank, slip, piece, headOf, holding, setSlip, setPiece, withCount, withNext, withSlips, withPieces}
+use Rattle.rules.specs.Chain.{Stretch, State, ownPieces, withTables}
+use Rattle.rules.specs.Release.{shared, relinked}
 use Rattle.rules.specs.Build.{fresh, built, builtLink, Plan, plain, made, madeLink, underNew, underOld, behindOwn}
 use Rattle.rules.proofs.Logic.{if-either}
 use Rattle.rules.proofs.Moves.{SoundBy, SoundWith, SoundNow, hit, used-in-range, reorder, slip-move, share-move, take-move, above, relink-move}
@@ -119,7 +119,7 @@ relink-deep (suc k) T n l m {fl} (d, e, c, o) (rank, S) =
     ∙ back (T .pieces) d l p₀ (withNext (piece T l) m) blank (ob .0) in
     let S₃ = reorder {fl′ = n ∷ piece T l .next ∷ fl}
     (λ x. omega (arith, ap (λ y. hit y x) e, ap (λ (q : Piece). hit (q .next) x) here, ap (λ (q : Piece). hit (q .next) x) pl)) S₂ in
-    subst (λ q. SoundWith (n ∷ piece T l .next ∷ fl) (record { slips = T .slips; pieces = q; counts = T .counts })) same (above (r .0) d (pd .next), S₃)
+    subst (λ q. SoundWith (n ∷ piece T l .next ∷ fl) (withPieces T q)) same (above (r .0) d (pd .next), S₃)
 
 -- ---- what an operation's first steps leave alone: sizes, slips, and which pieces are free
 
@@ -226,7 +226,7 @@ tail-sound T s m j e l o (rank, h) =
     let z : slip (withTail T₁ e m) s ≡ 0 = getD-set-same (T .slips) s 0 0 l in
     let S₂ = slip-move {fl = piece T e .next ∷ []} s v (subst (λ n. s < n) (sym (length-set (T .slips) s 0)) l) (r .1) in
     let S₃ = reorder {fl′ = piece T e .next ∷ []} (λ x. omega (arith, ap (λ y. hit (pred y) x) z)) S₂ in
-    subst (λ (q : List ℕ). SoundWith (piece T e .next ∷ []) (record { slips = q; pieces = withTail T e m .pieces; counts = T .counts }))
+    subst (λ (q : List ℕ). SoundWith (piece T e .next ∷ []) (withSlips (withTail T e m) q))
     (set-set (T .slips) s 0 v ∙ set-getD (T .slips) s 0) (r .0, S₃)
 
 -- the held link m goes behind the own pieces of s, and what stood there is released

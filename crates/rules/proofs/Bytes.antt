@@ -14,10 +14,11 @@ use Rattle.word.proofs.Laws.{get16-past as load-past}
 pub use Rattle.word.proofs.Laws.{length-bytes16, get16-run}
 use Rattle.kinds.specs.Limits.{mostBuffers, mostPieces, mostSlips, counted}
 use Rattle.rules.specs.Basics.{Is, table}
-use Rattle.rules.specs.Layout.{mark, version, slipAt, pieceAt, countAt, poolLength, storageLength}
+use Rattle.rules.specs.Layout.{mark, version, slipAt, pieceAt, countAt, poolLength, storageLength, versionAt, buffersAt, piecesAt, slipsAt, headerLength}
 use Rattle.rules.specs.Tables.{Piece, Tables, blank, slip, piece, bufferCount, slipTotal, pieceTotal, bufferTotal, freshTables}
 use Rattle.rules.specs.Bytes.{versionIn, buffersIn, piecesIn, slipsIn, pieceIn, decode, pieceBytes, encode}
-use Rattle.rules.specs.Sound.{Lent, headerOk}
+use Rattle.rules.specs.Sound.{Lent, headerOk, lent, marked, countsOk}
+use Rattle.rules.proofs.Logic.{and-intro, and-parts}
 
 -- ---- tests
 
@@ -268,66 +269,76 @@ module _ (p : List ℕ) where
           small-next = small (a + 8);
         });
         counts-small = table-all (λ n. n < 65536) (buffersIn p) _ 0 (omega arith) (λ b. small (countAt (piecesIn p) (slipsIn p) b));
-        few-slips = rw decode-slips (small 9);
-        few-pieces = rw decode-pieces (small 7);
-        few-buffers = rw decode-counts (small 5);
+        few-slips = rw decode-slips (small slipsAt);
+        few-pieces = rw decode-pieces (small piecesAt);
+        few-buffers = rw decode-counts (small buffersAt);
       }
 
 -- ---- the header
 
+-- what countsOk tests
+pub record InRange (B P S : ℕ) : Type 0 where
+  pub some-buffers : 1 ≤ B
+  pub most-buffers : B ≤ mostBuffers
+  pub some-pieces : 1 ≤ P
+  pub most-pieces : P ≤ mostPieces
+  pub some-slips : 1 ≤ S
+  pub most-slips : S ≤ mostSlips
+
+pub counts-facts : (B P S : ℕ) → Is (countsOk B P S) → InRange B P S
+counts-facts B P S h = let k = simp (and-is, leb-is) at h in omega arith
+
+pub counts-test : {B P S : ℕ} → InRange B P S → Is (countsOk B P S)
+counts-test c = simp (and-is, leb-is) (omega arith)
+
 -- what headerOk tests
 pub record Header (m : Lent) : Type 0 where
-  pub mark-s : getD (m .pool) 0 0 ≡ 83
-  pub mark-l : getD (m .pool) 1 0 ≡ 76
-  pub mark-p : getD (m .pool) 2 0 ≡ 80
-  pub version-is : versionIn (m .pool) ≡ 1
-  pub some-buffers : 1 ≤ buffersIn (m .pool)
-  pub most-buffers : buffersIn (m .pool) ≤ mostBuffers
-  pub some-pieces : 1 ≤ piecesIn (m .pool)
-  pub most-pieces : piecesIn (m .pool) ≤ mostPieces
-  pub some-slips : 1 ≤ slipsIn (m .pool)
-  pub most-slips : slipsIn (m .pool) ≤ mostSlips
+  pub is-marked : Is (marked (m .pool))
+  pub counts : InRange (buffersIn (m .pool)) (piecesIn (m .pool)) (slipsIn (m .pool))
   pub pool-long : length (m .pool) ≡ poolLength (buffersIn (m .pool)) (piecesIn (m .pool)) (slipsIn (m .pool))
   pub storage-long : length (m .storage) ≡ storageLength (buffersIn (m .pool))
 
 pub header-facts : (m : Lent) → Is (headerOk m) → Header m
 unfolding headerOk
-header-facts m h = let k = simp (and-is, eqb-is, leb-is) at h in omega arith
+header-facts m h =
+    let p = m .pool in
+    let (a, r) = and-parts (marked p) _ h in
+    let (c, l) = and-parts (countsOk (buffersIn p) (piecesIn p) (slipsIn p)) _ r in
+    let k = simp (and-is, eqb-is) at l in
+    record { is-marked = a; counts = counts-facts _ _ _ c; pool-long = k .0; storage-long = k .1 }
 
 pub header-test : (m : Lent) → Header m → Is (headerOk m)
 unfolding headerOk
-header-test m h = simp (and-is, eqb-is, leb-is) (omega arith)
+header-test m h =
+    let p = m .pool in
+    and-intro (marked p) _ (h .is-marked) (and-intro (countsOk (buffersIn p) (piecesIn p) (slipsIn p)) _ (counts-test (h .counts)) (simp (and-is, eqb-is) (h .pool-long, h .storage-long)))
 
 -- the bytes of tables have a good header
-pub encode-header : (T : Tables) (st : List ℕ) → Sized T → Is (counted mostBuffers (bufferTotal T)) → Is (counted mostPieces (pieceTotal T)) → Is (counted mostSlips (slipTotal T))
-    → length st ≡ storageLength (bufferTotal T) → Is (headerOk (record { pool = encode T; storage = st }))
+pub encode-header : (T : Tables) (st : List ℕ) → Sized T → InRange (bufferTotal T) (pieceTotal T) (slipTotal T)
+    → length st ≡ storageLength (bufferTotal T) → Is (headerOk (lent (encode T) st))
 unfolding encode
-encode-header T st z b q s l =
+encode-header T st z c l =
     let e = encode-totals T z in
     let n = encode-length T in
-    let b′ = simp (and-is, leb-is) at b in
-    let q′ = simp (and-is, leb-is) at q in
-    let s′ = simp (and-is, leb-is) at s in
-    header-test _ (omega arith)
+    header-test _ (record { is-marked = simp (and-is, eqb-is) (omega arith); counts = omega arith; pool-long = omega arith; storage-long = omega arith })
 
 front : (p : List ℕ) → 3 ≤ length p → getD p 0 0 ∷ getD p 1 0 ∷ getD p 2 0 ∷ drop 3 p ≡ p
 front p h = rw (← drop-cons p 2 0 h, ← drop-cons p 1 0 (omega arith), ← drop-cons p 0 0 (omega arith))
 
--- bytes with a good header are the bytes of the tables that they hold
-pub encode-decode : (m : Lent) → AllBytes (m .pool) → Is (headerOk m) → encode (decode (m .pool)) ≡ m .pool
+-- marked bytes of a pool's length are the bytes of the tables that they hold
+pub encode-decode : (p : List ℕ) → AllBytes p → Is (marked p) → length p ≡ poolLength (buffersIn p) (piecesIn p) (slipsIn p) → encode (decode p) ≡ p
 unfolding encode decode
-encode-decode m byte ok =
-    let p = m .pool in
-    let h = header-facts m ok in
+encode-decode p byte ok long =
+    let h = simp (and-is, eqb-is) at ok in
     let S = slipsIn p in
     let P = piecesIn p in
     let B = buffersIn p in
-    let first = rw (h .mark-s, h .mark-l, h .mark-p) at (front p (omega arith)) in
-    let numbers = rw (h .version-is) at (run-drop p byte 4 3 (omega arith)) in
-    let slips = run-drop p byte S 11 (omega arith) in
-    let pieces = pieces-drop p byte P (11 + 2 * S) (omega arith) in
-    let counts = run-drop p byte B (11 + 2 * S + 10 * P) (omega arith) in
-    let none : drop (11 + 2 * S + 10 * P + 2 * B) p ≡ [] = drop-of-length-le p {i = 11 + 2 * S + 10 * P + 2 * B} (omega arith) in
+    let first = rw (h .0, h .1 .0, h .1 .1 .0) at (front p (omega arith)) in
+    let numbers = rw (h .1 .1 .1) at (run-drop p byte 4 versionAt (omega arith)) in
+    let slips = run-drop p byte S headerLength (omega arith) in
+    let pieces = pieces-drop p byte P (slipAt S) (omega arith) in
+    let counts = run-drop p byte B (pieceAt S P) (omega arith) in
+    let none : drop (poolLength B P S) p ≡ [] = drop-of-length-le p {i = poolLength B P S} (omega arith) in
     rw (decode-counts p, decode-pieces p, decode-slips p, ← append-nil (bytes16 (decode p .counts)), ← none, counts, pieces, slips, numbers) first
 
 -- ---- the fresh pool

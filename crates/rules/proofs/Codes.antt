@@ -1,8 +1,8 @@
 -- Which code is given, and what follows from a call's being done. Assumes nothing.
-use mathlib.Core.Path.{_≡_, refl, sym, _∙_}
-use mathlib.Core.Logic.{_≢_, _↔_}
+use mathlib.Core.Path.{_≡_, refl, sym, ap, subst, _∙_}
+use mathlib.Core.Logic.{_≢_, _↔_, ⊎-elim}
 use mathlib.Core.Bool.{Bool, true, false, not, _&&_}
-use mathlib.Core.List.{List, [], _∷_, _++_}
+use mathlib.Core.List.{List, [], _∷_, _++_, List·Memᴰ, List·Memᴰ·not-nil, List·Memᴰ·cases-cons}
 use Prim.Native.Nat.{ℕ, _+_, _≤_, _<_}
 use native.Mathlib.Decide.{ℕ-discrete, decLt}
 use native.Mathlib.Omega.{arith}
@@ -138,48 +138,78 @@ named T s h =
       not-zero (slip T s) (λ z. T-not (eqb (slip T s) 0) (and-1 (ltb s (slipTotal T)) (not (eqb (slip T s) 0)) t) z),
     )
 
--- ---- the codes judged before room are 3 to 7
+-- ---- the codes judged before room
 
--- the codes of the list rise from c on, and all stand before "full"
+-- the codes of the list rise from c on
 abbrev pub Rising : ℕ → List Judged → Type 0
-Rising c [] = c < refusalCode Slips
+Rising c [] = Unit {0}
 Rising c (j ∷ js) = (c < refusalCode (j .refusal)) × Rising (refusalCode (j .refusal)) js
 
-rising-low : (c : ℕ) (js : List Judged) → Rising c js → c < refusalCode Slips
-rising-low c [] a = a
-rising-low c (j ∷ js) a = omega (arith, a .0, rising-low (refusalCode (j .refusal)) js (a .1))
-
-rising-first : (c : ℕ) (js : List Judged) → Rising c js → (firstCode js ≢ 0 → c < firstCode js) × (firstCode js < refusalCode Slips)
-unfolding firstCode
-rising-first c [] a = (λ n. absurd (n refl), omega arith)
-rising-first c (j ∷ js) a =
-    let r = rising-first (refusalCode (j .refusal)) js (a .1) in
-    if-either (λ (x : ℕ). (x ≢ 0 → c < x) × (x < refusalCode Slips)) (j .applies) (refusalCode (j .refusal)) (firstCode js)
-    (λ _. (λ _. a .0, rising-low (refusalCode (j .refusal)) js (a .1)))
-    (λ _. (λ n. omega (arith, a .0, r .0 n), r .1))
-
--- Each call's refusals rise from 2 on: where several apply, the lowest code is given.
+-- Each call's refusals rise from 2 on.
 pub lowest-first : (o : Operation) (S : State) → Rising (refusalCode Torn) (rule o S .judged)
 unfolding rule
-lowest-first Audit S = omega arith
-lowest-first (Put input) S = omega arith
-lowest-first (Free s) S = omega arith
-lowest-first (Dup s) S = omega arith
-lowest-first (Cut s off n) S = omega arith
-lowest-first (Append a b) S = omega arith
-lowest-first (Drop s n) S = omega arith
-lowest-first (Keep s n) S = omega arith
-lowest-first (Pullup s n) S = omega arith
-lowest-first (Pack s) S = omega arith
-lowest-first (Length s) S = omega arith
-lowest-first (Read s off n out) S = omega arith
-lowest-first (Show s n scratch) S = omega arith
-lowest-first (WireList s list) S = omega arith
+lowest-first Audit S = tt
+lowest-first (Put input) S = tt
+lowest-first (Free s) S = (omega arith, tt)
+lowest-first (Dup s) S = (omega arith, tt)
+lowest-first (Cut s off n) S = (omega arith, (omega arith, tt))
+lowest-first (Append a b) S = (omega arith, (omega arith, tt))
+lowest-first (Drop s n) S = (omega arith, (omega arith, tt))
+lowest-first (Keep s n) S = (omega arith, (omega arith, tt))
+lowest-first (Pullup s n) S = (omega arith, (omega arith, (omega arith, tt)))
+lowest-first (Pack s) S = (omega arith, tt)
+lowest-first (Length s) S = (omega arith, tt)
+lowest-first (Read s off n out) S = (omega arith, (omega arith, (omega arith, tt)))
+lowest-first (Show s n scratch) S = (omega arith, (omega arith, (omega arith, (omega arith, tt))))
+lowest-first (WireList s list) S = (omega arith, (omega arith, tt))
 
-pub judged-early : (o : Operation) (S : State) → (firstCode (rule o S .judged) ≢ refusalCode Torn) × (firstCode (rule o S .judged) < refusalCode Slips)
-judged-early o S =
-    let r = rising-first (refusalCode Torn) (rule o S .judged) (lowest-first o S) in
-    (λ e. (let q = r .0 (omega arith) in omega arith), r .1)
+rising-above : (c : ℕ) (js : List Judged) → Rising c js → (j : Judged) → List·Memᴰ j js → c < refusalCode (j .refusal)
+rising-above c [] a j m = absurd (List·Memᴰ·not-nil m)
+rising-above c (k ∷ js) a j m =
+    ⊎-elim (λ e. omega (arith, a .0, ap (λ (x : Judged). refusalCode (x .refusal)) e)) (λ n. omega (arith, a .0, rising-above (refusalCode (k .refusal)) js (a .1) j n)) (List·Memᴰ·cases-cons m)
+
+-- where several apply, the lowest code is given
+pub lowest-given : (c : ℕ) (js : List Judged) → Rising c js → (j : Judged) → List·Memᴰ j js → Is (j .applies) → firstCode js ≤ refusalCode (j .refusal)
+unfolding firstCode
+lowest-given c [] a j m t = absurd (List·Memᴰ·not-nil m)
+lowest-given c (k ∷ js) a j m t =
+    if-either (λ (x : ℕ). x ≤ refusalCode (j .refusal)) (k .applies) (refusalCode (k .refusal)) (firstCode js)
+    (λ _. ⊎-elim (λ e. omega (arith, ap (λ (x : Judged). refusalCode (x .refusal)) e)) (λ n. omega (arith, rising-above (refusalCode (k .refusal)) js (a .1) j n)) (List·Memᴰ·cases-cons m))
+    (λ no. ⊎-elim (λ e. absurd (no (subst (λ (x : Judged). Is (x .applies)) e t))) (λ n. lowest-given (refusalCode (k .refusal)) js (a .1) j n t) (List·Memᴰ·cases-cons m))
+
+-- a code that is neither "torn" nor "full"
+abbrev pub Other : ℕ → Type 0
+Other c = (c ≢ refusalCode Torn) × (c ≢ refusalCode Slips) × (c ≢ refusalCode Pieces) × (c ≢ refusalCode Buffers)
+
+-- none of the codes of the list is one of these
+abbrev pub Apart : List Judged → Type 0
+Apart [] = Unit {0}
+Apart (j ∷ js) = Other (refusalCode (j .refusal)) × Apart js
+
+apart-first : (js : List Judged) → Apart js → Other (firstCode js)
+unfolding firstCode
+apart-first [] a = omega arith
+apart-first (j ∷ js) a = if-either Other (j .applies) (refusalCode (j .refusal)) (firstCode js) (λ _. a .0) (λ _. apart-first js (a .1))
+
+pub judged-apart : (o : Operation) (S : State) → Apart (rule o S .judged)
+unfolding rule
+judged-apart Audit S = tt
+judged-apart (Put input) S = tt
+judged-apart (Free s) S = (omega arith, tt)
+judged-apart (Dup s) S = (omega arith, tt)
+judged-apart (Cut s off n) S = (omega arith, (omega arith, tt))
+judged-apart (Append a b) S = (omega arith, (omega arith, tt))
+judged-apart (Drop s n) S = (omega arith, (omega arith, tt))
+judged-apart (Keep s n) S = (omega arith, (omega arith, tt))
+judged-apart (Pullup s n) S = (omega arith, (omega arith, (omega arith, tt)))
+judged-apart (Pack s) S = (omega arith, tt)
+judged-apart (Length s) S = (omega arith, tt)
+judged-apart (Read s off n out) S = (omega arith, (omega arith, (omega arith, tt)))
+judged-apart (Show s n scratch) S = (omega arith, (omega arith, (omega arith, (omega arith, tt))))
+judged-apart (WireList s list) S = (omega arith, (omega arith, tt))
+
+pub judged-early : (o : Operation) (S : State) → Other (firstCode (rule o S .judged))
+judged-early o S = apart-first (rule o S .judged) (judged-apart o S)
 
 -- ---- the bounds of a call that is done
 

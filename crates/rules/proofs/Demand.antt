@@ -1,5 +1,5 @@
 -- Demand 3, whole: any list of calls from the pool that a done open has written. Assumes nothing.
-use mathlib.Core.Path.{_≡_, sym, ap, _∙_}
+use mathlib.Core.Path.{_≡_, sym, ap, subst, _∙_}
 use mathlib.Core.Logic.{_≢_, _↔_}
 use mathlib.Core.Bool.{not}
 use mathlib.Core.List.{List, [], _∷_}
@@ -21,8 +21,9 @@ use Rattle.rules.specs.Demand.{early, wanted, left, CallOk, Each, Demand
 use Rattle.rules.proofs.Logic.{if-T, if-F, if-either, eq→eqb}
 use Rattle.rules.proofs.Audit.{sound-now}
 use Rattle.rules.proofs.Recount.{recount, recounted-same, leaves-room}
-use Rattle.rules.proofs.Codes.{first-yes, first-no, first-none, first-append, none-full, Full, full-facts, judged-early}
+use Rattle.rules.proofs.Codes.{first-yes, first-no, first-none, first-append, none-full, Full, full-facts, Other, judged-early}
 use Rattle.rules.proofs.Step.{code-is, opened-sound, step-keeps}
+use Rattle.rules.specs.Chain.{withTables}
 
 -- ---- one call
 
@@ -30,8 +31,7 @@ use Rattle.rules.proofs.Step.{code-is, opened-sound, step-keeps}
 record Judging (c e : ℕ) (w r : Wants) : Type 0 where
   when-early : e ≢ 0 → c ≡ e
   when-not : e ≡ 0 → c ≡ firstCode (full w r)
-  low : e < refusalCode Slips
-  not-torn : e ≢ refusalCode Torn
+  other : Other e
 
 judging : (c e : ℕ) (w r : Wants) → Judging c e w r
     → (c ≢ refusalCode Torn)
@@ -48,7 +48,14 @@ judging c e w r j =
             (λ x. (let y = f .pieces .0 (sym k ∙ x) in (z, y .0, y .1)), λ x. k ∙ f .pieces .1 (x .1, x .2)),
             (λ x. (let y = f .buffers .0 (sym k ∙ x) in (z, y .0, y .1, y .2)), λ x. k ∙ f .buffers .1 (x .1, x .2, x .3)),
           ))
-      | no z ↦ (let k = j .when-early z in let l = j .low in let n = j .not-torn in omega arith)
+      | no z ↦ (
+          let k = j .when-early z in
+          let n = j .other in (
+            λ t. n .0 (sym k ∙ t),
+            (λ x. absurd (n .1 (sym k ∙ x)), λ x. absurd (z (x .0))),
+            (λ x. absurd (n .2 (sym k ∙ x)), λ x. absurd (z (x .0))),
+            (λ x. absurd (n .3 (sym k ∙ x)), λ x. absurd (z (x .0))),
+          ))
     ]
   where
     torn : Full w r → firstCode (full w r) ≡ refusalCode Torn → ⊥
@@ -60,7 +67,7 @@ do-judging o m t =
     let T = decode (m .pool) in
     let h = sound-now m t in
     let r = rule o (stateIn m) in
-    let same : rule o (record { tables = recounted T; storage = m .storage }) .wants ≡ r .wants = ap (λ (X : Tables). rule o (record { tables = X; storage = m .storage }) .wants) (recounted-same T h) in
+    let same : rule o (withTables (stateIn m) (recounted T)) .wants ≡ r .wants = ap (λ (X : Tables). rule o (withTables (stateIn m) X) .wants) (recounted-same T h) in
     let e = first-no (Torn ⇐ not (sound m)) (r .judged) (λ n. T-not (sound m) n t) in
     let k = first-append (r .judged) (full (r .wants) (room T)) in
     let g = judged-early o (stateIn m) in
@@ -68,8 +75,7 @@ do-judging o m t =
     record {
       when-early = λ n. code-is o m t ∙ k ∙ if-F (eqb (firstCode (r .judged)) 0) _ _ (λ z. n (e ∙ eqb→eq (firstCode (r .judged)) 0 z)) ∙ sym e;
       when-not = λ z. code-is o m t ∙ k ∙ if-T (eqb (firstCode (r .judged)) 0) _ _ (eq→eqb (firstCode (r .judged)) 0 (sym e ∙ z)) ∙ sym ff;
-      low = omega (arith, e, g .1);
-      not-torn = λ z. g .0 (sym e ∙ z);
+      other = subst Other (sym e) g;
     }
 
 open-judging : (B P S : ℕ) (m : Lent) → Judging (step (Open B P S) m .code) (early (Open B P S) m) (wanted (Open B P S) m) (left m)
@@ -78,10 +84,10 @@ open-judging B P S m =
     if-either (λ (x : Result). Judging (x .code) (firstCode ((Counts ⇐ not (openable B P S m)) ∷ [])) (want 0 0 0) (left m)) (openable B P S m) _ _
     (λ t. (
     let e = first-no (Counts ⇐ not (openable B P S m)) [] (λ n. T-not (openable B P S m) n t) ∙ first-none in
-    record { when-early = λ n. absurd (n e); when-not = λ _. sym (none-full (left m)); low = omega arith; not-torn = omega arith }))
+    record { when-early = λ n. absurd (n e); when-not = λ _. sym (none-full (left m)); other = omega arith }))
     (λ t. (
     let e = first-yes (Counts ⇐ not (openable B P S m)) [] (not-T (openable B P S m) t) in
-    record { when-early = λ _. sym e; when-not = λ z. absurd (omega arith); low = omega arith; not-torn = omega arith }))
+    record { when-early = λ _. sym e; when-not = λ z. absurd (omega arith); other = omega arith }))
 
 pub call-ok : (c : Call) (m : Lent) → Is (sound m) → CallOk c m
 call-ok (Open B P S) m t = (let j = judging _ _ _ _ (open-judging B P S m) in record { not-torn = j .0; slips-full = j .1; pieces-full = j .2; buffers-full = j .3 })

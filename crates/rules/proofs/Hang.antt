@@ -10,8 +10,8 @@ use lib.Seq.{getD-set-same, getD-set-other, take-at}
 use lib.Dec.{eqb, eqb→eq}
 use Rattle.rules.specs.Basics.{if_then_else_, lastOf}
 use Rattle.rules.specs.Tables.{Piece, Tables, blank, slip, piece, headOf, holding, slipTotal, pieceTotal, setSlip, withNext}
-use Rattle.rules.specs.Chain.{Stretch, State, chain, stretch, stretches, spans, ownPieces}
-use Rattle.rules.specs.Release.{withTables, release, turned, relinked}
+use Rattle.rules.specs.Chain.{Stretch, State, chain, stretch, stretches, spans, ownPieces, withTables}
+use Rattle.rules.specs.Release.{release, turned, relinked}
 use Rattle.rules.specs.Build.{Plan, made, madeLink, underNew, underOld, behindOwn}
 use Rattle.rules.proofs.Logic.{if-either}
 use Rattle.rules.proofs.Moves.{SoundBy, SoundWith, SoundNow, hit, hit-same, by-place, used-in-range, reorder, slip-move}

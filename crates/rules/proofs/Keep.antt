@@ -7,9 +7,8 @@ use lib.ListN.{length, getD, drop, take, take-append-drop, length-drop}
 use lib.Dec.{eqb, leb, leb→le}
 use Rattle.rules.specs.Basics.{if_then_else_, lastOf}
 use Rattle.rules.specs.Tables.{Piece, Tables, blank, piece, headOf, slipTotal, bufferTotal, setPiece, withPlace, slip, setSlip, pieceTotal}
-use Rattle.rules.specs.Chain.{State, Stretch, spans, lengthOf, stretch, stretches, cutOut}
+use Rattle.rules.specs.Chain.{State, Stretch, spans, lengthOf, stretch, stretches, cutOut, withTables}
 use Rattle.rules.specs.Room.{freePieces}
-use Rattle.rules.specs.Release.{withTables}
 use Rattle.rules.specs.Build.{built, builtLink}
 use Rattle.rules.specs.Keep.{kept, keptOwn, keptNotOwn, shortened, keptBy, keepAfter}
 use Rattle.rules.proofs.Logic.{if-either, if-F}

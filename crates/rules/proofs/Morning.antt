@@ -7,7 +7,7 @@ use Rattle.word.specs.Word.{get16}
 use Rattle.rules.specs.Basics.{if_then_else_, allTo, places}
 use Rattle.rules.specs.Bytes.{decode, encode}
 use Rattle.rules.specs.Chain.{follow, walk, ownPieces, stretches, total, cutOut, contents}
-use Rattle.rules.specs.Sound.{heads, nexts, lying, headerOk, acyclic, soundTables, sound}
+use Rattle.rules.specs.Sound.{heads, nexts, lying, headerOk, acyclic, soundTables, sound, lent}
 use Rattle.rules.specs.Release.{releaseIn, release, turned, relinked}
 use Rattle.rules.specs.Build.{builtLink, built, underNew, underOld, behindOwn, laid, filled, stored}
 use Rattle.rules.specs.Rule.{firstCode}
@@ -29,7 +29,7 @@ unfolding get16 if_then_else_ allTo places decode encode follow walk ownPieces s
 every-rule = tt
 
 -- fresh4 is what open 4, 6, 4 leaves of any 87 bytes over zeroed storage
-pub fresh4-open : (q : List ℕ) → length q ≡ 87 → next (Open 4 6 4) (record { pool = q; storage = replicate 2048 0 }) ≡ fresh4
+pub fresh4-open : (q : List ℕ) → length q ≡ 87 → next (Open 4 6 4) (lent q (replicate 2048 0)) ≡ fresh4
 unfolding step openable if_then_else_
 fresh4-open q e = rw e
 

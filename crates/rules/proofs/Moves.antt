@@ -12,7 +12,7 @@ use lib.Seq.{getD-set-same, getD-set-other}
 use lib.Dec.{eqb, eqb→eq, eqb-refl, lt→ltb}
 use Rattle.kinds.specs.Limits.{sizeOf}
 use Rattle.rules.specs.Basics.{if_then_else_, bit, sumTo}
-use Rattle.rules.specs.Tables.{Piece, Tables, blank, piece, bufferCount, headOf, setSlip, setPiece, setPieceCount, withCount, withNext, withPlace}
+use Rattle.rules.specs.Tables.{Piece, Tables, blank, piece, bufferCount, headOf, setSlip, setPiece, setPieceCount, withCount, withNext, withPlace, withBoth}
 use Rattle.rules.specs.Sound.{inUse, leads, heads, lying}
 use Rattle.rules.specs.Release.{raised, lowered}
 use Rattle.rules.specs.Build.{taken}
@@ -146,11 +146,11 @@ pub record Replaces (rank rank′ : ℕ → ℕ) (fl fl′ : List ℕ) (T : Tabl
 
 pub replace : {rank rank′ : ℕ → ℕ} {fl fl′ : List ℕ} {T : Tables} {i : ℕ} {p : Piece} {cs : List ℕ}
     → SoundBy rank fl T → Replaces rank rank′ fl fl′ T i p cs
-    → SoundBy rank′ fl′ (record { slips = T .slips; pieces = set (T .pieces) i p; counts = cs })
+    → SoundBy rank′ fl′ (withBoth T (set (T .pieces) i p) cs)
 unfolding heads links lying
 replace {rank} {rank′} {fl} {fl′} {T} {i} {p} {cs} S R =
     let all = by-place (T .pieces) i p blank (R .there) in
-    let T′ : Tables = record { slips = T .slips; pieces = set (T .pieces) i p; counts = cs } in
+    let T′ = withBoth T (set (T .pieces) i p) cs in
     let sn : (d : ℕ) → links T′ d + hit (piece T i .next) d ≡ links T d + hit (p .next) d = λ d. sum-set (T .pieces) i p blank (λ q. hit (q .next) d) (R .there) in
     record {
       counted = all (λ q d. q .count ≡ heads T d + links T′ d + occ fl′ d)

@@ -9,7 +9,7 @@ use native.Mathlib.Omega.{arith}
 use lib.ListN.{length, getD}
 use lib.Dec.{eqb, eqb→eq, eqb-refl, eqb·suc-zero, ltb, ltb→lt, lt→ltb}
 use Rattle.rules.specs.Basics.{Is, bit, table, member}
-use Rattle.rules.specs.Tables.{Piece, Tables, blank, isBlank, piece, bufferCount, headOf, slipTotal, pieceTotal, bufferTotal, withCount}
+use Rattle.rules.specs.Tables.{Piece, Tables, blank, isBlank, piece, bufferCount, headOf, slipTotal, pieceTotal, bufferTotal, withCount, withBoth}
 use Rattle.rules.specs.Chain.{follow, walk, chain}
 use Rattle.rules.specs.Sound.{inUse, leads, heads, nexts, lying}
 use Rattle.rules.specs.Room.{isVacant, isFree, isUnheld}
@@ -171,7 +171,7 @@ unfolding recounted
 recounted-same T S =
     let p = table-same (T .pieces) (λ d. withCount (piece T d) (references T d)) blank (λ d _. ap (withCount (piece T d)) (sym (references-same T S d))) in
     let c = table-same (T .counts) (holders T) 0 (λ b _. sym (holders-same T S b)) in
-    λ i. record { slips = T .slips; pieces = p i; counts = c i }
+    λ i. withBoth T (p i) (c i)
 
 -- ---- what the recount leaves is the room at entry
 

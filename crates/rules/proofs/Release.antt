@@ -8,8 +8,8 @@ use lib.ListN.{length}
 use lib.Dec.{ltb→lt, lt→ltb}
 use Rattle.rules.specs.Basics.{Is, if_then_else_}
 use Rattle.rules.specs.Tables.{Tables, piece, headOf, pieceTotal, setSlip}
-use Rattle.rules.specs.Chain.{State}
-use Rattle.rules.specs.Release.{withTables, another, freed, releaseIn, release, turned}
+use Rattle.rules.specs.Chain.{State, withTables}
+use Rattle.rules.specs.Release.{another, freed, releaseIn, release, turned}
 use Rattle.rules.proofs.Logic.{if-either}
 use Rattle.rules.proofs.Moves.{SoundBy, SoundWith, hit-same, used-in-range, reorder, slip-move, lower-move, free-move}
 use Rattle.rules.proofs.Rank.{low, low-below, lower-rank}

@@ -8,9 +8,9 @@ use lib.Dec.{eqb, leb}
 use Rattle.rules.specs.Basics.{lastOf}
 use Rattle.rules.specs.Layout.{storageLength}
 use Rattle.rules.specs.Tables.{Piece, Tables, blank, slip, piece, headOf, holding, vacant, bufferTotal, pieceTotal, setSlip, setPiece, setPieceCount}
-use Rattle.rules.specs.Chain.{State, Stretch, spans, chain, lengthOf, firstLength, reads}
+use Rattle.rules.specs.Chain.{State, Stretch, spans, chain, lengthOf, firstLength, reads, withTables}
 use Rattle.rules.specs.Room.{isUnheld, freePieces, newSlip, newBuffers}
-use Rattle.rules.specs.Release.{withTables, shared, freed, releaseIn, release, turned, relinked}
+use Rattle.rules.specs.Release.{shared, freed, releaseIn, release, turned, relinked}
 use Rattle.rules.specs.Build.{built, builtLink, Plan, plain, made, madeLink, underNew, underOld, behindOwn, buffersFor, stored}
 use Rattle.rules.specs.Put.{putAfter}
 use Rattle.rules.specs.Dup.{dupPlan, dupAfter}

@@ -15,16 +15,16 @@ use Rattle.rules.specs.Basics.{Is, if_then_else_}
 use Rattle.rules.specs.Layout.{storageLength}
 use Rattle.rules.specs.Tables.{Tables, slipTotal, pieceTotal, bufferTotal, blank, freshTables, bufferCount}
 use Rattle.rules.specs.Bytes.{decode, encode}
-use Rattle.rules.specs.Chain.{State, reads, bytesOf}
+use Rattle.rules.specs.Chain.{State, reads, bytesOf, stateOf}
 use Rattle.rules.specs.Room.{isVacant}
-use Rattle.rules.specs.Sound.{Lent, headerOk, soundTables, sound}
+use Rattle.rules.specs.Sound.{Lent, headerOk, soundTables, sound, lent, countsOk}
 use Rattle.rules.specs.Rule.{codeIn}
 use Rattle.rules.specs.Open.{openable}
-use Rattle.rules.specs.Step.{Operation, Call, Open, Do, rule, lentOut, Result, refused, stateIn, done, perform, step, next, lentTo}
+use Rattle.rules.specs.Step.{Operation, Call, Open, Do, rule, lentOut, Result, refused, stateIn, done, perform, step, next, lentTo, leftBy}
 use Rattle.rules.specs.After.{readsAfter, vacantAfter}
-use Rattle.rules.proofs.Logic.{if-T, if-F, if-either, and-intro, and-0, eq→eqb, is-dec}
+use Rattle.rules.proofs.Logic.{if-T, if-F, if-either, and-intro, and-0, eq→eqb, is-dec, and-parts}
 use Rattle.rules.proofs.Moves.{SoundNow}
-use Rattle.rules.proofs.Bytes.{Sized, header-facts, decode-slips, decode-pieces, decode-counts, decode-encode, encode-header, and-is, leb-is, eqb-is}
+use Rattle.rules.proofs.Bytes.{Sized, header-facts, decode-slips, decode-pieces, decode-counts, decode-encode, encode-header, and-is, leb-is, eqb-is, InRange, counts-facts}
 use Rattle.rules.proofs.Bounds.{small}
 use Rattle.rules.proofs.Sizes.{rule-sizes, rule-storage}
 use Rattle.rules.proofs.Audit.{tables-pass, sound-now, fresh-sound}
@@ -140,24 +140,19 @@ counted-is most n a b = and-intro (leb 1 n) (leb n most) (le→leb 1 n a) (le→
 
 -- the sizes that open takes
 pub record Within (T : Tables) (st : List ℕ) : Type 0 where
-  pub some-buffers : 1 ≤ bufferTotal T
-  pub most-buffers : bufferTotal T ≤ mostBuffers
-  pub some-pieces : 1 ≤ pieceTotal T
-  pub most-pieces : pieceTotal T ≤ mostPieces
-  pub some-slips : 1 ≤ slipTotal T
-  pub most-slips : slipTotal T ≤ mostSlips
+  pub counts : InRange (bufferTotal T) (pieceTotal T) (slipTotal T)
   pub storage-fits : length st ≡ storageLength (bufferTotal T)
 
 pub within-sized : {T : Tables} {st : List ℕ} → SoundNow T → Within T st → Sized T
-within-sized {T} h w = sized T h (w .most-buffers) (w .most-pieces) (w .most-slips)
+within-sized {T} h w = (let c = w .counts in sized T h (c .most-buffers) (c .most-pieces) (c .most-slips))
 
 -- the bytes of sound tables are a sound pool
-pub encode-sound : (T : Tables) (st : List ℕ) → SoundNow T → Within T st → Is (sound (record { pool = encode T; storage = st }))
+pub encode-sound : (T : Tables) (st : List ℕ) → SoundNow T → Within T st → Is (sound (lent (encode T) st))
 unfolding sound
 encode-sound T st h w =
     let z = within-sized h w in
-    and-intro (headerOk (record { pool = encode T; storage = st })) (soundTables (decode (encode T)))
-    (encode-header T st z (counted-is mostBuffers (bufferTotal T) (w .some-buffers) (w .most-buffers)) (counted-is mostPieces (pieceTotal T) (w .some-pieces) (w .most-pieces)) (counted-is mostSlips (slipTotal T) (w .some-slips) (w .most-slips)) (w .storage-fits))
+    and-intro (headerOk (lent (encode T) st)) (soundTables (decode (encode T)))
+    (encode-header T st z (w .counts) (w .storage-fits))
     (subst (λ X. Is (soundTables X)) (sym (decode-encode T z)) (tables-pass T h))
 
 -- a sound pool is within the sizes
@@ -168,15 +163,7 @@ sound-within m t =
     let b = decode-counts (m .pool) in
     let p = decode-pieces (m .pool) in
     let s = decode-slips (m .pool) in
-    record {
-      some-buffers = omega (arith, h .some-buffers);
-      most-buffers = omega (arith, h .most-buffers);
-      some-pieces = omega (arith, h .some-pieces);
-      most-pieces = omega (arith, h .most-pieces);
-      some-slips = omega (arith, h .some-slips);
-      most-slips = omega (arith, h .most-slips);
-      storage-fits = h .storage-long ∙ ap storageLength (sym b);
-    }
+    record { counts = omega (arith, h .counts); storage-fits = h .storage-long ∙ ap storageLength (sym b) }
 
 -- an operation that is done leaves the sizes
 pub rule-within : (o : Operation) (S : State) → Within (S .tables) (S .storage) → Within (rule o S .after .tables) (rule o S .after .storage)
@@ -186,32 +173,21 @@ rule-within o S w =
     let p = z .pieces-size in
     let s = z .slips-size in
     record {
-      some-buffers = omega (arith, w .some-buffers);
-      most-buffers = omega (arith, w .most-buffers);
-      some-pieces = omega (arith, w .some-pieces);
-      most-pieces = omega (arith, w .most-pieces);
-      some-slips = omega (arith, w .some-slips);
-      most-slips = omega (arith, w .most-slips);
+      counts = omega (arith, w .counts);
       storage-fits = rule-storage o S (w .storage-fits) ∙ w .storage-fits ∙ ap storageLength (sym b);
     }
 
 -- The pool that a done open writes is sound.
-pub open-sound : (B P S : ℕ) (m : Lent) → Is (openable B P S m) → Is (sound (record { pool = encode (freshTables B P S); storage = m .storage }))
+pub open-sound : (B P S : ℕ) (m : Lent) → Is (openable B P S m) → Is (sound (lent (encode (freshTables B P S)) (m .storage)))
 unfolding openable
 open-sound B P S m t =
-    let f = simp (and-is, eqb-is, leb-is) at t in
+    let (c, l) = and-parts (countsOk B P S) _ t in
+    let f = simp (and-is, eqb-is) at l in
+    let k = counts-facts B P S c in
     let b = length-replicate {A = ℕ} B 0 in
     let p = length-replicate P blank in
     let s = length-replicate {A = ℕ} S 0 in
-    encode-sound (freshTables B P S) (m .storage) (fresh-sound B P S) (record {
-      some-buffers = omega arith;
-      most-buffers = omega arith;
-      some-pieces = omega arith;
-      most-pieces = omega arith;
-      some-slips = omega arith;
-      most-slips = omega arith;
-      storage-fits = f .1 .1 .1 .1 ∙ ap storageLength (sym b);
-    })
+    encode-sound (freshTables B P S) (m .storage) (fresh-sound B P S) (record { counts = omega arith; storage-fits = f .1 ∙ ap storageLength (sym b) })
 
 -- ---- every call
 
@@ -224,10 +200,10 @@ after-state o m e =
     let h = rule-sound o S (sound-now m (d .was-sound)) (allowed (rule o S) (S .tables) (d .allowed-code)) in
     let w = rule-within o S (sound-within m (d .was-sound)) in
     let back : decode (encode (rule o S .after .tables)) ≡ rule o S .after .tables = decode-encode (rule o S .after .tables) (within-sized h w) in
-    ap (λ (x : Result). stateIn (record { pool = x .pool; storage = x .storage })) (d .result) ∙ (λ i. record { tables = back i; storage = rule o S .after .storage })
+    ap (λ (x : Result). stateIn (leftBy x)) (d .result) ∙ (λ i. stateOf (back i) (rule o S .after .storage))
 
 next-refused : (c : Call) (m : Lent) → step c m .code ≢ 0 → next c m ≡ m
-next-refused c m n = ap (λ (x : Result). record { pool = x .pool; storage = x .storage }) (alters-nothing c m n)
+next-refused c m n = ap leftBy (alters-nothing c m n)
 
 keeps-done : (o : Operation) (m : Lent) → step (Do o) m .code ≡ 0 → Is (sound (next (Do o) m))
 unfolding done
@@ -236,18 +212,18 @@ keeps-done o m e =
     let S = stateIn m in
     let h = rule-sound o S (sound-now m (d .was-sound)) (allowed (rule o S) (S .tables) (d .allowed-code)) in
     let w = rule-within o S (sound-within m (d .was-sound)) in
-    subst (λ (x : Result). Is (sound (record { pool = x .pool; storage = x .storage }))) (sym (d .result)) (encode-sound (rule o S .after .tables) (rule o S .after .storage) h w)
+    subst (λ (x : Result). Is (sound (leftBy x))) (sym (d .result)) (encode-sound (rule o S .after .tables) (rule o S .after .storage) h w)
 
 open-keeps : (B P S : ℕ) (m : Lent) → Is (sound m) → Is (sound (next (Open B P S) m))
 unfolding step
 open-keeps B P S m t =
-    if-either (λ (x : Result). Is (sound (record { pool = x .pool; storage = x .storage }))) (openable B P S m) _ _ (λ o. open-sound B P S m o) (λ _. t)
+    if-either (λ (x : Result). Is (sound (leftBy x))) (openable B P S m) _ _ (λ o. open-sound B P S m o) (λ _. t)
 
 -- A done open leaves a sound pool, whatever was there before.
 pub opened-sound : (B P S : ℕ) (m : Lent) → step (Open B P S) m .code ≡ 0 → Is (sound (next (Open B P S) m))
 unfolding step
 opened-sound B P S m e =
-    if-either (λ (x : Result). x .code ≡ 0 → Is (sound (record { pool = x .pool; storage = x .storage }))) (openable B P S m) _ _ (λ o _. open-sound B P S m o) (λ _ z. absurd (omega arith)) e
+    if-either (λ (x : Result). x .code ≡ 0 → Is (sound (leftBy x))) (openable B P S m) _ _ (λ o _. open-sound B P S m o) (λ _ z. absurd (omega arith)) e
 
 -- Soundness is kept by every call, done or refused.
 pub step-keeps : (c : Call) (m : Lent) → Is (sound m) → Is (sound (next c m))

@@ -7,9 +7,8 @@ use lib.Dec.{eqb}
 use Rattle.kinds.specs.declared.Refusal.the-variants.{Slip, Same}
 use Rattle.rules.specs.Basics.{if_then_else_}
 use Rattle.rules.specs.Tables.{Tables, slip, headOf, vacant, pieceTotal, setSlip}
-use Rattle.rules.specs.Chain.{State, Stretch, spans, ownPieces}
+use Rattle.rules.specs.Chain.{State, Stretch, spans, ownPieces, withTables}
 use Rattle.rules.specs.Room.{freePieces}
-use Rattle.rules.specs.Release.{withTables}
 use Rattle.rules.specs.Build.{built, builtLink, behindOwn}
 use Rattle.rules.specs.Rule.{Rule, _⇐_, unnamed, want, alters}
 

@@ -5,8 +5,8 @@ use lib.ListN.{length, take, drop, replicate}
 use Rattle.kinds.specs.Limits.{bufferSize, sizeOf, startOf}
 use Rattle.rules.specs.Basics.{lastOf}
 use Rattle.rules.specs.Tables.{Piece, Tables, bufferCount, holding, setSlip, setPieceCount}
-use Rattle.rules.specs.Chain.{State, Stretch}
-use Rattle.rules.specs.Release.{withTables, turned, relinked}
+use Rattle.rules.specs.Chain.{State, Stretch, withTables}
+use Rattle.rules.specs.Release.{turned, relinked}
 
 -- ---- pieces
 

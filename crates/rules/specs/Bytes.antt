@@ -3,21 +3,21 @@ use mathlib.Core.List.{List, [], _∷_, _++_}
 use Prim.Native.Nat.{ℕ, _+_}
 use Rattle.word.specs.Word.{get16, bytes16}
 use Rattle.rules.specs.Basics.{table}
-use Rattle.rules.specs.Layout.{mark, version, slipAt, pieceAt, countAt}
+use Rattle.rules.specs.Layout.{mark, version, slipAt, pieceAt, countAt, versionAt, buffersAt, piecesAt, slipsAt}
 use Rattle.rules.specs.Tables.{Piece, Tables, slipTotal, pieceTotal, bufferTotal}
 
 -- the header's numbers
 abbrev pub versionIn : List ℕ → ℕ
-versionIn p = get16 p 3
+versionIn p = get16 p versionAt
 
 abbrev pub buffersIn : List ℕ → ℕ
-buffersIn p = get16 p 5
+buffersIn p = get16 p buffersAt
 
 abbrev pub piecesIn : List ℕ → ℕ
-piecesIn p = get16 p 7
+piecesIn p = get16 p piecesAt
 
 abbrev pub slipsIn : List ℕ → ℕ
-slipsIn p = get16 p 9
+slipsIn p = get16 p slipsAt
 
 -- the piece whose entry starts at byte a
 abbrev pub pieceIn : List ℕ → ℕ → Piece

@@ -84,6 +84,16 @@ pub record State : Type 0 where
   pub tables : Tables
   pub storage : List ℕ
 
+abbrev pub stateOf : Tables → List ℕ → State
+stateOf T st = record { tables = T; storage = st }
+
+-- S with other tables, and with other storage
+abbrev pub withTables : State → Tables → State
+withTables S T = stateOf T (S .storage)
+
+abbrev pub withStorage : State → List ℕ → State
+withStorage S st = stateOf (S .tables) st
+
 -- the bytes of the chain of slip s: its pieces' bytes in order
 abbrev pub reads : State → ℕ → List ℕ
 reads S s = contents (S .storage) (spans (S .tables) s)

@@ -4,9 +4,8 @@ use Prim.Native.Nat.{ℕ, _+_}
 use lib.ListN.{length}
 use lib.Dec.{ltb}
 use Rattle.kinds.specs.declared.Refusal.the-variants.{Slip, Range}
-use Rattle.rules.specs.Chain.{State, spans, lengthOf, cutOut}
+use Rattle.rules.specs.Chain.{State, spans, lengthOf, cutOut, withTables}
 use Rattle.rules.specs.Room.{freePieces, newSlip}
-use Rattle.rules.specs.Release.{withTables}
 use Rattle.rules.specs.Build.{plain, underNew}
 use Rattle.rules.specs.Rule.{Rule, _⇐_, unnamed, want, alters}
 

@@ -12,6 +12,7 @@ use Rattle.rules.specs.Rule.{Wants, want, _⇐_, firstCode}
 use Rattle.rules.specs.Open.{openable}
 use Rattle.rules.specs.Step.{Call, Open, Do, rule, step, stateIn, next, run}
 use Rattle.rules.specs.Recount.{Recount, recounted, leaves}
+use Rattle.rules.specs.Chain.{withTables}
 
 -- the code judged before room, or 0
 unfoldable pub early : Call → Lent → ℕ
@@ -21,7 +22,7 @@ early (Do o) m = firstCode ((Torn ⇐ not (sound m)) ∷ rule o (stateIn m) .jud
 -- what a call wants by its rule, where every count goes by the references found
 unfoldable pub wanted : Call → Lent → Wants
 wanted (Open B P S) m = want 0 0 0
-wanted (Do o) m = rule o (record { tables = recounted (decode (m .pool)); storage = m .storage }) .wants
+wanted (Do o) m = rule o (withTables (stateIn m) (recounted (decode (m .pool)))) .wants
 
 -- what the recount just before a call leaves
 abbrev pub left : Lent → Wants

@@ -4,9 +4,9 @@ use Prim.Native.Nat.{ℕ, zero, suc}
 use lib.ListN.{length}
 use Rattle.kinds.specs.declared.Refusal.the-variants.{Slip}
 use Rattle.rules.specs.Tables.{Tables, piece, headOf}
-use Rattle.rules.specs.Chain.{State, stretch}
+use Rattle.rules.specs.Chain.{State, stretch, withTables}
 use Rattle.rules.specs.Room.{freePieces, newSlip}
-use Rattle.rules.specs.Release.{withTables, shared}
+use Rattle.rules.specs.Release.{shared}
 use Rattle.rules.specs.Build.{Plan, plain, underNew}
 use Rattle.rules.specs.Rule.{Rule, _⇐_, unnamed, want, alters}
 

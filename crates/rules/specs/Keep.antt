@@ -6,9 +6,8 @@ use lib.Dec.{ltb, eqb}
 use Rattle.kinds.specs.declared.Refusal.the-variants.{Slip, Range}
 use Rattle.rules.specs.Basics.{if_then_else_, lastOf}
 use Rattle.rules.specs.Tables.{Tables, piece, headOf, setPiece, withPlace}
-use Rattle.rules.specs.Chain.{State, Stretch, spans, lengthOf, ownPieces, cutOut}
+use Rattle.rules.specs.Chain.{State, Stretch, spans, lengthOf, ownPieces, cutOut, withTables}
 use Rattle.rules.specs.Room.{freePieces}
-use Rattle.rules.specs.Release.{withTables}
 use Rattle.rules.specs.Build.{built, builtLink, behindOwn}
 use Rattle.rules.specs.Rule.{Rule, _⇐_, unnamed, want, alters}
 

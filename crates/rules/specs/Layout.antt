@@ -10,23 +10,45 @@ mark = 83 ∷ 76 ∷ 80 ∷ []
 abbrev pub version : ℕ
 version = 1
 
--- The header: mark (3 bytes), version, B, P, S (2 bytes each).
+-- The header: mark (3 bytes), then version, B, P and S (2 bytes each), at these bytes.
+abbrev pub versionAt : ℕ
+versionAt = 3
+
+abbrev pub buffersAt : ℕ
+buffersAt = 5
+
+abbrev pub piecesAt : ℕ
+piecesAt = 7
+
+abbrev pub slipsAt : ℕ
+slipsAt = 9
+
 abbrev pub headerLength : ℕ
 headerLength = 11
 
--- A slip's entry is 2 bytes, a piece's 10, a buffer's count 2.
+-- the bytes of a slip's entry, of a piece's, and of a buffer's count
+abbrev pub slipWidth : ℕ
+slipWidth = 2
+
+abbrev pub pieceWidth : ℕ
+pieceWidth = 10
+
+abbrev pub countWidth : ℕ
+countWidth = 2
+
+-- where the entries stand: first the slips', then the pieces', then the counts
 abbrev pub slipAt : ℕ → ℕ
-slipAt s = headerLength + 2 * s
+slipAt s = headerLength + slipWidth * s
 
 abbrev pub pieceAt : ℕ → ℕ → ℕ
-pieceAt S d = headerLength + 2 * S + 10 * d
+pieceAt S d = slipAt S + pieceWidth * d
 
 abbrev pub countAt : ℕ → ℕ → ℕ → ℕ
-countAt P S b = headerLength + 2 * S + 10 * P + 2 * b
+countAt P S b = pieceAt S P + countWidth * b
 
--- the exact length of a pool of B buffers, P pieces and S slips
+-- the exact length of a pool of B buffers, P pieces and S slips: where a further count would stand
 abbrev pub poolLength : ℕ → ℕ → ℕ → ℕ
-poolLength B P S = headerLength + 2 * S + 10 * P + 2 * B
+poolLength B P S = countAt P S B
 
 -- the exact length of its storage: where a buffer B would start
 abbrev pub storageLength : ℕ → ℕ

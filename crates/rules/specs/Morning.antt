@@ -5,10 +5,10 @@ use Prim.Native.Nat.{ℕ, zero, suc, _-_, _%_}
 use lib.ListN.{length, replicate}
 use Rattle.rules.specs.Tables.{Piece, Tables, blank, freshTables, pieceTotal}
 use Rattle.rules.specs.Bytes.{decode, encode}
-use Rattle.rules.specs.Sound.{Lent}
+use Rattle.rules.specs.Sound.{Lent, lent}
 use Rattle.rules.specs.Chain.{reads}
 use Rattle.rules.specs.Room.{freePieces}
-use Rattle.rules.specs.Step.{Do, Operation, Put, Free, Dup, Cut, Append, Drop, Keep, Pullup, Pack, step, stateIn, run}
+use Rattle.rules.specs.Step.{Do, Operation, Put, Free, Dup, Cut, Append, Drop, Keep, Pullup, Pack, step, stateIn, run, leftBy}
 
 -- A row: the call, its answer, the tables after it, and the bytes that a slip then reads.
 pub record Row : Type 0 where
@@ -36,7 +36,7 @@ row o n T s xs = record { call = o; code = 0; number = n; tables = T; slip = s; 
 
 -- what open 4, 6, 4 leaves over zeroed storage
 abbrev pub fresh4 : Lent
-fresh4 = record { pool = encode (freshTables 4 6 4); storage = replicate 2048 0 }
+fresh4 = lent (encode (freshTables 4 6 4)) (replicate 2048 0)
 
 -- The rows: the call; its number; slips, pieces and counts after it; a slip and its bytes.
 abbrev pub rows : List Row
@@ -57,7 +57,7 @@ unfoldable pub given : List Row → Lent → List Row
 given [] m = []
 given (r ∷ rs) m =
     let a = step (Do (r .call)) m in
-    let m′ : Lent = record { pool = a .pool; storage = a .storage } in
+    let m′ = leftBy a in
     record { call = r .call; code = a .code; number = a .number; tables = decode (a .pool); slip = r .slip; bytes = reads (stateIn m′) (r .slip) } ∷ given rs m′
 
 -- An edge: the calls before it in a fresh pool, the call, its answer, and after it the slips

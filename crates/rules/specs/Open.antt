@@ -2,13 +2,8 @@
 use mathlib.Core.Bool.{Bool, _&&_}
 use Prim.Native.Nat.{ℕ}
 use lib.ListN.{length}
-use lib.Dec.{eqb}
-use Rattle.kinds.specs.Limits.{mostBuffers, mostPieces, mostSlips, counted}
-use Rattle.rules.specs.Layout.{poolLength, storageLength}
-use Rattle.rules.specs.Sound.{Lent}
+use Rattle.rules.specs.Sound.{Lent, countsOk, lengthsOk}
 
 -- each count is in its range, and both lent lengths are the ones it asks
 unfoldable pub openable : ℕ → ℕ → ℕ → Lent → Bool
-openable B P S m =
-    counted mostBuffers B && (counted mostPieces P && (counted mostSlips S
-    && (eqb (length (m .pool)) (poolLength B P S) && eqb (length (m .storage)) (storageLength B))))
+openable B P S m = countsOk B P S && lengthsOk B P S (length (m .pool)) (length (m .storage))

@@ -6,7 +6,7 @@ use lib.Dec.{leb}
 use Rattle.kinds.specs.declared.Refusal.the-variants.{Slip}
 use Rattle.rules.specs.Basics.{if_then_else_}
 use Rattle.rules.specs.Tables.{Tables}
-use Rattle.rules.specs.Chain.{State, chain, lengthOf, reads}
+use Rattle.rules.specs.Chain.{State, chain, lengthOf, reads, withStorage}
 use Rattle.rules.specs.Room.{freePieces, newBuffers}
 use Rattle.rules.specs.Build.{plain, underOld, buffersFor, laid, stored}
 use Rattle.rules.specs.Rule.{Rule, _⇐_, unnamed, Wants, want, alters}
@@ -17,7 +17,7 @@ packAfter s S =
     let T = S .tables in
     let bs = newBuffers T (buffersFor (lengthOf T s)) in
     if leb (length (chain T s)) 1 then S
-    else underOld (record { tables = T; storage = stored (S .storage) bs (reads S s) }) (plain T (laid bs (lengthOf T s))) (freePieces T) s
+    else underOld (withStorage S (stored (S .storage) bs (reads S s))) (plain T (laid bs (lengthOf T s))) (freePieces T) s
 
 unfoldable pub packWants : Tables → ℕ → Wants
 packWants T s = if leb (length (chain T s)) 1 then want 0 0 0 else want 0 (buffersFor (lengthOf T s)) (buffersFor (lengthOf T s))

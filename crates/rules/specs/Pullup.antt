@@ -7,7 +7,7 @@ use Rattle.kinds.specs.Limits.{bufferSize}
 use Rattle.kinds.specs.declared.Refusal.the-variants.{Slip, Long, Range}
 use Rattle.rules.specs.Basics.{if_then_else_}
 use Rattle.rules.specs.Tables.{Tables}
-use Rattle.rules.specs.Chain.{State, spans, firstLength, lengthOf, reads}
+use Rattle.rules.specs.Chain.{State, spans, firstLength, lengthOf, reads, withStorage}
 use Rattle.rules.specs.Room.{freePieces, newBuffers}
 use Rattle.rules.specs.Build.{Plan, underOld, laid, stored}
 use Rattle.rules.specs.Drop.{dropped}
@@ -25,7 +25,7 @@ unfoldable pub pullupAfter : ℕ → ℕ → State → State
 pullupAfter s n S =
     let T = S .tables in
     if leb n (firstLength (spans T s)) then S
-    else underOld (record { tables = T; storage = stored (S .storage) (newBuffers T 1) (take n (reads S s)) }) (pulled T s n) (freePieces T) s
+    else underOld (withStorage S (stored (S .storage) (newBuffers T 1) (take n (reads S s)))) (pulled T s n) (freePieces T) s
 
 unfoldable pub pullupWants : Tables → ℕ → ℕ → Wants
 pullupWants T s n = if leb n (firstLength (spans T s)) then want 0 0 0 else want 0 (suc (length (dropped T s n .more))) 1

@@ -2,7 +2,7 @@
 use mathlib.Core.List.{List, []}
 use Prim.Native.Nat.{ℕ}
 use lib.ListN.{length}
-use Rattle.rules.specs.Chain.{State}
+use Rattle.rules.specs.Chain.{State, stateOf}
 use Rattle.rules.specs.Room.{freePieces, newSlip, newBuffers}
 use Rattle.rules.specs.Build.{plain, underNew, buffersFor, laid, stored}
 use Rattle.rules.specs.Rule.{Rule, want, alters}
@@ -11,7 +11,7 @@ unfoldable pub putAfter : List ℕ → State → State
 putAfter input S =
     let T = S .tables in
     let bs = newBuffers T (buffersFor (length input)) in
-    record { tables = underNew (plain T (laid bs (length input))) (freePieces T) (newSlip T); storage = stored (S .storage) bs input }
+    stateOf (underNew (plain T (laid bs (length input))) (freePieces T) (newSlip T)) (stored (S .storage) bs input)
 
 abbrev pub put : List ℕ → State → Rule
 put input S =

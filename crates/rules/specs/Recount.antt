@@ -5,7 +5,7 @@ use mathlib.Core.Bool.{Bool, not, _&&_}
 use Prim.Native.Nat.{ℕ, suc, _+_, _<_}
 use lib.Dec.{eqb}
 use Rattle.rules.specs.Basics.{Is, bit, sumTo, anyTo, table, member}
-use Rattle.rules.specs.Tables.{Tables, blank, isBlank, piece, bufferCount, headOf, slipTotal, pieceTotal, bufferTotal, withCount}
+use Rattle.rules.specs.Tables.{Tables, blank, isBlank, piece, bufferCount, headOf, slipTotal, pieceTotal, bufferTotal, withCount, withBoth}
 use Rattle.rules.specs.Chain.{follow, chain}
 use Rattle.rules.specs.Sound.{leads, heads}
 use Rattle.rules.specs.Room.{isVacant}
@@ -30,11 +30,7 @@ holders T b = sumTo (pieceTotal T) (λ c. bit (reached T c && eqb (piece T c .bu
 
 -- the tables with every count set to the references found
 unfoldable pub recounted : Tables → Tables
-recounted T = record {
-  slips = T .slips;
-  pieces = table (pieceTotal T) (λ d. withCount (piece T d) (references T d));
-  counts = table (bufferTotal T) (holders T);
-}
+recounted T = withBoth T (table (pieceTotal T) (λ d. withCount (piece T d) (references T d))) (table (bufferTotal T) (holders T))
 
 -- what the recount leaves: slips vacant, pieces not reached, buffers without references
 unfoldable pub leaves : Tables → Wants

@@ -4,10 +4,7 @@ use Prim.Native.Nat.{ℕ, zero, suc, _-_}
 use lib.Dec.{ltb}
 use Rattle.rules.specs.Basics.{if_then_else_}
 use Rattle.rules.specs.Tables.{Tables, blank, piece, bufferCount, headOf, pieceTotal, setSlip, setPiece, setPieceCount, withCount, withNext}
-use Rattle.rules.specs.Chain.{State}
-
-abbrev pub withTables : State → Tables → State
-withTables S T = record { tables = T; storage = S .storage }
+use Rattle.rules.specs.Chain.{State, withTables}
 
 -- one reference more, and one less, to piece d
 abbrev pub raised : Tables → ℕ → Tables

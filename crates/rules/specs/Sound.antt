@@ -7,7 +7,7 @@ use lib.ListN.{length, getD}
 use lib.Dec.{ltb, eqb, leb}
 use Rattle.kinds.specs.Limits.{mostBuffers, mostPieces, mostSlips, counted, sizeOf}
 use Rattle.rules.specs.Basics.{Is, if_then_else_, bit, sumTo, allTo}
-use Rattle.rules.specs.Layout.{version, poolLength, storageLength}
+use Rattle.rules.specs.Layout.{version, poolLength, storageLength, mark}
 use Rattle.rules.specs.Tables.{Piece, Tables, piece, bufferCount, isBlank, headOf, slipTotal, pieceTotal, bufferTotal}
 use Rattle.rules.specs.Bytes.{versionIn, buffersIn, piecesIn, slipsIn, decode}
 use Rattle.rules.specs.Chain.{follow}
@@ -16,6 +16,9 @@ use Rattle.rules.specs.Chain.{follow}
 pub record Lent : Type 0 where
   pub pool : List ℕ
   pub storage : List ℕ
+
+abbrev pub lent : List ℕ → List ℕ → Lent
+lent pool storage = record { pool = pool; storage = storage }
 
 abbrev pub inUse : Piece → Bool
 inUse p = ltb 0 (p .count)
@@ -53,13 +56,23 @@ pieceOk T p =
     then isBlank p
     else (ltb (p .buffer) (bufferTotal T) && (leb 1 (p .len) && (leb (p .offset + p .len) (sizeOf (p .buffer)) && linkOk T (p .next))))
 
+-- the mark and the version are a pool's
+abbrev pub marked : List ℕ → Bool
+marked p = eqb (getD p 0 0) (getD mark 0 0) && (eqb (getD p 1 0) (getD mark 1 0) && (eqb (getD p 2 0) (getD mark 2 0) && eqb (versionIn p) version))
+
+-- B, P and S are in their ranges
+abbrev pub countsOk : ℕ → ℕ → ℕ → Bool
+countsOk B P S = counted mostBuffers B && (counted mostPieces P && counted mostSlips S)
+
+-- a pool of n bytes and a storage of k have the lengths that B, P and S ask
+abbrev pub lengthsOk : ℕ → ℕ → ℕ → ℕ → ℕ → Bool
+lengthsOk B P S n k = eqb n (poolLength B P S) && eqb k (storageLength B)
+
 -- mark, version, counts and both lengths fit
 unfoldable pub headerOk : Lent → Bool
 headerOk m =
     let p = m .pool in
-    eqb (getD p 0 0) 83 && (eqb (getD p 1 0) 76 && (eqb (getD p 2 0) 80 && (eqb (versionIn p) version
-    && (counted mostBuffers (buffersIn p) && (counted mostPieces (piecesIn p) && (counted mostSlips (slipsIn p)
-    && (eqb (length p) (poolLength (buffersIn p) (piecesIn p) (slipsIn p)) && eqb (length (m .storage)) (storageLength (buffersIn p)))))))))
+    marked p && (countsOk (buffersIn p) (piecesIn p) (slipsIn p) && lengthsOk (buffersIn p) (piecesIn p) (slipsIn p) (length p) (length (m .storage)))
 
 -- ---- the list
 

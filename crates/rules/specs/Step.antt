@@ -7,8 +7,8 @@ use Rattle.kinds.specs.Refusal.{refusalCode}
 use Rattle.rules.specs.Basics.{if_then_else_}
 use Rattle.rules.specs.Tables.{freshTables}
 use Rattle.rules.specs.Bytes.{decode, encode}
-use Rattle.rules.specs.Chain.{State}
-use Rattle.rules.specs.Sound.{Lent, sound}
+use Rattle.rules.specs.Chain.{State, stateOf}
+use Rattle.rules.specs.Sound.{Lent, sound, lent}
 use Rattle.rules.specs.Rule.{Rule, View, noView, codeIn}
 use Rattle.rules.specs.Open.{openable}
 use Rattle.rules.specs.Audit.{audit}
@@ -102,7 +102,7 @@ refused c m out = record { code = c; number = 0; pool = m .pool; storage = m .st
 
 -- what a sound pool holds
 abbrev pub stateIn : Lent → State
-stateIn m = record { tables = decode (m .pool); storage = m .storage }
+stateIn m = stateOf (decode (m .pool)) (m .storage)
 
 -- the rule carried out on bytes
 unfoldable pub done : Rule → Result
@@ -124,8 +124,11 @@ step (Open B P S) m =
 step (Do o) m = if sound m then perform o m else refused (refusalCode Torn) m (lentOut o)
 
 -- pool and storage after a call, and after a list of calls
+abbrev pub leftBy : Result → Lent
+leftBy r = lent (r .pool) (r .storage)
+
 abbrev pub next : Call → Lent → Lent
-next c m = let r = step c m in record { pool = r .pool; storage = r .storage }
+next c m = leftBy (step c m)
 
 abbrev pub run : List Call → Lent → Lent
 run [] m = m

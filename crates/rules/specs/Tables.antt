@@ -60,15 +60,31 @@ pieceTotal T = length (T .pieces)
 abbrev pub bufferTotal : Tables → ℕ
 bufferTotal T = length (T .counts)
 
+-- T with other slips, with other pieces, with other buffer counts, and with other pieces and counts
+abbrev pub withSlips : Tables → List ℕ → Tables
+withSlips T ss = record { slips = ss; pieces = T .pieces; counts = T .counts }
+
+abbrev pub withPieces : Tables → List Piece → Tables
+withPieces T ps = record { slips = T .slips; pieces = ps; counts = T .counts }
+
+abbrev pub withCounts : Tables → List ℕ → Tables
+withCounts T cs = record { slips = T .slips; pieces = T .pieces; counts = cs }
+
+abbrev pub withBoth : Tables → List Piece → List ℕ → Tables
+withBoth T ps cs = withCounts (withPieces T ps) cs
+
 -- the stores
 abbrev pub setSlip : Tables → ℕ → ℕ → Tables
-setSlip T s v = record { slips = set (T .slips) s v; pieces = T .pieces; counts = T .counts }
+setSlip T s v = withSlips T (set (T .slips) s v)
 
 abbrev pub setPiece : Tables → ℕ → Piece → Tables
-setPiece T d p = record { slips = T .slips; pieces = set (T .pieces) d p; counts = T .counts }
+setPiece T d p = withPieces T (set (T .pieces) d p)
+
+abbrev pub setCount : Tables → ℕ → ℕ → Tables
+setCount T b n = withCounts T (set (T .counts) b n)
 
 abbrev pub setPieceCount : Tables → ℕ → Piece → ℕ → ℕ → Tables
-setPieceCount T d p b n = record { slips = T .slips; pieces = set (T .pieces) d p; counts = set (T .counts) b n }
+setPieceCount T d p b n = withBoth T (set (T .pieces) d p) (set (T .counts) b n)
 
 abbrev pub withCount : Piece → ℕ → Piece
 withCount p n = record { count = n; buffer = p .buffer; offset = p .offset; len = p .len; next = p .next }

@@ -8,11 +8,11 @@ ghost use mathlib.Core.List.{[]};
 ghost use Rattle.rules.specs.Rule.{noView};
 ghost use Rattle.rules.specs.Gather.{gather};
 ghost use Rattle.rules.specs.Step.{Audit, Put, Free, Dup, Cut, Append, Drop, Keep, Pullup, Pack, Length, Read, Show, WireList, Open, Do, step};
-ghost use Rattle.answer.specs.Result.{lent};
 ghost use Rattle.gather.specs.Sum.{gatheredOf};
 ghost use Rattle.calls.specs.Result.{resultOf};
 ghost use Rattle.calls_look.specs.Shown.{shownOf};
 ghost use Rattle.slp.specs.Numbers.{numbers};
+ghost use Rattle.rules.specs.Sound.{lent};
 
 // open: writes the fresh pool.
 #[no_mangle]

@@ -13,12 +13,12 @@ use Rattle.word.specs.Word.{get16, set16, bytes16}
 use Rattle.word.proofs.Laws.{Apart, length-set16, get16-same, get16-other, take-set16}
 use Rattle.rules.specs.Basics.{table}
 use Rattle.rules.specs.Layout.{mark, version, slipAt, pieceAt, countAt, poolLength}
-use Rattle.rules.specs.Tables.{Piece, Tables, blank, slip, piece, bufferCount, slipTotal, pieceTotal, bufferTotal, setSlip, setPiece, freshTables}
+use Rattle.rules.specs.Tables.{Piece, Tables, blank, slip, piece, bufferCount, slipTotal, pieceTotal, bufferTotal, setSlip, setPiece, freshTables, setCount, withPieces}
 use Rattle.rules.specs.Bytes.{versionIn, buffersIn, piecesIn, slipsIn, pieceIn, decode, encode}
 use Rattle.rules.proofs.Bytes.{AllBytes, getD-table, table-same, table-is, table-set, run-drop, pieces-drop, decode-slips, decode-pieces, decode-counts, fresh-bytes}
 use Rattle.storage.proofs.Laws.{lent-zeroed}
 use Rattle.tables.specs.declared.Shape.{Shape}
-use Rattle.tables.specs.Shape.{Fits, Shaped, Holds, setCount}
+use Rattle.tables.specs.Shape.{Fits, Shaped, Holds}
 
 -- ---- the fields of a piece by number: field k stands 2 * k bytes into the entry
 
@@ -136,7 +136,7 @@ module _ {p : List ℕ} {h : Shape} where
 piece-twice : (T : Tables) (d : ℕ) (x : Piece) (g : Piece → Piece) → d < pieceTotal T → setPiece (setPiece T d x) d (g (piece (setPiece T d x) d)) ≡ setPiece T d (g x)
 piece-twice T d x g h =
     ap (λ (y : Piece). setPiece (setPiece T d x) d (g y)) (getD-set-same (T .pieces) d x blank h)
-    ∙ (λ i. record { slips = T .slips; pieces = set-set (T .pieces) d x (g x) i; counts = T .counts })
+    ∙ ap (withPieces T) (set-set (T .pieces) d x (g x))
 
 module _ {p q : List ℕ} {h : Shape} (T : Tables) (d : ℕ) (x : Piece) (in-range : d < h .pieces) (was : Holds p h (setPiece T d x)) where
   -- a piece that was stored to is stored to again

@@ -2,7 +2,7 @@
 use mathlib.Core.Path.{_≡_}
 use mathlib.Core.List.{List, [], _∷_}
 use Prim.Native.Nat.{ℕ}
-use lib.ListN.{length, take, set}
+use lib.ListN.{length, take}
 use Rattle.rules.specs.Layout.{poolLength}
 use Rattle.rules.specs.Tables.{Piece, Tables}
 use Rattle.rules.specs.Bytes.{buffersIn, piecesIn, slipsIn, decode}
@@ -24,10 +24,6 @@ pub record Shaped (p : List ℕ) (h : Shape) : Type 0 where
 pub record Holds (p : List ℕ) (h : Shape) (T : Tables) : Type 0 where
   pub shaped : Shaped p h
   pub is : decode p ≡ T
-
--- buffer b has the count n
-abbrev pub setCount : Tables → ℕ → ℕ → Tables
-setCount T b n = record { slips = T .slips; pieces = T .pieces; counts = set (T .counts) b n }
 
 -- the piece x with the count n, on buffer b
 abbrev pub withBase : Piece → ℕ → ℕ → Piece

@@ -10,9 +10,9 @@ ghost use lib.ListN.{length, take, drop};
 ghost use Rattle.word.specs.Word.{bytes16};
 ghost use Rattle.kinds.specs.SlipState.{stateOf};
 ghost use Rattle.rules.specs.Layout.{mark, version, slipAt, pieceAt, countAt, poolLength};
-ghost use Rattle.rules.specs.Tables.{blank, slip, piece, bufferCount, setSlip, setPiece, withCount, withNext, withPlace, freshTables};
+ghost use Rattle.rules.specs.Tables.{blank, slip, piece, bufferCount, setSlip, setPiece, withCount, withNext, withPlace, freshTables, setCount};
 ghost use Rattle.rules.specs.Bytes.{decode, encode, buffersIn, piecesIn, slipsIn};
-ghost use Rattle.tables.specs.Shape.{Shaped, Holds, setCount, withBase};
+ghost use Rattle.tables.specs.Shape.{Shaped, Holds, withBase};
 
 // The counts of a pool, its table sizes: buffers, pieces and slips.
 pub struct Shape {
