@@ -10,7 +10,7 @@ use Rattle.rules.specs.Room.{freePieces}
 use Rattle.rules.specs.Build.{Plan, builtLink, made, madeLink, underNew}
 use Rattle.rules.proofs.Build.{Free}
 use Rattle.rules.proofs.Room.{free-pieces}
-use Rattle.tables.specs.declared.Shape.{Shape}
+use Rattle.layout.specs.declared.Shape.{Shape}
 use Rattle.tables.specs.Shape.{Holds}
 use Rattle.tables.proofs.Laws.{onward}
 

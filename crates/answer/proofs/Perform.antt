@@ -23,7 +23,7 @@ use Rattle.rules.proofs.Logic.{if-T, if-F, eq→eqb}
 use Rattle.rules.proofs.Bytes.{AllBytes}
 use Rattle.rules.proofs.Codes.{refusal-pos, first-append, first-no, first-none, none-full, named, full-facts}
 use Rattle.rules.proofs.Step.{perform-done, perform-no}
-use Rattle.tables.specs.declared.Shape.{Shape}
+use Rattle.layout.specs.declared.Shape.{Shape}
 use Rattle.tables.specs.Shape.{Shaped, Holds}
 use Rattle.tables.proofs.Laws.{whole, total-slips, fits-decode}
 use Rattle.answer.specs.Result.{resultOf}

@@ -2,7 +2,7 @@
 use kinds::Outcome;
 use kinds::SlipNumber;
 use kinds::Step;
-use tables::Shape;
+use layout::Shape;
 ghost use mathlib.Core.Path.{_≡_};
 ghost use Prim.Native.Nat.{_<_};
 ghost use Rattle.kinds.specs.SlipState.{stateOf};

@@ -25,7 +25,7 @@ use Rattle.rules.proofs.Bounds.{small}
 use Rattle.rules.proofs.Bytes.{AllBytes}
 use Rattle.rules.proofs.Codes.{first-yes, first-no, first-none}
 use Rattle.rules.proofs.Sizes.{behind-storage}
-use Rattle.tables.specs.declared.Shape.{Shape}
+use Rattle.layout.specs.declared.Shape.{Shape}
 use Rattle.tables.specs.Shape.{Holds}
 use Rattle.tables.proofs.Laws.{whole, total-pieces, onward}
 use Rattle.chain.specs.Opened.{Opened}

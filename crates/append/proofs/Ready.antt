@@ -16,7 +16,7 @@ use Rattle.rules.specs.Step.{stateIn}
 use Rattle.rules.proofs.Append.{ready, readyLink, join-ready}
 use Rattle.rules.proofs.Audit.{tables-now}
 use Rattle.rules.proofs.Codes.{named}
-use Rattle.tables.specs.declared.Shape.{Shape}
+use Rattle.layout.specs.declared.Shape.{Shape}
 use Rattle.tables.specs.Shape.{Holds}
 use Rattle.tables.proofs.Laws.{whole, total-pieces}
 use Rattle.own.specs.declared.OwnRun.{OwnRun}

@@ -2,7 +2,7 @@
 use kinds::Outcome;
 use kinds::Refusal;
 use kinds::SlipNumber;
-use tables::Shape;
+use layout::Shape;
 ghost use mathlib.Core.Path.{_≡_};
 ghost use mathlib.Core.List.{List, []};
 ghost use Prim.Native.Nat.{ℕ};

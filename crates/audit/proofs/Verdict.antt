@@ -1,6 +1,6 @@
 -- The verdict from the header's tests and the tables'. Assumes nothing.
-use mathlib.Core.Path.{_≡_, sym, _∙_}
-use mathlib.Core.Bool.{Bool, true, false, false≢true}
+use mathlib.Core.Path.{_≡_, sym, ap, subst, _∙_}
+use mathlib.Core.Bool.{Bool, true, false, false≢true, true≢false, _&&_}
 use mathlib.Core.List.{List}
 use Prim.Native.Nat.{ℕ, _≤_, _<_}
 use native.Mathlib.Omega.{arith}
@@ -8,15 +8,14 @@ use lib.ListN.{length, length-replicate}
 use Rattle.rules.specs.Basics.{Is}
 use Rattle.rules.specs.Tables.{pieceTotal}
 use Rattle.rules.specs.Bytes.{buffersIn, piecesIn, slipsIn, decode}
-use Rattle.rules.specs.Sound.{Lent, headerOk, soundTables, sound, lent}
+use Rattle.rules.specs.Sound.{headerOk, soundTables, sound, lent, marked, countsOk, lengthsOk}
 use Rattle.rules.proofs.Logic.{is-true, is-false, and-0, if-T, if-F}
 use Rattle.rules.proofs.Bytes.{and-is, eqb-is, leb-is, Header, header-facts, header-test, decode-pieces}
-use Rattle.tables.specs.declared.Shape.{Shape}
-use Rattle.tables.proofs.Laws.{fits-by}
-use Rattle.audit.specs.Header.{partsOk}
+use Rattle.layout.specs.declared.Shape.{Shape}
 use Rattle.counts.specs.Counters.{Limited, zeros}
 use Rattle.audit.specs.Follows.{tablesFollows, auditFollows}
 use Rattle.audit.specs.Verdict.{tornAnswer, Verdict}
+use Rattle.rules.specs.Layout.{headerLength}
 
 -- the shape h is the header's
 pub record Of (p : List ℕ) (h : Shape) : Type 0 where
@@ -34,28 +33,41 @@ torn p n h never = record {
   shaped = λ q. absurd (false≢true q);
 }
 
-pub verdict-short : (p : List ℕ) (n : ℕ) (h : Shape) → length p < 11 → Verdict p n (tornAnswer h)
+pub verdict-short : (p : List ℕ) (n : ℕ) (h : Shape) → length p < headerLength → Verdict p n (tornAnswer h)
 verdict-short p n h l = torn p n h (λ st _ k. omega (arith, k .pool-long))
 
-module _ {p : List ℕ} (n : ℕ) {h : Shape} (o : Of p h) where
-  pub verdict-unfit : partsOk p h n ≡ false → Verdict p n (tornAnswer h)
-  verdict-unfit q = torn p n h (λ st l k. (let i : Is (partsOk p h n) = simp (and-is, eqb-is, leb-is) (omega arith) in rw q at i))
+-- the header's test beside storage of n bytes
+abbrev headed : List ℕ → ℕ → Bool
+headed p n =
+    marked p && (countsOk (buffersIn p) (piecesIn p) (slipsIn p) && lengthsOk (buffersIn p) (piecesIn p) (slipsIn p) (length p) n)
 
-  module _ (q : partsOk p h n ≡ true) where
+header-is : {p : List ℕ} {n : ℕ} (st : List ℕ) → length st ≡ n → headerOk (lent p st) ≡ headed p n
+unfolding headerOk
+header-is {p} st l = ap (headed p) l
+
+-- the same, where it states the shape h, beside storage of n bytes
+abbrev parts : List ℕ → Shape → ℕ → Bool
+parts p h n = marked p && (countsOk (h .buffers) (h .pieces) (h .slips) && lengthsOk (h .buffers) (h .pieces) (h .slips) (length p) n)
+
+module _ {p : List ℕ} (n : ℕ) {h : Shape} (o : Of p h) where
+  parts-same : parts p h n ≡ headed p n
+  parts-same = λ i. marked p && (countsOk (o .buffers i) (o .pieces i) (o .slips i) && lengthsOk (o .buffers i) (o .pieces i) (o .slips i) (length p) n)
+
+  pub verdict-unfit : parts p h n ≡ false → Verdict p n (tornAnswer h)
+  verdict-unfit q = torn p n h (λ st l k. true≢false (sym (is-true _ (header-test (lent p st) k)) ∙ header-is st l ∙ sym parts-same ∙ q))
+
+  module _ (q : parts p h n ≡ true) where
     good-header : (st : List ℕ) → length st ≡ n → Header (lent p st)
-    good-header st l =
-        let i : Is (partsOk p h n) = rw q tt in
-        let j = simp (and-is, eqb-is, leb-is) at i in
-        omega arith
+    good-header st l = header-facts (lent p st) (subst Is (sym q ∙ parts-same ∙ sym (header-is st l)) tt)
 
     pub good-limits : Limited p h
     good-limits =
         let k = good-header (zeros n) (length-replicate {A = ℕ} n 0) in
         record {
-          shaped = record { fits = fits-by p (k .mark-s) (k .mark-l) (k .mark-p) (k .version-is) (k .pool-long); buffers = o .buffers; pieces = o .pieces; slips = o .slips };
-          few-buffers = omega arith;
-          few-pieces = omega arith;
-          few-slips = omega arith;
+          shaped = record { fits = record { is-marked = k .is-marked; long = k .pool-long }; buffers = o .buffers; pieces = o .pieces; slips = o .slips };
+          few-buffers = omega (arith, k .counts);
+          few-pieces = omega (arith, k .counts);
+          few-slips = omega (arith, k .counts);
         }
 
     pub verdict-tables : {r : Bool} {m : ℕ} → r ≡ soundTables (decode p) → m ≡ tablesFollows (decode p) → m ≤ pieceTotal (decode p) →

@@ -6,7 +6,7 @@ use Prim.Native.Nat.{ℕ, _≤_}
 use lib.ListN.{length}
 use Rattle.rules.specs.Bytes.{piecesIn}
 use Rattle.rules.specs.Sound.{sound, lent}
-use Rattle.tables.specs.declared.Shape.{Shape}
+use Rattle.layout.specs.declared.Shape.{Shape}
 use Rattle.tables.specs.Shape.{Shaped}
 use Rattle.audit.specs.declared.Audited.{Audited}
 use Rattle.audit.specs.Follows.{auditFollows}

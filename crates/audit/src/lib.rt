@@ -2,18 +2,17 @@
 use kinds::BufferNumber;
 use kinds::PieceNumber;
 use kinds::SlipNumber;
-use tables::Shape;
+use layout::Shape;
 ghost use mathlib.Core.Path.{_≡_};
-ghost use mathlib.Core.Bool.{true};
+ghost use mathlib.Core.Bool.{true, _&&_};
 ghost use Prim.Native.Nat.{_<_, _≤_};
 ghost use lib.ListN.{length};
 ghost use Rattle.rules.specs.Tables.{pieceTotal};
 ghost use Rattle.rules.specs.Bytes.{decode};
-ghost use Rattle.rules.specs.Layout.{poolLength};
-ghost use Rattle.rules.specs.Sound.{acyclic, soundTables};
+ghost use Rattle.rules.specs.Layout.{headerLength};
+ghost use Rattle.rules.specs.Sound.{acyclic, marked, countsOk, lengthsOk, soundTables};
 ghost use Rattle.counts.specs.Ranges.{piecesInRange};
 ghost use Rattle.counts.specs.Counters.{Limited};
-ghost use Rattle.audit.specs.Header.{markOk, sizesOk, partsOk};
 ghost use Rattle.audit.specs.Follows.{followsOf, tablesFollows};
 ghost use Rattle.audit.specs.Colours.{Scanned, Walked};
 ghost use Rattle.audit.specs.Verdict.{tornAnswer, Verdict};
@@ -99,58 +98,15 @@ fn tables_ok(pool: &[u8], shape: Shape) -> Followed
     ends(pool, shape)
 }
 
-// Whether the mark and the version are a pool's.
-pub fn marked(pool: &[u8]) -> bool
-    requires { ⌜ 11 ≤ length (now pool) ⌝ }
-    ensures { λ r. ⌜ r ≡ markOk (now (pool .entry)) ⌝ }
-{
-    if pool[0] != b'S' {
-        return false;
-    }
-    if pool[1] != b'L' {
-        return false;
-    }
-    if pool[2] != b'P' {
-        return false;
-    }
-    word::get16(pool, 3) == 1
-}
-
-// The exact length of a pool of this shape.
-pub fn pool_length(shape: Shape) -> usize
-    ensures { λ r. ⌜ r ≡ poolLength (shape .buffers) (shape .pieces) (shape .slips) ⌝ }
-{
-    11 + 2 * shape.slips as usize + 10 * shape.pieces as usize + 2 * shape.buffers as usize
-}
-
-// Whether the counts are within their limits and both lengths are the ones they ask.
-pub fn sized(shape: Shape, pool: usize, storage: usize) -> bool
-    ensures { λ r. ⌜ r ≡ sizesOk (shape .buffers) (shape .pieces) (shape .slips) pool storage ⌝ }
-{
-    if !BufferNumber::counted(shape.buffers) {
-        return false;
-    }
-    if !PieceNumber::counted(shape.pieces) {
-        return false;
-    }
-    if !SlipNumber::counted(shape.slips) {
-        return false;
-    }
-    if pool != pool_length(shape) {
-        return false;
-    }
-    storage == BufferNumber(shape.buffers).start()
-}
-
 // Whether mark, version, counts and both lengths fit.
 fn header_ok(pool: &[u8], shape: Shape, storage: usize) -> bool
-    requires { ⌜ 11 ≤ length (now pool) ⌝ }
-    ensures { λ r. ⌜ r ≡ partsOk (now (pool .entry)) shape storage ⌝ }
+    requires { ⌜ headerLength ≤ length (now pool) ⌝ }
+    ensures { λ r. ⌜ r ≡ (marked (now (pool .entry)) && (countsOk (shape .buffers) (shape .pieces) (shape .slips) && lengthsOk (shape .buffers) (shape .pieces) (shape .slips) (length (now (pool .entry))) storage)) ⌝ }
 {
-    if !marked(pool) {
+    if !layout::marked(pool) {
         return false;
     }
-    sized(shape, pool.len(), storage)
+    layout::sized(shape, pool.len(), storage)
 }
 
 // The answer for a pool whose header does not fit.
@@ -168,7 +124,7 @@ fn torn(shape: Shape) -> Audited
 pub fn audit(pool: &[u8], storage: usize) -> Audited
     ensures { λ r. ⌜ Verdict (now (pool .entry)) storage r ⌝ }
 {
-    if pool.len() < 11 {
+    if pool.len() < layout::HEADER {
         let none = Shape {
             buffers: 0,
             pieces: 0,
@@ -176,7 +132,7 @@ pub fn audit(pool: &[u8], storage: usize) -> Audited
         };
         return torn(none);
     }
-    let shape = tables::shape_of(pool);
+    let shape = layout::shape_of(pool);
     if !header_ok(pool, shape, storage) {
         return torn(shape);
     }

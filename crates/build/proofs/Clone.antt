@@ -14,7 +14,7 @@ use Rattle.rules.specs.Bytes.{decode}
 use Rattle.rules.specs.Room.{isFree, freePieces}
 use Rattle.rules.specs.Build.{fresh, taken, built}
 use Rattle.rules.proofs.Logic.{if-F}
-use Rattle.tables.specs.declared.Shape.{Shape}
+use Rattle.layout.specs.declared.Shape.{Shape}
 use Rattle.tables.specs.Shape.{Holds}
 use Rattle.chain.specs.Opened.{Opened}
 use Rattle.chain.specs.Length.{stretchesFrom}

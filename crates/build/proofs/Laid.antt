@@ -15,7 +15,7 @@ use Rattle.rules.specs.Bytes.{decode}
 use Rattle.rules.specs.Room.{isFree, isUnheld, freePieces, freeBuffers, newBuffers}
 use Rattle.rules.specs.Build.{fresh, taken, built, laid}
 use Rattle.rules.proofs.Contents.{laid-count}
-use Rattle.tables.specs.declared.Shape.{Shape}
+use Rattle.layout.specs.declared.Shape.{Shape}
 use Rattle.tables.specs.Shape.{Holds}
 use Rattle.chain.specs.Opened.{Opened}
 use Rattle.room.specs.Free.{firstFrom, lowestFor}

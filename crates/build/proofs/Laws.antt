@@ -16,7 +16,7 @@ use Rattle.rules.proofs.Logic.{bit-one}
 use Rattle.rules.proofs.Sums.{sumTo-ones}
 use Rattle.rules.proofs.Audit.{tables-now}
 use Rattle.rules.proofs.Moves.{SoundWith, hit, lies, links, occ, used-in-range}
-use Rattle.tables.specs.declared.Shape.{Shape}
+use Rattle.layout.specs.declared.Shape.{Shape}
 use Rattle.tables.specs.Shape.{Shaped, Holds}
 use Rattle.tables.proofs.Laws.{whole, total-slips, total-pieces, onward}
 use Rattle.chain.specs.Opened.{Opened}

@@ -18,7 +18,7 @@ use Rattle.rules.proofs.Logic.{if-T, if-F}
 use Rattle.rules.proofs.Audit.{tables-now}
 use Rattle.rules.proofs.Moves.{by-place}
 use Rattle.rules.proofs.Room.{places-in, above-not}
-use Rattle.tables.specs.declared.Shape.{Shape}
+use Rattle.layout.specs.declared.Shape.{Shape}
 use Rattle.tables.proofs.Laws.{whole, total-pieces}
 use Rattle.chain.specs.Opened.{Opened}
 use Rattle.room.specs.Free.{firstFrom}

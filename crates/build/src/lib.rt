@@ -1,7 +1,7 @@
 // The making of chains: a new piece, one reference more, new pieces for a range or on free buffers.
 use kinds::BufferNumber;
 use kinds::PieceNumber;
-use tables::Shape;
+use layout::Shape;
 ghost use mathlib.Core.Path.{_≡_};
 ghost use Prim.Native.Nat.{_-_, _≤_, _<_};
 ghost use lib.ListN.{length};

@@ -53,7 +53,7 @@ module _ {p : List ℕ} (st : List ℕ) {r : Audited} (v : Verdict p (length st)
   module _ (q : r .sound ≡ true) where
     -- storage has at most the bytes of the most buffers, so a place in it fits 32 bits
     pub start-small : (after : List ℕ) (place : Place) (n : ℕ) → Lies st after place n → viewAt place .start < 2 ^ 32
-    start-small after (Storage a) n l = let h = verdict-header v q st refl in omega (arith, h .storage-long, h .most-buffers)
+    start-small after (Storage a) n l = let h = verdict-header v q st refl in omega (arith, h .storage-long, h .counts .most-buffers)
     start-small after Scratch n l = omega arith
 
     pub shown : {x : Shown} {y : look.Shown} {s n : ℕ} {sc after : List ℕ} → x ≡ shownAs y → Seen y p st s n sc after → shownOf x p st after ≡ step (Do (Show s n sc)) (lent p st)

@@ -3,7 +3,7 @@ use kinds::Answer;
 use kinds::Refusal;
 use kinds::SlipNumber;
 use look::Place;
-use tables::Shape;
+use layout::Shape;
 ghost use mathlib.Core.Path.{_≡_};
 ghost use mathlib.Core.List.{[]};
 ghost use Prim.Native.Nat.{_<_, _^_};

@@ -1,6 +1,6 @@
 -- What open and audit answer. Assumes nothing.
 use mathlib.Core.Path.{_≡_, refl, sym, ap, subst, _∙_}
-use mathlib.Core.Bool.{Bool, true, false}
+use mathlib.Core.Bool.{Bool, true, false, _&&_}
 use mathlib.Core.List.{List, []}
 use Prim.Native.Nat.{ℕ}
 use lib.ListN.{length}
@@ -14,21 +14,21 @@ use Rattle.rules.specs.Bytes.{encode}
 use Rattle.rules.specs.Rule.{noView}
 use Rattle.rules.specs.Open.{openable}
 use Rattle.rules.specs.Step.{Audit, Open, Do, rule, done, step}
-use Rattle.rules.proofs.Logic.{if-T, if-F}
+use Rattle.rules.proofs.Logic.{if-T, if-F, and-0, and-parts}
 use Rattle.rules.proofs.Bytes.{AllBytes, and-is, eqb-is, leb-is}
 use Rattle.rules.proofs.Codes.{first-none}
 use Rattle.tables.proofs.Laws.{fits-decode}
 use Rattle.audit.specs.declared.Audited.{Audited}
-use Rattle.audit.specs.Header.{sizesOk}
 use Rattle.audit.specs.Verdict.{Verdict}
 use Rattle.answer.proofs.Perform.{perform-none}
 use Rattle.calls.specs.Result.{resultOf}
 use Rattle.calls.proofs.Laws.{opened, sound-step}
-use Rattle.rules.specs.Sound.{lent}
+use Rattle.rules.specs.Sound.{lent, countsOk, lengthsOk}
+use lib.Dec.{eqb→eq}
 
 -- ---- open
 
-module _ (p st : List ℕ) (B P S : ℕ) {b : Bool} (test : b ≡ sizesOk B P S (length p) (length st)) where
+module _ (p st : List ℕ) (B P S : ℕ) {b : Bool} (test : b ≡ (countsOk B P S && lengthsOk B P S (length p) (length st))) where
   is-openable : b ≡ true → Is (openable B P S (lent p st))
   unfolding openable
   is-openable q = subst Is (sym q ∙ test) tt
@@ -44,7 +44,7 @@ module _ (p st : List ℕ) (B P S : ℕ) {b : Bool} (test : b ≡ sizesOk B P S 
 
   pub open-length : b ≡ true → length p ≡ poolLength B P S
   unfolding openable
-  open-length q = let f = simp (and-is, eqb-is, leb-is) at (is-openable q) in f .1 .1 .1 .0
+  open-length q = eqb→eq (length p) _ (and-0 _ _ (and-parts (countsOk B P S) _ (is-openable q) .1))
 
   pub open-done : {after : List ℕ} → b ≡ true → after ≡ encode (freshTables B P S) → resultOf (record { code = 0; number = 0 }) after st [] noView ≡ step (Open B P S) (lent p st)
   unfolding step

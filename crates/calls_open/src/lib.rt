@@ -1,7 +1,7 @@
 // The bodies of open and audit, which the exported functions forward to.
 use kinds::Answer;
 use kinds::Refusal;
-use tables::Shape;
+use layout::Shape;
 ghost use mathlib.Core.Path.{_≡_};
 ghost use mathlib.Core.List.{[]};
 ghost use Rattle.rules.specs.Rule.{noView};
@@ -18,10 +18,10 @@ pub fn open(pool: &mut [u8], storage: &[u8], buffers: u16, pieces: u16, slips: u
         pieces,
         slips,
     };
-    if !audit::sized(shape, pool.len(), storage.len()) {
+    if !layout::sized(shape, pool.len(), storage.len()) {
         return calls::refused(Refusal::Counts);
     }
-    tables::fresh(pool, shape);
+    layout::fresh(pool, shape);
     Answer { code: 0, number: 0 }
 }
 

@@ -4,7 +4,7 @@ use Prim.Native.Nat.{ℕ, _≤_}
 use Rattle.kinds.specs.Limits.{mostBuffers, mostPieces, mostSlips}
 use Rattle.rules.specs.Bytes.{decode}
 use Rattle.rules.specs.Sound.{SoundTables}
-use Rattle.tables.specs.declared.Shape.{Shape}
+use Rattle.layout.specs.declared.Shape.{Shape}
 use Rattle.tables.specs.Shape.{Shaped}
 
 -- a pool that an operation may trust: it has the shape h, whose counts are within their limits,

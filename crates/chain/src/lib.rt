@@ -1,7 +1,7 @@
 // Walks over chains: what the operations read of them before they act.
 use kinds::PieceNumber;
 use kinds::SlipNumber;
-use tables::Shape;
+use layout::Shape;
 ghost use mathlib.Core.Path.{_≡_};
 ghost use mathlib.Core.Bool.{true, not};
 ghost use Prim.Native.Nat.{_-_, _<_};

@@ -19,7 +19,7 @@ use Rattle.rules.proofs.Logic.{if-T, if-F, if-either, and-intro, bit-one, is-tr
 use Rattle.rules.proofs.Sums.{sumTo-ones}
 use Rattle.rules.proofs.Moves.{hit, hit-same, hit-other, lies-used}
 use Rattle.rules.proofs.Bytes.{decode-slips, decode-pieces, decode-counts}
-use Rattle.tables.specs.declared.Shape.{Shape}
+use Rattle.layout.specs.declared.Shape.{Shape}
 use Rattle.counts.specs.Ranges.{linkInRange, pieceInRange, slipsInRange, piecesInRange}
 use Rattle.counts.specs.Counters.{Limited, zeros, tallied, lieOf, Room, Hold, headsTo, nextsTo, lyingTo, SlipsCounted, PiecesCounted}
 use Rattle.counts.proofs.Ranges.{free-next, next-in-range, buffer-in-range}

@@ -9,7 +9,7 @@ use Rattle.kinds.specs.Limits.{mostPieces, mostBuffers, mostSlips}
 use Rattle.rules.specs.Basics.{if_then_else_, bit, sumTo}
 use Rattle.rules.specs.Tables.{Piece, Tables, piece, headOf}
 use Rattle.rules.specs.Sound.{inUse, leads, heads, nexts, lying}
-use Rattle.tables.specs.declared.Shape.{Shape}
+use Rattle.layout.specs.declared.Shape.{Shape}
 use Rattle.tables.specs.Shape.{Shaped}
 use Rattle.counts.specs.declared.Entry.{Entry}
 use Rattle.counts.specs.Ranges.{slipsInRange, piecesInRange}

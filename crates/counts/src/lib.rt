@@ -2,7 +2,7 @@
 use kinds::BufferNumber;
 use kinds::PieceNumber;
 use kinds::SlipNumber;
-use tables::Shape;
+use layout::Shape;
 ghost use mathlib.Core.Path.{_≡_};
 ghost use Prim.Native.Nat.{pred, _+_, _<_, _≤_};
 ghost use Rattle.kinds.specs.Limits.{mostPieces, mostBuffers};

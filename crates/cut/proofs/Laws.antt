@@ -23,7 +23,7 @@ use Rattle.rules.specs.Cut.{cutAfter}
 use Rattle.rules.specs.Step.{Cut, rule, stateIn, perform}
 use Rattle.rules.proofs.Bytes.{AllBytes}
 use Rattle.rules.proofs.Codes.{first-yes, first-no, first-none}
-use Rattle.tables.specs.declared.Shape.{Shape}
+use Rattle.layout.specs.declared.Shape.{Shape}
 use Rattle.tables.specs.Shape.{Holds}
 use Rattle.chain.specs.declared.Spot.{Spot}
 use Rattle.chain.specs.declared.Part.{Part}

@@ -5,22 +5,23 @@ use mathlib.Core.List.{List}
 use Prim.Native.Nat.{ℕ, suc, _+_, _≤_}
 use native.Mathlib.Numerals.{add-one}
 use native.Mathlib.Omega.{arith}
-use lib.Dec.{eqb→eq}
+use lib.Dec.{eqb→eq, leb, leb→le}
 use borrow.Author.Tests.{not-true, not-false}
 use lib.ListN.{length}
 use Rattle.rules.specs.Basics.{Is, bit, places}
 use Rattle.rules.specs.Tables.{Tables, piece}
 use Rattle.rules.specs.Bytes.{decode, buffersIn, piecesIn, slipsIn}
 use Rattle.rules.specs.Room.{isFree}
-use Rattle.rules.proofs.Logic.{if-T, if-F, is-true, eq→eqb, bit-T, bit-F}
+use Rattle.rules.proofs.Logic.{if-T, if-F, is-true, eq→eqb, bit-T, bit-F, and-parts}
 use Rattle.rules.proofs.Room.{places-count-0}
 use Rattle.rules.proofs.Bytes.{and-is, eqb-is, leb-is}
-use Rattle.tables.specs.declared.Shape.{Shape}
+use Rattle.layout.specs.declared.Shape.{Shape}
 use Rattle.tables.specs.Shape.{Shaped}
-use Rattle.tables.proofs.Laws.{fits-by}
 use Rattle.page.specs.Page.{ascii}
 use Rattle.page.specs.Digits.{tagged}
 use Rattle.draw.specs.Text.{holdText, tablesText, fitsTest, poolText}
+use Rattle.rules.specs.Layout.{headerLength}
+use Rattle.rules.specs.Sound.{marked}
 
 -- ---- a count
 
@@ -68,10 +69,10 @@ module _ (p : List ℕ) {r : Bool} (is : r ≡ fitsTest p) where
     pub text-fits : tablesText (decode p) ≡ poolText p
     text-fits = sym (if-T _ _ _ fits-is)
 
-    pub fits-long : 11 ≤ length p
-    fits-long = let k = simp (and-is, eqb-is, leb-is) at fits-is in omega arith
+    pub fits-long : headerLength ≤ length p
+    fits-long = leb→le headerLength (length p) (and-parts (leb headerLength (length p)) _ fits-is .0)
 
     pub fits-shaped : (h : Shape) → h .buffers ≡ buffersIn p → h .pieces ≡ piecesIn p → h .slips ≡ slipsIn p → Shaped p h
     fits-shaped h b q s =
-        let k = simp (and-is, eqb-is, leb-is) at fits-is in
-        record { fits = fits-by p (k .1 .0 .0) (k .1 .0 .1 .0) (k .1 .0 .1 .1 .0) (k .1 .0 .1 .1 .1) (k .1 .1); buffers = b; pieces = q; slips = s }
+        let (m, l) = and-parts (marked p) _ (and-parts (leb headerLength (length p)) _ fits-is .1) in
+        record { fits = record { is-marked = m; long = eqb→eq (length p) _ l }; buffers = b; pieces = q; slips = s }

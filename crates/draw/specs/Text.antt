@@ -11,14 +11,14 @@ use Prim.Native.Nat.{ℕ, _-_}
 use lib.ListN.{length}
 use lib.Dec.{eqb, leb}
 use Rattle.rules.specs.Basics.{if_then_else_}
-use Rattle.rules.specs.Layout.{poolLength}
+use Rattle.rules.specs.Layout.{poolLength, headerLength}
 use Rattle.rules.specs.Tables.{Tables, bufferCount, pieceTotal, bufferTotal}
 use Rattle.rules.specs.Bytes.{decode, buffersIn, piecesIn, slipsIn}
 use Rattle.rules.specs.Room.{freePieces}
-use Rattle.audit.specs.Header.{markOk}
 use Rattle.page.specs.Page.{ascii}
 use Rattle.page.specs.Digits.{tagged}
 use Rattle.draw_slips.specs.Text.{upTo, slipsText}
+use Rattle.rules.specs.Sound.{marked}
 
 -- ---- buffers and pieces
 
@@ -41,7 +41,7 @@ tablesText T = slipsText T ++ buffersText T ++ stockText T
 
 -- mark, version and length are a pool's
 abbrev pub fitsTest : List ℕ → Bool
-fitsTest p = leb 11 (length p) && (markOk p && eqb (length p) (poolLength (buffersIn p) (piecesIn p) (slipsIn p)))
+fitsTest p = leb headerLength (length p) && (marked p && eqb (length p) (poolLength (buffersIn p) (piecesIn p) (slipsIn p)))
 
 -- of any bytes
 abbrev pub poolText : List ℕ → List ℕ

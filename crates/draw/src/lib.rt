@@ -2,7 +2,7 @@
 use kinds::BufferNumber;
 use kinds::PieceNumber;
 use page::Cursor;
-use tables::Shape;
+use layout::Shape;
 ghost use mathlib.Core.Path.{_≡_};
 ghost use Prim.Native.Nat.{_<_, _≤_};
 ghost use lib.ListN.{length};
@@ -87,13 +87,13 @@ fn put_tables(out: &mut [u8], c: Cursor, pool: &[u8], shape: Shape) -> Cursor
 fn fits(pool: &[u8]) -> bool
     ensures { λ r. ⌜ r ≡ fitsTest (now (pool .entry)) ⌝ }
 {
-    if pool.len() < 11 {
+    if pool.len() < layout::HEADER {
         return false;
     }
-    if !audit::marked(pool) {
+    if !layout::marked(pool) {
         return false;
     }
-    pool.len() == audit::pool_length(tables::shape_of(pool))
+    pool.len() == layout::pool_length(layout::shape_of(pool))
 }
 
 // Draws a pool, or `torn` where its header is none: a dump.
@@ -103,5 +103,5 @@ pub fn put_pool(out: &mut [u8], c: Cursor, pool: &[u8]) -> Cursor
     if !fits(pool) {
         return page::put_text(out, c, b"  torn\n");
     }
-    put_tables(out, c, pool, tables::shape_of(pool))
+    put_tables(out, c, pool, layout::shape_of(pool))
 }

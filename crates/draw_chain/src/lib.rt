@@ -4,7 +4,7 @@ use kinds::BufferNumber;
 use kinds::PieceNumber;
 use kinds::SlipNumber;
 use page::Cursor;
-use tables::Shape;
+use layout::Shape;
 ghost use mathlib.Core.Path.{_≡_};
 ghost use Prim.Native.Nat.{_<_};
 ghost use Rattle.rules.specs.Tables.{piece, pieceTotal};

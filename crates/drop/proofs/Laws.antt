@@ -24,7 +24,7 @@ use Rattle.rules.proofs.Bytes.{AllBytes}
 use Rattle.rules.proofs.Codes.{first-yes, first-no, first-none}
 use Rattle.rules.proofs.Drop.{drop-none}
 use Rattle.rules.proofs.Sizes.{old-storage}
-use Rattle.tables.specs.declared.Shape.{Shape}
+use Rattle.layout.specs.declared.Shape.{Shape}
 use Rattle.tables.specs.Shape.{Shaped, Holds}
 use Rattle.rules.specs.Sound.{lent}
 use Rattle.answer.specs.Result.{resultOf}

@@ -22,7 +22,7 @@ use Rattle.rules.specs.Dup.{dupPlan, dupAfter}
 use Rattle.rules.specs.Step.{Dup, rule, stateIn, perform}
 use Rattle.rules.proofs.Bytes.{AllBytes}
 use Rattle.rules.proofs.Codes.{first-yes, first-no, first-none}
-use Rattle.tables.specs.declared.Shape.{Shape}
+use Rattle.layout.specs.declared.Shape.{Shape}
 use Rattle.tables.specs.Shape.{Holds}
 use Rattle.rules.specs.Sound.{lent}
 use Rattle.answer.specs.Result.{resultOf}

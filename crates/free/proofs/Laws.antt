@@ -15,7 +15,7 @@ use Rattle.rules.specs.Step.{Free, rule, stateIn, perform}
 use Rattle.rules.proofs.Bytes.{AllBytes}
 use Rattle.rules.proofs.Codes.{first-yes, first-no, first-none}
 use Rattle.rules.proofs.Release.{turned-storage}
-use Rattle.tables.specs.declared.Shape.{Shape}
+use Rattle.layout.specs.declared.Shape.{Shape}
 use Rattle.tables.specs.Shape.{Holds}
 use Rattle.release.specs.Release.{turnedTo}
 use Rattle.release.proofs.Laws.{turned-tables}

@@ -30,7 +30,7 @@ use Rattle.rules.proofs.Hang.{own-front, own-short}
 use Rattle.rules.proofs.Keep.{shortened-ok, kept-good}
 use Rattle.rules.proofs.Room.{free-pieces}
 use Rattle.rules.proofs.Sizes.{kept-storage}
-use Rattle.tables.specs.declared.Shape.{Shape}
+use Rattle.layout.specs.declared.Shape.{Shape}
 use Rattle.tables.specs.Shape.{Holds}
 use Rattle.tables.proofs.Laws.{whole, total-pieces}
 use Rattle.own.specs.declared.OwnPart.{OwnPart}

@@ -13,7 +13,7 @@ use Rattle.rules.proofs.Build.{Good}
 use Rattle.rules.proofs.Contents.{total-cutOut}
 use Rattle.rules.proofs.Keep.{cut-cons, cut-some}
 use Rattle.rules.specs.Bytes.{decode}
-use Rattle.tables.specs.declared.Shape.{Shape}
+use Rattle.layout.specs.declared.Shape.{Shape}
 use Rattle.tables.specs.Shape.{Shaped, Holds}
 use Rattle.tables.proofs.Laws.{whole}
 use Rattle.own.specs.Own.{lastLink}

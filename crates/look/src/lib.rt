@@ -4,7 +4,7 @@ use kinds::Outcome;
 use kinds::PieceNumber;
 use kinds::Refusal;
 use kinds::SlipNumber;
-use tables::Shape;
+use layout::Shape;
 use transfer::Cursor;
 ghost use mathlib.Core.Path.{_≡_};
 ghost use mathlib.Core.List.{List, []};

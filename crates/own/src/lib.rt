@@ -1,6 +1,6 @@
 // The own pieces of a chain: those that it shares with no other, as each before them.
 use kinds::PieceNumber;
-use tables::Shape;
+use layout::Shape;
 ghost use mathlib.Core.Path.{_≡_};
 ghost use Rattle.rules.specs.Basics.{Is};
 ghost use Rattle.rules.specs.Bytes.{decode};

@@ -32,7 +32,7 @@ use Rattle.rules.proofs.Contents.{Fit}
 use Rattle.rules.proofs.Put.{new-good}
 use Rattle.rules.proofs.Room.{free-pieces}
 use Rattle.rules.proofs.Sizes.{old-storage}
-use Rattle.tables.specs.declared.Shape.{Shape}
+use Rattle.layout.specs.declared.Shape.{Shape}
 use Rattle.tables.specs.Shape.{Holds}
 use Rattle.tables.proofs.Laws.{whole, total-pieces, total-buffers}
 use Rattle.chain.specs.Opened.{Opened}

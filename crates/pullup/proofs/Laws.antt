@@ -21,7 +21,7 @@ use Rattle.rules.specs.Step.{Pullup, rule, stateIn, perform}
 use Rattle.rules.proofs.Logic.{if-T, if-F}
 use Rattle.rules.proofs.Bytes.{AllBytes}
 use Rattle.rules.proofs.Codes.{first-yes, first-no, first-none}
-use Rattle.tables.specs.declared.Shape.{Shape}
+use Rattle.layout.specs.declared.Shape.{Shape}
 use Rattle.tables.specs.Shape.{Shaped}
 use Rattle.rules.specs.Sound.{lent}
 use Rattle.answer.specs.Result.{resultOf}

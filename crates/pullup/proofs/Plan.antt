@@ -23,7 +23,7 @@ use Rattle.rules.proofs.Build.{Free, Planned, plain-planned, plan-built}
 use Rattle.rules.proofs.Drop.{drop-here}
 use Rattle.rules.proofs.Room.{free-pieces}
 use Rattle.rules.proofs.Sizes.{old-storage}
-use Rattle.tables.specs.declared.Shape.{Shape}
+use Rattle.layout.specs.declared.Shape.{Shape}
 use Rattle.tables.specs.Shape.{Holds}
 use Rattle.tables.proofs.Laws.{total-pieces, onward}
 use Rattle.chain.specs.declared.Spot.{Spot}

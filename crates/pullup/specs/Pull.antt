@@ -12,7 +12,7 @@ use Rattle.rules.specs.Room.{isFree, isUnheld, freePieces}
 use Rattle.rules.specs.Build.{Plan}
 use Rattle.rules.specs.Drop.{dropped}
 use Rattle.rules.specs.Pullup.{pullupAfter}
-use Rattle.tables.specs.declared.Shape.{Shape}
+use Rattle.layout.specs.declared.Shape.{Shape}
 use Rattle.tables.specs.Shape.{Holds}
 use Rattle.chain.specs.declared.Spot.{Spot}
 use Rattle.chain.specs.Find.{spotOf}

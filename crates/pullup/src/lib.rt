@@ -5,7 +5,7 @@ use kinds::Outcome;
 use kinds::PieceNumber;
 use kinds::Refusal;
 use kinds::SlipNumber;
-use tables::Shape;
+use layout::Shape;
 ghost use mathlib.Core.Path.{_≡_};
 ghost use mathlib.Core.List.{[]};
 ghost use Prim.Native.Nat.{_-_, _<_};

@@ -16,7 +16,7 @@ use Rattle.rules.specs.Put.{putAfter}
 use Rattle.rules.specs.Step.{Put, rule, stateIn, perform}
 use Rattle.rules.proofs.Bytes.{AllBytes}
 use Rattle.rules.proofs.Codes.{first-none}
-use Rattle.tables.specs.declared.Shape.{Shape}
+use Rattle.layout.specs.declared.Shape.{Shape}
 use Rattle.tables.specs.Shape.{Holds}
 use Rattle.rules.specs.Sound.{lent}
 use Rattle.answer.specs.Result.{resultOf}

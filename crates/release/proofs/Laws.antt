@@ -14,7 +14,7 @@ use Rattle.rules.proofs.Logic.{if-T, if-F, if-either, if-both}
 use Rattle.rules.proofs.Moves.{SoundBy, SoundWith, in-range, used-in-range, sum-set, reorder, slip-move, lower-move, buffer-pos, freedTables, free-move}
 use Rattle.rules.proofs.Rank.{low, low-below, lower-rank}
 use Rattle.rules.proofs.Release.{held-pos, some-other, last-one}
-use Rattle.tables.specs.declared.Shape.{Shape}
+use Rattle.layout.specs.declared.Shape.{Shape}
 use Rattle.tables.specs.Shape.{Holds}
 use Rattle.tables.proofs.Laws.{onward}
 use Rattle.chain.proofs.Links.{head-none, head-some}

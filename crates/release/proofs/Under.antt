@@ -11,7 +11,7 @@ use Rattle.rules.specs.Build.{Plan, made, madeLink, underOld}
 use Rattle.rules.proofs.Moves.{SoundBy, used-in-range}
 use Rattle.rules.proofs.Release.{held-pos}
 use Rattle.rules.proofs.Build.{Free, Planned, plan-built}
-use Rattle.tables.specs.declared.Shape.{Shape}
+use Rattle.layout.specs.declared.Shape.{Shape}
 use Rattle.tables.specs.Shape.{Holds}
 use Rattle.tables.proofs.Laws.{total-pieces, onward}
 use Rattle.release.specs.Release.{Releasable, turnedTo}

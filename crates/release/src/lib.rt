@@ -1,7 +1,7 @@
 // Release of references: what no reference leads to is freed.
 use kinds::PieceNumber;
 use kinds::SlipNumber;
-use tables::Shape;
+use layout::Shape;
 ghost use mathlib.Core.Path.{_≡_};
 ghost use Prim.Native.Nat.{_<_, _≤_, pred};
 ghost use Rattle.rules.specs.Tables.{piece, setPiece, withNext};

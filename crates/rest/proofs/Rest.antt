@@ -15,7 +15,7 @@ use Rattle.rules.specs.Room.{isFree}
 use Rattle.rules.specs.Release.{raised, shared}
 use Rattle.rules.specs.Build.{fresh, taken, built, builtLink, Plan, plain, made, madeLink}
 use Rattle.rules.specs.Drop.{shorter, dropHere}
-use Rattle.tables.specs.declared.Shape.{Shape}
+use Rattle.layout.specs.declared.Shape.{Shape}
 use Rattle.tables.specs.Shape.{Holds}
 use Rattle.tables.proofs.Laws.{onward}
 use Rattle.chain.specs.Rest.{restFrom}

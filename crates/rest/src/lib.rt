@@ -1,6 +1,6 @@
 // What stays of a chain from a place on: its first piece trimmed in place where it is own, copied where it is not.
 use kinds::PieceNumber;
-use tables::Shape;
+use layout::Shape;
 ghost use mathlib.Core.Path.{_≡_};
 ghost use Prim.Native.Nat.{_+_, _-_, _≤_, _<_};
 ghost use lib.ListN.{length};

@@ -2,7 +2,7 @@
 use kinds::BufferNumber;
 use kinds::PieceNumber;
 use kinds::SlipNumber;
-use tables::Shape;
+use layout::Shape;
 ghost use mathlib.Core.Path.{_≡_};
 ghost use Prim.Native.Nat.{_<_};
 ghost use Rattle.rules.specs.Tables.{slipTotal, pieceTotal, bufferTotal};

@@ -12,7 +12,7 @@ use lib.Seq.{drop-cons}
 use Rattle.word.specs.Word.{get16, bytes16}
 use Rattle.word.proofs.Laws.{get16-past as load-past}
 pub use Rattle.word.proofs.Laws.{length-bytes16, get16-run}
-use Rattle.kinds.specs.Limits.{mostBuffers, mostPieces, mostSlips, counted}
+use Rattle.kinds.specs.Limits.{mostBuffers, mostPieces, mostSlips}
 use Rattle.rules.specs.Basics.{Is, table}
 use Rattle.rules.specs.Layout.{mark, version, slipAt, pieceAt, countAt, poolLength, storageLength, versionAt, buffersAt, piecesAt, slipsAt, headerLength}
 use Rattle.rules.specs.Tables.{Piece, Tables, blank, slip, piece, bufferCount, slipTotal, pieceTotal, bufferTotal, freshTables}

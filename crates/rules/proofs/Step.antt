@@ -24,7 +24,7 @@ use Rattle.rules.specs.Step.{Operation, Call, Open, Do, rule, lentOut, R
 use Rattle.rules.specs.After.{readsAfter, vacantAfter}
 use Rattle.rules.proofs.Logic.{if-T, if-F, if-either, and-intro, and-0, eq→eqb, is-dec, and-parts}
 use Rattle.rules.proofs.Moves.{SoundNow}
-use Rattle.rules.proofs.Bytes.{Sized, header-facts, decode-slips, decode-pieces, decode-counts, decode-encode, encode-header, and-is, leb-is, eqb-is, InRange, counts-facts}
+use Rattle.rules.proofs.Bytes.{Sized, header-facts, decode-slips, decode-pieces, decode-counts, decode-encode, encode-header, and-is, eqb-is, InRange, counts-facts}
 use Rattle.rules.proofs.Bounds.{small}
 use Rattle.rules.proofs.Sizes.{rule-sizes, rule-storage}
 use Rattle.rules.proofs.Audit.{tables-pass, sound-now, fresh-sound}

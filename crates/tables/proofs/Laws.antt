@@ -3,22 +3,22 @@ use Prim.Native.Nat.{ℕ, zero, suc, _+_, _-_, _*_, _<_, _≤_}
 use mathlib.Core.Path.{_≡_, refl, sym, ap, _∙_}
 use mathlib.Core.Logic.{_≢_}
 use mathlib.Core.Bool.{Bool, true, false}
-use mathlib.Core.List.{List, [], _∷_, _++_, append-nil, append-assoc}
+use mathlib.Core.List.{List, _∷_, _++_}
 use native.Mathlib.Omega.{arith}
 use lib.Dec.{eqb}
-use lib.ListN.{length, getD, set, take, drop, replicate, length-set, length-drop, take-append-drop, drop-of-length-le}
-use lib.Seq.{length-take-le, getD-take, getD-set-same, set-set, sets-eq}
+use lib.ListN.{getD, set, length-set}
+use lib.Seq.{getD-set-same, getD-set-other, set-set}
 use borrow.Author.Tests.{eqb-true, eqb-false}
-use Rattle.word.specs.Word.{get16, set16, bytes16}
-use Rattle.word.proofs.Laws.{Apart, length-set16, get16-same, get16-other, take-set16}
-use Rattle.rules.specs.Basics.{table}
-use Rattle.rules.specs.Layout.{mark, version, slipAt, pieceAt, countAt, poolLength}
-use Rattle.rules.specs.Tables.{Piece, Tables, blank, slip, piece, bufferCount, slipTotal, pieceTotal, bufferTotal, setSlip, setPiece, freshTables, setCount, withPieces}
-use Rattle.rules.specs.Bytes.{versionIn, buffersIn, piecesIn, slipsIn, pieceIn, decode, encode}
-use Rattle.rules.proofs.Bytes.{AllBytes, getD-table, table-same, table-is, table-set, run-drop, pieces-drop, decode-slips, decode-pieces, decode-counts, fresh-bytes}
-use Rattle.storage.proofs.Laws.{lent-zeroed}
-use Rattle.tables.specs.declared.Shape.{Shape}
+use Rattle.word.specs.Word.{get16, set16}
+use Rattle.word.proofs.Laws.{Apart, length-set16, get16-same, get16-other}
+use Rattle.rules.specs.Basics.{table, Is}
+use Rattle.rules.specs.Layout.{slipAt, pieceAt, countAt, versionAt, buffersAt, piecesAt, slipsAt, headerLength}
+use Rattle.rules.specs.Tables.{Piece, Tables, blank, slip, piece, bufferCount, slipTotal, pieceTotal, bufferTotal, setSlip, setPiece, setCount, withPieces}
+use Rattle.rules.specs.Bytes.{buffersIn, piecesIn, slipsIn, pieceIn, decode, encode}
+use Rattle.rules.proofs.Bytes.{AllBytes, getD-table, table-same, table-set, decode-slips, decode-pieces, decode-counts, encode-decode}
+use Rattle.layout.specs.declared.Shape.{Shape}
 use Rattle.tables.specs.Shape.{Fits, Shaped, Holds}
+use Rattle.rules.specs.Sound.{marked}
 
 -- ---- the fields of a piece by number: field k stands 2 * k bytes into the entry
 
@@ -157,16 +157,23 @@ tablesOf B P S p = record {
 }
 
 -- a store past the header keeps the header
-module _ (p : List ℕ) (a v : ℕ) (past : 11 ≤ a) where
+module _ (p : List ℕ) (a v : ℕ) (past : headerLength ≤ a) where
+  byte-kept : (i : ℕ) → i < a → getD (set16 p a v) i 0 ≡ getD p i 0
+  unfolding set16
+  byte-kept i l = getD-set-other (set p a _) (a + 1) i _ 0 (λ e. omega arith) ∙ getD-set-other p a i _ 0 (λ e. omega arith)
+
+  marked-kept : Is (marked p) → Is (marked (set16 p a v))
+  marked-kept m = rw (byte-kept 0 (omega arith), byte-kept 1 (omega arith), byte-kept 2 (omega arith), get16-other p a v versionAt (omega arith)) m
+
   shaped-kept : {h : Shape} → Shaped p h → Shaped (set16 p a v) h
   shaped-kept {h} is =
-      let b = get16-other p a v 5 (omega arith) in
-      let q = get16-other p a v 7 (omega arith) in
-      let s = get16-other p a v 9 (omega arith) in
+      let b = get16-other p a v buffersAt (omega arith) in
+      let q = get16-other p a v piecesAt (omega arith) in
+      let s = get16-other p a v slipsAt (omega arith) in
       let l = length-set16 p a v in
       let m = is .fits .long in
       record {
-        fits = record { head = take-set16 p a v 5 (omega arith) ∙ is .fits .head; long = omega arith };
+        fits = record { is-marked = marked-kept (is .fits .is-marked); long = omega arith };
         buffers = omega arith;
         pieces = omega arith;
         slips = omega arith;
@@ -174,17 +181,17 @@ module _ (p : List ℕ) (a v : ℕ) (past : 11 ≤ a) where
 
   decode-kept : decode (set16 p a v) ≡ tablesOf (buffersIn p) (piecesIn p) (slipsIn p) (set16 p a v)
   unfolding decode
-  decode-kept = rw (get16-other p a v 5 (omega arith), get16-other p a v 7 (omega arith), get16-other p a v 9 (omega arith))
+  decode-kept = rw (get16-other p a v buffersAt (omega arith), get16-other p a v piecesAt (omega arith), get16-other p a v slipsAt (omega arith))
 
 -- a store outside a table keeps it
 module _ (p : List ℕ) (a v B P S : ℕ) where
-  slips-kept : 11 + 2 * S ≤ a → table S (λ s. get16 (set16 p a v) (slipAt s)) ≡ table S (λ s. get16 p (slipAt s))
+  slips-kept : slipAt S ≤ a → table S (λ s. get16 (set16 p a v) (slipAt s)) ≡ table S (λ s. get16 p (slipAt s))
   slips-kept h = table-same S _ _ (λ s b. get16-other p a v (slipAt s) (omega arith))
 
   pieces-kept : ((d k : ℕ) → d < P → k < 5 → Apart (pieceAt S d + 2 * k) a) → table P (λ d. pieceIn (set16 p a v) (pieceAt S d)) ≡ table P (λ d. pieceIn p (pieceAt S d))
   pieces-kept h = table-same P _ _ (λ d b. piece-kept p a v (pieceAt S d) (λ k five. h d k b five))
 
-  counts-kept : a + 2 ≤ 11 + 2 * S + 10 * P → table B (λ b. get16 (set16 p a v) (countAt P S b)) ≡ table B (λ b. get16 p (countAt P S b))
+  counts-kept : a + 2 ≤ countAt P S 0 → table B (λ b. get16 (set16 p a v) (countAt P S b)) ≡ table B (λ b. get16 p (countAt P S b))
   counts-kept h = table-same B _ _ (λ b z. get16-other p a v (countAt P S b) (omega arith))
 
 module _ (p : List ℕ) (v : ℕ) {h : Shape} (is : Shaped p h) (small : v < 65536) where
@@ -261,54 +268,9 @@ module _ {p q : List ℕ} {h : Shape} {a v : ℕ} (is : Shaped p h) (small : v <
 
 -- ---- bytes
 
-take-five : (p : List ℕ) → 5 ≤ length p → getD p 0 0 ∷ getD p 1 0 ∷ getD p 2 0 ∷ getD p 3 0 ∷ getD p 4 0 ∷ [] ≡ take 5 p
-take-five p h = rw (length-take-le 5 p h) at (table-is 0 (take 5 p) (λ i. getD p i 0) (λ i b. sym (getD-take 5 p i 0 (rw (length-take-le 5 p h) at b))))
-
--- the mark, the version and the length, test by test
-pub fits-by : (p : List ℕ) → getD p 0 0 ≡ 83 → getD p 1 0 ≡ 76 → getD p 2 0 ≡ 80 → versionIn p ≡ version → length p ≡ poolLength (buffersIn p) (piecesIn p) (slipsIn p) → Fits p
-unfolding get16
-fits-by p s l q v n =
-    let lo : getD p 3 0 ≡ 1 = omega arith in
-    let hi : getD p 4 0 ≡ 0 = omega arith in
-    record { head = sym (take-five p (omega arith)) ∙ rw (s, l, q, lo, hi); long = n }
-
 -- a pool whose bytes are below 256 is the bytes of the tables that it holds
 pub fits-decode : (p : List ℕ) → AllBytes p → Fits p → encode (decode p) ≡ p
-unfolding encode decode
-fits-decode p byte f =
-    let S = slipsIn p in
-    let P = piecesIn p in
-    let B = buffersIn p in
-    let l = f .long in
-    let first = rw (f .head) at (take-append-drop 5 p) in
-    let numbers = run-drop p byte 3 5 (omega arith) in
-    let slips = run-drop p byte S 11 (omega arith) in
-    let pieces = pieces-drop p byte P (11 + 2 * S) (omega arith) in
-    let counts = run-drop p byte B (11 + 2 * S + 10 * P) (omega arith) in
-    let none : drop (11 + 2 * S + 10 * P + 2 * B) p ≡ [] = drop-of-length-le p {i = 11 + 2 * S + 10 * P + 2 * B} (omega arith) in
-    rw (decode-counts p, decode-pieces p, decode-slips p, ← append-nil (bytes16 (decode p .counts)), ← none, counts, pieces, slips, numbers) first
+fits-decode p byte f = encode-decode p byte (f .is-marked) (f .long)
 
 pub settled : {q : List ℕ} {h : Shape} {T : Tables} → Holds q h T → AllBytes q → q ≡ encode T
 settled {q} was byte = sym (fits-decode q byte (was .shaped .fits)) ∙ ap encode (was .is)
-
--- ---- the fresh pool
-
--- the mark and the version, byte by byte
-pub put-mark : (l : List ℕ) → 5 ≤ length l → set16 (set (set (set l 0 83) 1 76) 2 80) 3 1 ≡ mark ++ (bytes16 (version ∷ []) ++ drop 5 l)
-unfolding set16
-put-mark l h = sets-eq (83 ∷ 76 ∷ 80 ∷ 1 ∷ 0 ∷ []) l 0 h
-
--- the counts, number by number
-pub put-counts : (l : List ℕ) (B P S : ℕ) → 11 ≤ length l → set16 (set16 (set16 l 5 B) 7 P) 9 S ≡ take 5 l ++ (bytes16 (B ∷ P ∷ S ∷ []) ++ drop 11 l)
-unfolding set16
-put-counts l B P S h = sets-eq (bytes16 (B ∷ P ∷ S ∷ [])) l 5 h ∙ append-assoc (take 5 l) (bytes16 (B ∷ P ∷ S ∷ [])) (drop 11 l)
-
--- the mark, the version, the counts, then zeros
-pub put-fresh : (l m n z : List ℕ) (B P S : ℕ) → length l ≡ poolLength B P S → m ≡ mark ++ (bytes16 (version ∷ []) ++ drop 5 l)
-    → n ≡ take 5 m ++ (bytes16 (B ∷ P ∷ S ∷ []) ++ drop 11 m) → z ≡ replicate (length (take (length n - 11) (drop 11 n))) 0
-    → take 11 n ++ (z ++ drop (length n - 11) (drop 11 n)) ≡ encode (freshTables B P S)
-put-fresh l m n z B P S long em en ez =
-    let e : n ≡ mark ++ (bytes16 (version ∷ B ∷ P ∷ S ∷ []) ++ drop 6 (drop 5 l)) = rw em at en in
-    let k : length n ≡ poolLength B P S = ap length e ∙ simp length-drop (omega arith) in
-    let q : length n - 11 ≡ 2 * S + 10 * P + 2 * B = omega arith in
-    lent-zeroed n z 11 (omega arith) ez ∙ rw (q, e) (sym (fresh-bytes B P S))

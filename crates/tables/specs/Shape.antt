@@ -1,16 +1,18 @@
 -- A pool's shape: its three counts, read once from the header and handed on by value.
 use mathlib.Core.Path.{_≡_}
-use mathlib.Core.List.{List, [], _∷_}
+use mathlib.Core.List.{List}
 use Prim.Native.Nat.{ℕ}
-use lib.ListN.{length, take}
+use lib.ListN.{length}
 use Rattle.rules.specs.Layout.{poolLength}
 use Rattle.rules.specs.Tables.{Piece, Tables}
 use Rattle.rules.specs.Bytes.{buffersIn, piecesIn, slipsIn, decode}
-use Rattle.tables.specs.declared.Shape.{Shape}
+use Rattle.layout.specs.declared.Shape.{Shape}
+use Rattle.rules.specs.Basics.{Is}
+use Rattle.rules.specs.Sound.{marked}
 
 -- mark, version and length are those of a pool
 pub record Fits (p : List ℕ) : Type 0 where
-  pub head : take 5 p ≡ 83 ∷ 76 ∷ 80 ∷ 1 ∷ 0 ∷ []
+  pub is-marked : Is (marked p)
   pub long : length p ≡ poolLength (buffersIn p) (piecesIn p) (slipsIn p)
 
 -- the pool p has the shape h

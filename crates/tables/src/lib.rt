@@ -3,63 +3,22 @@ use kinds::BufferNumber;
 use kinds::PieceNumber;
 use kinds::SlipNumber;
 use kinds::SlipState;
+use layout::Shape;
 ghost use mathlib.Core.Path.{_≡_};
 ghost use Prim.Native.Nat.{_<_, _≤_};
-ghost use mathlib.Core.List.{[], _∷_, _++_};
-ghost use lib.ListN.{length, take, drop};
-ghost use Rattle.word.specs.Word.{bytes16};
+ghost use mathlib.Core.List.{_∷_, _++_};
+ghost use lib.ListN.{length};
 ghost use Rattle.kinds.specs.SlipState.{stateOf};
-ghost use Rattle.rules.specs.Layout.{mark, version, slipAt, pieceAt, countAt, poolLength};
-ghost use Rattle.rules.specs.Tables.{blank, slip, piece, bufferCount, setSlip, setPiece, withCount, withNext, withPlace, freshTables, setCount};
-ghost use Rattle.rules.specs.Bytes.{decode, encode, buffersIn, piecesIn, slipsIn};
+ghost use Rattle.rules.specs.Tables.{blank, slip, piece, bufferCount, setSlip, setPiece, withCount, withNext, withPlace, setCount};
+ghost use Rattle.rules.specs.Bytes.{decode};
 ghost use Rattle.tables.specs.Shape.{Shaped, Holds, withBase};
-
-// The counts of a pool, its table sizes: buffers, pieces and slips.
-pub struct Shape {
-    pub buffers: u16,
-    pub pieces: u16,
-    pub slips: u16,
-}
-
-// The counts that the header of `pool` states: a header load.
-pub fn shape_of(pool: &[u8]) -> Shape
-    requires { ⌜ 11 ≤ length (now pool) ⌝ }
-    ensures { λ r. ⌜ (r .buffers ≡ buffersIn (now (pool .entry))) × (r .pieces ≡ piecesIn (now (pool .entry))) × (r .slips ≡ slipsIn (now (pool .entry))) ⌝ }
-{
-    Shape {
-        buffers: word::get16(pool, 5),
-        pieces: word::get16(pool, 7),
-        slips: word::get16(pool, 9),
-    }
-}
-
-// The byte at which the entry of slip `s` starts: a table offset.
-fn slip_at(s: SlipNumber) -> usize
-    ensures { λ r. ⌜ r ≡ slipAt (s .0) ⌝ }
-{
-    11 + 2 * s.0 as usize
-}
-
-// The byte at which the entry of piece `d` starts: a table offset.
-fn piece_at(shape: Shape, d: PieceNumber) -> usize
-    ensures { λ r. ⌜ r ≡ pieceAt (shape .slips) (d .0) ⌝ }
-{
-    11 + 2 * shape.slips as usize + 10 * d.0 as usize
-}
-
-// The byte at which the count of buffer `b` stands: a table offset.
-fn count_at(shape: Shape, b: BufferNumber) -> usize
-    ensures { λ r. ⌜ r ≡ countAt (shape .pieces) (shape .slips) (b .0) ⌝ }
-{
-    11 + 2 * shape.slips as usize + 10 * shape.pieces as usize + 2 * b.0 as usize
-}
 
 // What the entry of slip `s` says, as a number: a handle table load.
 pub fn slip(pool: &[u8], shape: Shape, s: SlipNumber) -> u16
     requires { ⌜ Shaped (now pool) shape × (s .0 < shape .slips) ⌝ }
     ensures { λ r. ⌜ r ≡ slip (decode (now (pool .entry))) (s .0) ⌝ }
 {
-    word::get16(pool, slip_at(s))
+    word::get16(pool, layout::slip_at(s))
 }
 
 // What slip `s` holds: a tagged handle.
@@ -75,7 +34,7 @@ pub fn piece_count(pool: &[u8], shape: Shape, d: PieceNumber) -> u16
     requires { ⌜ Shaped (now pool) shape × (d .0 < shape .pieces) ⌝ }
     ensures { λ r. ⌜ r ≡ piece (decode (now (pool .entry))) (d .0) .count ⌝ }
 {
-    word::get16(pool, piece_at(shape, d))
+    word::get16(pool, layout::piece_at(shape, d))
 }
 
 // The buffer that piece `d` lies on: its cluster.
@@ -83,7 +42,7 @@ pub fn piece_buffer(pool: &[u8], shape: Shape, d: PieceNumber) -> BufferNumber
     requires { ⌜ Shaped (now pool) shape × (d .0 < shape .pieces) ⌝ }
     ensures { λ r. ⌜ r ≡ record { 0 = piece (decode (now (pool .entry))) (d .0) .buffer } ⌝ }
 {
-    BufferNumber(word::get16(pool, piece_at(shape, d) + 2))
+    BufferNumber(word::get16(pool, layout::piece_at(shape, d) + 2))
 }
 
 // The offset of piece `d` in its buffer: where its data starts.
@@ -91,7 +50,7 @@ pub fn piece_offset(pool: &[u8], shape: Shape, d: PieceNumber) -> u16
     requires { ⌜ Shaped (now pool) shape × (d .0 < shape .pieces) ⌝ }
     ensures { λ r. ⌜ r ≡ piece (decode (now (pool .entry))) (d .0) .offset ⌝ }
 {
-    word::get16(pool, piece_at(shape, d) + 4)
+    word::get16(pool, layout::piece_at(shape, d) + 4)
 }
 
 // The length of piece `d`: its data length.
@@ -99,7 +58,7 @@ pub fn piece_length(pool: &[u8], shape: Shape, d: PieceNumber) -> u16
     requires { ⌜ Shaped (now pool) shape × (d .0 < shape .pieces) ⌝ }
     ensures { λ r. ⌜ r ≡ piece (decode (now (pool .entry))) (d .0) .len ⌝ }
 {
-    word::get16(pool, piece_at(shape, d) + 6)
+    word::get16(pool, layout::piece_at(shape, d) + 6)
 }
 
 // What follows piece `d`, 0 none and 1 + e piece e: its link.
@@ -107,7 +66,7 @@ pub fn piece_next(pool: &[u8], shape: Shape, d: PieceNumber) -> u16
     requires { ⌜ Shaped (now pool) shape × (d .0 < shape .pieces) ⌝ }
     ensures { λ r. ⌜ r ≡ piece (decode (now (pool .entry))) (d .0) .next ⌝ }
 {
-    word::get16(pool, piece_at(shape, d) + 8)
+    word::get16(pool, layout::piece_at(shape, d) + 8)
 }
 
 // The count of buffer `b`: the reference count of a cluster.
@@ -115,7 +74,7 @@ pub fn buffer_count(pool: &[u8], shape: Shape, b: BufferNumber) -> u16
     requires { ⌜ Shaped (now pool) shape × (b .0 < shape .buffers) ⌝ }
     ensures { λ r. ⌜ r ≡ bufferCount (decode (now (pool .entry))) (b .0) ⌝ }
 {
-    word::get16(pool, count_at(shape, b))
+    word::get16(pool, layout::count_at(shape, b))
 }
 
 // Sets the entry of slip `s`: a handle table store.
@@ -123,7 +82,7 @@ pub fn set_slip(pool: &mut [u8], shape: Shape, s: SlipNumber, v: u16)
     requires { ⌜ Shaped (now pool) shape × (s .0 < shape .slips) ⌝ }
     ensures { λ _. ⌜ Holds (now (pool .exit)) shape (setSlip (decode (now (pool .entry))) (s .0) v) ⌝ }
 {
-    word::set16(pool, slip_at(s), v);
+    word::set16(pool, layout::slip_at(s), v);
 }
 
 // Sets the count of piece `d`: its reference count.
@@ -131,7 +90,7 @@ pub fn set_piece_count(pool: &mut [u8], shape: Shape, d: PieceNumber, n: u16)
     requires { ⌜ Shaped (now pool) shape × (d .0 < shape .pieces) ⌝ }
     ensures { λ _. ⌜ Holds (now (pool .exit)) shape (setPiece (decode (now (pool .entry))) (d .0) (withCount (piece (decode (now (pool .entry))) (d .0)) n)) ⌝ }
 {
-    word::set16(pool, piece_at(shape, d), n);
+    word::set16(pool, layout::piece_at(shape, d), n);
 }
 
 // Sets what follows piece `d`, 0 none and 1 + e piece e: its link.
@@ -139,7 +98,7 @@ pub fn set_piece_next(pool: &mut [u8], shape: Shape, d: PieceNumber, n: u16)
     requires { ⌜ Shaped (now pool) shape × (d .0 < shape .pieces) ⌝ }
     ensures { λ _. ⌜ Holds (now (pool .exit)) shape (setPiece (decode (now (pool .entry))) (d .0) (withNext (piece (decode (now (pool .entry))) (d .0)) n)) ⌝ }
 {
-    word::set16(pool, piece_at(shape, d) + 8, n);
+    word::set16(pool, layout::piece_at(shape, d) + 8, n);
 }
 
 // Sets the offset and the length of piece `d`: its data window.
@@ -147,7 +106,7 @@ pub fn set_piece_place(pool: &mut [u8], shape: Shape, d: PieceNumber, offset: u1
     requires { ⌜ Shaped (now pool) shape × (d .0 < shape .pieces) ⌝ }
     ensures { λ _. ⌜ Holds (now (pool .exit)) shape (setPiece (decode (now (pool .entry))) (d .0) (withPlace (piece (decode (now (pool .entry))) (d .0)) offset length)) ⌝ }
 {
-    let at = piece_at(shape, d);
+    let at = layout::piece_at(shape, d);
     word::set16(pool, at + 4, offset);
     word::set16(pool, at + 6, length);
 }
@@ -157,7 +116,7 @@ fn set_piece_base(pool: &mut [u8], shape: Shape, d: PieceNumber, count: u16, buf
     requires { ⌜ Shaped (now pool) shape × (d .0 < shape .pieces) ⌝ }
     ensures { λ _. ⌜ Holds (now (pool .exit)) shape (setPiece (decode (now (pool .entry))) (d .0) (withBase (piece (decode (now (pool .entry))) (d .0)) count (buffer .0))) ⌝ }
 {
-    let at = piece_at(shape, d);
+    let at = layout::piece_at(shape, d);
     word::set16(pool, at, count);
     word::set16(pool, at + 2, buffer.0);
 }
@@ -194,36 +153,5 @@ pub fn set_buffer_count(pool: &mut [u8], shape: Shape, b: BufferNumber, n: u16)
     requires { ⌜ Shaped (now pool) shape × (b .0 < shape .buffers) ⌝ }
     ensures { λ _. ⌜ Holds (now (pool .exit)) shape (setCount (decode (now (pool .entry))) (b .0) n) ⌝ }
 {
-    word::set16(pool, count_at(shape, b), n);
-}
-
-// Writes the mark and the version: a magic number and a format version.
-fn write_mark(pool: &mut [u8])
-    requires { ⌜ 11 ≤ length (now pool) ⌝ }
-    ensures { λ _. ⌜ now (pool .exit) ≡ mark ++ (bytes16 (version ∷ []) ++ drop 5 (now (pool .entry))) ⌝ }
-{
-    pool[0] = b'S';
-    pool[1] = b'L';
-    pool[2] = b'P';
-    word::set16(pool, 3, 1);
-}
-
-// Writes the counts behind the version: a header store.
-fn write_counts(pool: &mut [u8], shape: Shape)
-    requires { ⌜ 11 ≤ length (now pool) ⌝ }
-    ensures { λ _. ⌜ now (pool .exit) ≡ take 5 (now (pool .entry)) ++ (bytes16 (shape .buffers ∷ shape .pieces ∷ shape .slips ∷ []) ++ drop 11 (now (pool .entry))) ⌝ }
-{
-    word::set16(pool, 5, shape.buffers);
-    word::set16(pool, 7, shape.pieces);
-    word::set16(pool, 9, shape.slips);
-}
-
-// Writes the fresh pool of this shape, every entry zero: the initial image.
-pub fn fresh(pool: &mut [u8], shape: Shape)
-    requires { ⌜ length (now pool) ≡ poolLength (shape .buffers) (shape .pieces) (shape .slips) ⌝ }
-    ensures { λ _. ⌜ now (pool .exit) ≡ encode (freshTables (shape .buffers) (shape .pieces) (shape .slips)) ⌝ }
-{
-    write_mark(pool);
-    write_counts(pool, shape);
-    storage::zero(&mut pool[11..]);
+    word::set16(pool, layout::count_at(shape, b), n);
 }

@@ -1,7 +1,7 @@
 // The bytes of chains: copied out to a lent slice, and filled into free buffers.
 use kinds::BufferNumber;
 use kinds::PieceNumber;
-use tables::Shape;
+use layout::Shape;
 ghost use mathlib.Core.Path.{_≡_};
 ghost use Prim.Native.Nat.{_+_, _-_, _<_, _≤_, min};
 ghost use lib.ListN.{length, take, drop};

@@ -58,8 +58,8 @@ use Rattle.chain.specs.Length.{stretchesFrom}
 use Rattle.chain.proofs.Links.{link-below}
 use Rattle.kinds.proofs.Answer as An
 use Rattle.kinds.proofs.Answer.Laws as An′
-use Rattle.tables.proofs.Shape as Sh
-use Rattle.tables.proofs.Shape.Laws as Sh′
+use Rattle.layout.proofs.Shape as Sh
+use Rattle.layout.proofs.Shape.Laws as Sh′
 use Rattle.list.specs.declared.Stretch.{Stretch}
 use Rattle.list.specs.declared.Record.{Record}
 use Rattle.list.specs.Record.{recordOf}

@@ -1,9 +1,9 @@
--- `audit::sized` meets its contract. Assumes nothing.
+-- `layout::sized` meets its contract. Assumes nothing.
 use mathlib.Core.Path.{sym, _∙_}
 use borrow.Author.Needs.{needs}
 use borrow.Author.Tests.{eq-eqb, ne-eqb, not-true, not-false}
-use Rattle.audit.proofs.sized.Statement.{statement}
-use Rattle.audit.proofs.sized.Tie as tie
+use Rattle.layout.proofs.sized.Statement.{statement}
+use Rattle.layout.proofs.sized.Tie as tie
 
 counted-requires : tie.Need-counted-requires
 counted-requires c κs = search needs

@@ -1,11 +1,11 @@
--- `tables::write_mark` meets its contract. Assumes nothing.
+-- `layout::write_mark` meets its contract. Assumes nothing.
 use mathlib.Core.Path.{_∙_}
 use native.Mathlib.Omega.{arith}
 use lib.ListN.{length-set}
 use borrow.Author.Needs.{needs}
-use Rattle.tables.proofs.Laws.{put-mark}
-use Rattle.tables.proofs.write_mark.Statement.{statement}
-use Rattle.tables.proofs.write_mark.Tie as tie
+use Rattle.layout.proofs.Laws.{put-mark}
+use Rattle.layout.proofs.write_mark.Statement.{statement}
+use Rattle.layout.proofs.write_mark.Tie as tie
 
 slice-write-pool : tie.Need-slice-write-pool
 slice-write-pool c = search needs

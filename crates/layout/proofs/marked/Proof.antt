@@ -1,9 +1,9 @@
--- `audit::marked` meets its contract. Assumes nothing.
+-- `layout::marked` meets its contract. Assumes nothing.
 use lib.ListN.{getD}
 use borrow.Author.Needs.{needs}
 use borrow.Author.Tests.{eq-eqb, ne-eqb}
-use Rattle.audit.proofs.marked.Statement.{statement}
-use Rattle.audit.proofs.marked.Tie as tie
+use Rattle.layout.proofs.marked.Statement.{statement}
+use Rattle.layout.proofs.marked.Tie as tie
 
 shared-slice-read-if1 : tie.Need-shared-slice-read-if1
 shared-slice-read-if1 c = search needs

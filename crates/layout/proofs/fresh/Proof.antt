@@ -1,8 +1,8 @@
--- `tables::fresh` meets its contract. Assumes nothing.
+-- `layout::fresh` meets its contract. Assumes nothing.
 use borrow.Author.Needs.{needs}
-use Rattle.tables.proofs.Laws.{put-fresh}
-use Rattle.tables.proofs.fresh.Statement.{statement}
-use Rattle.tables.proofs.fresh.Tie as tie
+use Rattle.layout.proofs.Laws.{put-fresh}
+use Rattle.layout.proofs.fresh.Statement.{statement}
+use Rattle.layout.proofs.fresh.Tie as tie
 
 write-mark-requires : tie.Need-write-mark-requires
 write-mark-requires c κs = search needs

@@ -1,12 +1,13 @@
--- `tables::write_counts` meets its contract. Assumes nothing.
+-- `layout::write_counts` meets its contract. Assumes nothing.
 use Prim.Native.Nat.{ℕ}
 use mathlib.Core.Path.{ap, _∙_}
 use mathlib.Core.List.{List}
 use borrow.Author.Needs.{needs}
 use Rattle.word.specs.Word.{set16}
-use Rattle.tables.proofs.Laws.{put-counts}
-use Rattle.tables.proofs.write_counts.Statement.{statement}
-use Rattle.tables.proofs.write_counts.Tie as tie
+use Rattle.rules.specs.Layout.{piecesAt, slipsAt}
+use Rattle.layout.proofs.Laws.{put-counts}
+use Rattle.layout.proofs.write_counts.Statement.{statement}
+use Rattle.layout.proofs.write_counts.Tie as tie
 
 set16-requires : tie.Need-set16-requires
 set16-requires c κs = search needs
@@ -27,7 +28,7 @@ returns c =
     let g = f .before .before .before .before in
     let z = g .before .before .before in
     let h = z .args .shape in
-    e .set163 .ensures ∙ ap (λ (l : List ℕ). set16 l 9 (h .slips)) (f .set162 .ensures ∙ ap (λ (l : List ℕ). set16 l 7 (h .pieces)) (g .set16 .ensures))
+    e .set163 .ensures ∙ ap (λ (l : List ℕ). set16 l slipsAt (h .slips)) (f .set162 .ensures ∙ ap (λ (l : List ℕ). set16 l piecesAt (h .pieces)) (g .set16 .ensures))
     ∙ put-counts (z .args .pool .now) (h .buffers) (h .pieces) (h .slips) (z .pre)
 
 pub write-counts-spec : {M : Type 1} → statement M
