@@ -15,7 +15,7 @@ use Rattle.rules.specs.Bytes.{decode}
 use Rattle.rules.specs.Sound.{Lent, sound}
 use Rattle.rules.specs.Rule.{_⇐_, firstCode, Wants, want, room, full}
 use Rattle.rules.specs.Open.{openable}
-use Rattle.rules.specs.Step.{Operation, Call, Open, Do, rule, Result, step, stateIn, next, run}
+use Rattle.rules.specs.Step.{Operation, Call, Open, Do, rule, Result, step, stateIn, next, afterCalls}
 use Rattle.rules.specs.Recount.{recounted}
 use Rattle.rules.specs.Demand.{early, wanted, left, CallOk, Each, DemandThree}
 use Rattle.rules.proofs.Logic.{if-T, if-F, if-either, eq→eqb}
@@ -99,12 +99,12 @@ each-ok : (cs : List Call) (m : Lent) → Is (sound m) → Each cs m
 each-ok [] m t = tt
 each-ok (c ∷ cs) m t = (call-ok c m t, each-ok cs (next c m) (step-keeps c m t))
 
-pub run-sound : (cs : List Call) (m : Lent) → Is (sound m) → Is (sound (run cs m))
-run-sound [] m t = t
-run-sound (c ∷ cs) m t = run-sound cs (next c m) (step-keeps c m t)
+pub calls-sound : (cs : List Call) (m : Lent) → Is (sound m) → Is (sound (afterCalls cs m))
+calls-sound [] m t = t
+calls-sound (c ∷ cs) m t = calls-sound cs (next c m) (step-keeps c m t)
 
 -- The one claim.
 pub demand-3 : DemandThree
 demand-3 B P S m cs e =
     let t = opened-sound B P S m e in
-    record { each = each-ok cs (next (Open B P S) m) t; recount = recount _ (sound-now _ (run-sound cs (next (Open B P S) m) t)) }
+    record { each = each-ok cs (next (Open B P S) m) t; recount = recount _ (sound-now _ (calls-sound cs (next (Open B P S) m) t)) }

@@ -19,9 +19,12 @@ ownOf T a = ownPieces (pieceTotal T) T (headOf T a)
 abbrev pub notOwn : Tables → ℕ → List Stretch
 notOwn T a = drop (length (ownOf T a)) (spans T a)
 
--- either chain is empty
+-- the chain of s is empty; either chain is
+abbrev pub isEmpty : Tables → ℕ → Bool
+isEmpty T s = eqb (headOf T s) 0
+
 abbrev pub oneEmpty : Tables → ℕ → ℕ → Bool
-oneEmpty T a b = eqb (headOf T a) 0 || eqb (headOf T b) 0
+oneEmpty T a b = isEmpty T a || isEmpty T b
 
 -- b's head behind the new pieces, and these behind a's own
 unfoldable pub joined : ℕ → ℕ → State → State
@@ -34,8 +37,8 @@ joined a b S =
 unfoldable pub appendAfter : ℕ → ℕ → State → State
 appendAfter a b S =
     let T = S .tables in
-    if eqb (headOf T a) 0 then withTables S (setSlip (setSlip T b vacant) a (slip T b))
-    else if eqb (headOf T b) 0 then withTables S (setSlip T b vacant)
+    if isEmpty T a then withTables S (setSlip (setSlip T b vacant) a (slip T b))
+    else if isEmpty T b then withTables S (setSlip T b vacant)
     else joined a b S
 
 abbrev pub append : ℕ → ℕ → State → Rule

@@ -10,7 +10,7 @@ use Rattle.rules.specs.Bytes.{decode}
 use Rattle.rules.specs.Sound.{Lent, sound}
 use Rattle.rules.specs.Rule.{Wants, want, _⇐_, firstCode}
 use Rattle.rules.specs.Open.{openable}
-use Rattle.rules.specs.Step.{Call, Open, Do, rule, step, stateIn, next, run}
+use Rattle.rules.specs.Step.{Call, Open, Do, rule, step, stateIn, next, afterCalls}
 use Rattle.rules.specs.Recount.{Recount, recounted, leaves}
 use Rattle.rules.specs.Chain.{withTables}
 
@@ -46,7 +46,7 @@ Each (c ∷ cs) m = CallOk c m × Each cs (next c m)
 -- The claim about a list of calls that begins on m.
 pub record Demand3 (cs : List Call) (m : Lent) : Type 0 where
   pub each : Each cs m
-  pub recount : Recount (decode (run cs m .pool))
+  pub recount : Recount (decode (afterCalls cs m .pool))
 
 -- The claim itself, proved in proofs/Demand.antt: m is any pool and storage on which an open
 -- was done, cs any list of calls.

@@ -1,4 +1,5 @@
 -- keep s, n: the first n bytes stay.
+use mathlib.Core.Bool.{Bool}
 use mathlib.Core.List.{List, [], _∷_}
 use Prim.Native.Nat.{ℕ}
 use lib.ListN.{length, drop}
@@ -38,14 +39,18 @@ keptBy S s own xs (y ∷ ys) =
     let fs = freePieces (S .tables) in
     behindOwn (withTables S (built (S .tables) fs (y ∷ ys) 0)) s own (builtLink fs (y ∷ ys) 0)
 
+-- n is the whole length: nothing changes
+abbrev pub keepsAll : Tables → ℕ → ℕ → Bool
+keepsAll T s n = eqb n (lengthOf T s)
+
 unfoldable pub keepAfter : ℕ → ℕ → State → State
 unfolding keptBy
 keepAfter s n S =
     let T = S .tables in
-    if eqb n (lengthOf T s) then S else keptBy S s (keptOwn T s n) (kept T s n) (keptNotOwn T s n)
+    if keepsAll T s n then S else keptBy S s (keptOwn T s n) (kept T s n) (keptNotOwn T s n)
 
 abbrev pub keep : ℕ → ℕ → State → Rule
 keep s n S =
     let T = S .tables in
     alters ((Slip ⇐ unnamed T s) ∷ (Range ⇐ ltb (lengthOf T s) n) ∷ [])
-    (want 0 (if eqb n (lengthOf T s) then 0 else length (keptNotOwn T s n)) 0) 0 (keepAfter s n S)
+    (want 0 (if keepsAll T s n then 0 else length (keptNotOwn T s n)) 0) 0 (keepAfter s n S)

@@ -8,7 +8,7 @@ use Rattle.rules.specs.Bytes.{decode, encode}
 use Rattle.rules.specs.Sound.{Lent, lent}
 use Rattle.rules.specs.Chain.{reads}
 use Rattle.rules.specs.Room.{freePieces}
-use Rattle.rules.specs.Step.{Do, Operation, Put, Free, Dup, Cut, Append, Drop, Keep, Pullup, Pack, step, stateIn, run, leftBy}
+use Rattle.rules.specs.Step.{Do, Operation, Put, Free, Dup, Cut, Append, Drop, Keep, Pullup, Pack, step, stateIn, afterCalls, leftBy}
 
 -- A row: the call, its answer, the tables after it, and the bytes that a slip then reads.
 pub record Row : Type 0 where
@@ -90,6 +90,6 @@ edges =
 unfoldable pub tried : List Edge → Lent → List Edge
 tried [] m = []
 tried (e ∷ es) m =
-    let a = step (Do (e .call)) (run (map Do (e .before)) m) in
+    let a = step (Do (e .call)) (afterCalls (map Do (e .before)) m) in
     let T = decode (a .pool) in
     edge (e .before) (e .call) (a .code) (a .number) (T .slips) (pieceTotal T - length (freePieces T)) ∷ tried es m

@@ -1,4 +1,5 @@
 -- pack s: the chain's bytes put afresh under the same slip.
+use mathlib.Core.Bool.{Bool}
 use mathlib.Core.List.{[], _∷_}
 use Prim.Native.Nat.{ℕ}
 use lib.ListN.{length}
@@ -11,16 +12,19 @@ use Rattle.rules.specs.Room.{freePieces, newBuffers}
 use Rattle.rules.specs.Build.{plain, underOld, buffersFor, laid, stored}
 use Rattle.rules.specs.Rule.{Rule, _⇐_, unnamed, Wants, want, alters}
 
--- A chain of at most one piece stays.
+-- a chain of at most one piece: nothing changes
+abbrev pub inOne : Tables → ℕ → Bool
+inOne T s = leb (length (chain T s)) 1
+
 unfoldable pub packAfter : ℕ → State → State
 packAfter s S =
     let T = S .tables in
     let bs = newBuffers T (buffersFor (lengthOf T s)) in
-    if leb (length (chain T s)) 1 then S
+    if inOne T s then S
     else underOld (withStorage S (stored (S .storage) bs (reads S s))) (plain T (laid bs (lengthOf T s))) (freePieces T) s
 
 unfoldable pub packWants : Tables → ℕ → Wants
-packWants T s = if leb (length (chain T s)) 1 then want 0 0 0 else want 0 (buffersFor (lengthOf T s)) (buffersFor (lengthOf T s))
+packWants T s = if inOne T s then want 0 0 0 else want 0 (buffersFor (lengthOf T s)) (buffersFor (lengthOf T s))
 
 abbrev pub pack : ℕ → State → Rule
 pack s S = alters ((Slip ⇐ unnamed (S .tables) s) ∷ []) (packWants (S .tables) s) 0 (packAfter s S)

@@ -1,4 +1,5 @@
 -- pullup s, n: the first n bytes in one piece.
+use mathlib.Core.Bool.{Bool}
 use mathlib.Core.List.{[], _∷_, _++_}
 use Prim.Native.Nat.{ℕ, suc}
 use lib.ListN.{length, take}
@@ -19,16 +20,19 @@ pulled T s n =
     let p = dropped T s n in
     record { base = p .base; more = laid (newBuffers T 1) n ++ p .more; tail = p .tail }
 
--- Where the first piece has the n bytes, or n is 0, nothing changes. Else they are copied to
--- a new buffer, and the rest of it is zero.
+-- the first piece has the n bytes, or n is 0: nothing changes
+abbrev pub inFirst : Tables → ℕ → ℕ → Bool
+inFirst T s n = leb n (firstLength (spans T s))
+
+-- Else they are copied to a new buffer, and the rest of it is zero.
 unfoldable pub pullupAfter : ℕ → ℕ → State → State
 pullupAfter s n S =
     let T = S .tables in
-    if leb n (firstLength (spans T s)) then S
+    if inFirst T s n then S
     else underOld (withStorage S (stored (S .storage) (newBuffers T 1) (take n (reads S s)))) (pulled T s n) (freePieces T) s
 
 unfoldable pub pullupWants : Tables → ℕ → ℕ → Wants
-pullupWants T s n = if leb n (firstLength (spans T s)) then want 0 0 0 else want 0 (suc (length (dropped T s n .more))) 1
+pullupWants T s n = if inFirst T s n then want 0 0 0 else want 0 (suc (length (dropped T s n .more))) 1
 
 abbrev pub pullup : ℕ → ℕ → State → Rule
 pullup s n S =

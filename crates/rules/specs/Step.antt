@@ -130,6 +130,6 @@ leftBy r = lent (r .pool) (r .storage)
 abbrev pub next : Call → Lent → Lent
 next c m = leftBy (step c m)
 
-abbrev pub run : List Call → Lent → Lent
-run [] m = m
-run (c ∷ cs) m = run cs (next c m)
+abbrev pub afterCalls : List Call → Lent → Lent
+afterCalls [] m = m
+afterCalls (c ∷ cs) m = afterCalls cs (next c m)
