@@ -1,5 +1,5 @@
 -- The verdict from the header's tests and the tables'. Assumes nothing.
-use mathlib.Core.Path.{_≡_, sym, ap, subst, _∙_}
+use mathlib.Core.Path.{_≡_, sym, subst, _∙_}
 use mathlib.Core.Bool.{Bool, true, false, false≢true, true≢false, _&&_}
 use mathlib.Core.List.{List}
 use Prim.Native.Nat.{ℕ, _≤_, _<_}
@@ -8,9 +8,9 @@ use lib.ListN.{length, length-replicate}
 use Rattle.rules.specs.Basics.{Is}
 use Rattle.rules.specs.Tables.{pieceTotal}
 use Rattle.rules.specs.Bytes.{buffersIn, piecesIn, slipsIn, decode}
-use Rattle.rules.specs.Sound.{headerOk, soundTables, sound, lent, marked, countsOk, lengthsOk}
+use Rattle.rules.specs.Sound.{headerOk, soundTables, sound, lent, headed}
 use Rattle.rules.proofs.Logic.{is-true, is-false, and-0, if-T, if-F}
-use Rattle.rules.proofs.Bytes.{and-is, eqb-is, leb-is, Header, header-facts, header-test, decode-pieces}
+use Rattle.rules.proofs.Bytes.{Header, header-facts, header-test, decode-pieces}
 use Rattle.layout.specs.declared.Shape.{Shape}
 use Rattle.counts.specs.Counters.{Limited, zeros}
 use Rattle.audit.specs.Follows.{tablesFollows, auditFollows}
@@ -36,29 +36,21 @@ torn p n h never = record {
 pub verdict-short : (p : List ℕ) (n : ℕ) (h : Shape) → length p < headerLength → Verdict p n (tornAnswer h)
 verdict-short p n h l = torn p n h (λ st _ k. omega (arith, k .pool-long))
 
--- the header's test beside storage of n bytes
-abbrev headed : List ℕ → ℕ → Bool
-headed p n =
-    marked p && (countsOk (buffersIn p) (piecesIn p) (slipsIn p) && lengthsOk (buffersIn p) (piecesIn p) (slipsIn p) (length p) n)
-
-header-is : {p : List ℕ} {n : ℕ} (st : List ℕ) → length st ≡ n → headerOk (lent p st) ≡ headed p n
-unfolding headerOk
-header-is {p} st l = ap (headed p) l
-
--- the same, where it states the shape h, beside storage of n bytes
+-- the header's test, where it states the shape h, beside storage of n bytes
 abbrev parts : List ℕ → Shape → ℕ → Bool
-parts p h n = marked p && (countsOk (h .buffers) (h .pieces) (h .slips) && lengthsOk (h .buffers) (h .pieces) (h .slips) (length p) n)
+parts p h n = headed p (h .buffers) (h .pieces) (h .slips) n
 
 module _ {p : List ℕ} (n : ℕ) {h : Shape} (o : Of p h) where
-  parts-same : parts p h n ≡ headed p n
-  parts-same = λ i. marked p && (countsOk (o .buffers i) (o .pieces i) (o .slips i) && lengthsOk (o .buffers i) (o .pieces i) (o .slips i) (length p) n)
+  parts-same : (st : List ℕ) → length st ≡ n → parts p h n ≡ headerOk (lent p st)
+  unfolding headerOk
+  parts-same st l = λ i. headed p (o .buffers i) (o .pieces i) (o .slips i) (sym l i)
 
   pub verdict-unfit : parts p h n ≡ false → Verdict p n (tornAnswer h)
-  verdict-unfit q = torn p n h (λ st l k. true≢false (sym (is-true _ (header-test (lent p st) k)) ∙ header-is st l ∙ sym parts-same ∙ q))
+  verdict-unfit q = torn p n h (λ st l k. true≢false (sym (is-true _ (header-test (lent p st) k)) ∙ sym (parts-same st l) ∙ q))
 
   module _ (q : parts p h n ≡ true) where
     good-header : (st : List ℕ) → length st ≡ n → Header (lent p st)
-    good-header st l = header-facts (lent p st) (subst Is (sym q ∙ parts-same ∙ sym (header-is st l)) tt)
+    good-header st l = header-facts (lent p st) (subst Is (sym q ∙ parts-same st l) tt)
 
     pub good-limits : Limited p h
     good-limits =

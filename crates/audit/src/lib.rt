@@ -4,13 +4,13 @@ use kinds::PieceNumber;
 use kinds::SlipNumber;
 use layout::Shape;
 ghost use mathlib.Core.Path.{_≡_};
-ghost use mathlib.Core.Bool.{true, _&&_};
+ghost use mathlib.Core.Bool.{true};
 ghost use Prim.Native.Nat.{_<_, _≤_};
 ghost use lib.ListN.{length};
 ghost use Rattle.rules.specs.Tables.{pieceTotal};
 ghost use Rattle.rules.specs.Bytes.{decode};
 ghost use Rattle.rules.specs.Layout.{headerLength};
-ghost use Rattle.rules.specs.Sound.{acyclic, marked, countsOk, lengthsOk, soundTables};
+ghost use Rattle.rules.specs.Sound.{acyclic, headed, soundTables};
 ghost use Rattle.counts.specs.Ranges.{piecesInRange};
 ghost use Rattle.counts.specs.Counters.{Limited};
 ghost use Rattle.audit.specs.Follows.{followsOf, tablesFollows};
@@ -101,7 +101,7 @@ fn tables_ok(pool: &[u8], shape: Shape) -> Followed
 // Whether mark, version, counts and both lengths fit.
 fn header_ok(pool: &[u8], shape: Shape, storage: usize) -> bool
     requires { ⌜ headerLength ≤ length (now pool) ⌝ }
-    ensures { λ r. ⌜ r ≡ (marked (now (pool .entry)) && (countsOk (shape .buffers) (shape .pieces) (shape .slips) && lengthsOk (shape .buffers) (shape .pieces) (shape .slips) (length (now (pool .entry))) storage)) ⌝ }
+    ensures { λ r. ⌜ r ≡ headed (now (pool .entry)) (shape .buffers) (shape .pieces) (shape .slips) storage ⌝ }
 {
     if !layout::marked(pool) {
         return false;

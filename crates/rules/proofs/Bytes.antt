@@ -17,7 +17,7 @@ use Rattle.rules.specs.Basics.{Is, table}
 use Rattle.rules.specs.Layout.{mark, version, slipAt, pieceAt, countAt, poolLength, storageLength, versionAt, buffersAt, piecesAt, slipsAt, headerLength}
 use Rattle.rules.specs.Tables.{Piece, Tables, blank, slip, piece, bufferCount, slipTotal, pieceTotal, bufferTotal, freshTables}
 use Rattle.rules.specs.Bytes.{versionIn, buffersIn, piecesIn, slipsIn, pieceIn, decode, pieceBytes, encode}
-use Rattle.rules.specs.Sound.{Lent, headerOk, lent, marked, countsOk}
+use Rattle.rules.specs.Sound.{Lent, headed, headerOk, lent, marked, countsOk}
 use Rattle.rules.proofs.Logic.{and-intro, and-parts}
 
 -- ---- tests
@@ -299,7 +299,7 @@ pub record Header (m : Lent) : Type 0 where
   pub storage-long : length (m .storage) ≡ storageLength (buffersIn (m .pool))
 
 pub header-facts : (m : Lent) → Is (headerOk m) → Header m
-unfolding headerOk
+unfolding headerOk headed
 header-facts m h =
     let p = m .pool in
     let (a, r) = and-parts (marked p) _ h in
@@ -308,7 +308,7 @@ header-facts m h =
     record { is-marked = a; counts = counts-facts _ _ _ c; pool-long = k .0; storage-long = k .1 }
 
 pub header-test : (m : Lent) → Header m → Is (headerOk m)
-unfolding headerOk
+unfolding headerOk headed
 header-test m h =
     let p = m .pool in
     and-intro (marked p) _ (h .is-marked) (and-intro (countsOk (buffersIn p) (piecesIn p) (slipsIn p)) _ (counts-test (h .counts)) (simp (and-is, eqb-is) (h .pool-long, h .storage-long)))

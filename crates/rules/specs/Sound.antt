@@ -68,11 +68,13 @@ countsOk B P S = counted mostBuffers B && (counted mostPieces P && counted mostS
 abbrev pub lengthsOk : ℕ → ℕ → ℕ → ℕ → ℕ → Bool
 lengthsOk B P S n k = eqb n (poolLength B P S) && eqb k (storageLength B)
 
--- mark, version, counts and both lengths fit
+-- mark, version, counts and both lengths fit: of a pool p whose header states B, P and S, beside k bytes of storage
+unfoldable pub headed : List ℕ → ℕ → ℕ → ℕ → ℕ → Bool
+headed p B P S k = marked p && (countsOk B P S && lengthsOk B P S (length p) k)
+
 unfoldable pub headerOk : Lent → Bool
-headerOk m =
-    let p = m .pool in
-    marked p && (countsOk (buffersIn p) (piecesIn p) (slipsIn p) && lengthsOk (buffersIn p) (piecesIn p) (slipsIn p) (length p) (length (m .storage)))
+unfolding headed
+headerOk m = let p = m .pool in headed p (buffersIn p) (piecesIn p) (slipsIn p) (length (m .storage))
 
 -- ---- the list
 
