@@ -65,7 +65,8 @@ fn walk(pool: &[u8], shape: Shape, colours: &mut [u16; PIECES], d: u16, follows:
 // Whether following next ends from every piece, with the follows that this took: one for each piece met, at most P.
 fn ends(pool: &[u8], shape: Shape) -> Followed
     requires { ⌜ Limited (now pool) shape × (piecesInRange (decode (now pool)) ≡ true) ⌝ }
-    ensures { λ r. ⌜ (r .ends ≡ acyclic (decode (now (pool .entry)))) × (r .follows ≡ followsOf (decode (now (pool .entry)))) × (r .follows ≤ pieceTotal (decode (now (pool .entry)))) ⌝ }
+    ensures { λ r. ⌜ (r .ends ≡ acyclic (decode (now (pool .entry))))
+        × (r .follows ≡ followsOf (decode (now (pool .entry)))) × (r .follows ≤ pieceTotal (decode (now (pool .entry)))) ⌝ }
 {
     let mut colours = [0u16; PIECES];
     let mut n: u16 = 0;
@@ -87,7 +88,8 @@ fn ends(pool: &[u8], shape: Shape) -> Followed
 // Whether the tables are sound, with how often next was followed.
 fn tables_ok(pool: &[u8], shape: Shape) -> Followed
     requires { ⌜ Limited (now pool) shape ⌝ }
-    ensures { λ r. ⌜ (r .ends ≡ soundTables (decode (now (pool .entry)))) × (r .follows ≡ tablesFollows (decode (now (pool .entry)))) × (r .follows ≤ pieceTotal (decode (now (pool .entry)))) ⌝ }
+    ensures { λ r. ⌜ (r .ends ≡ soundTables (decode (now (pool .entry))))
+        × (r .follows ≡ tablesFollows (decode (now (pool .entry)))) × (r .follows ≤ pieceTotal (decode (now (pool .entry)))) ⌝ }
 {
     if !counts::references_ok(pool, shape) {
         return Followed {

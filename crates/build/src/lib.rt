@@ -54,7 +54,8 @@ pub fn take_piece(
     next: u16,
 )
     requires { ⌜ Shaped (now pool) shape × (f .0 < shape .pieces) × (buffer .0 < shape .buffers) × (bufferCount (decode (now pool)) (buffer .0) < 65535) ⌝ }
-    ensures { λ _. ⌜ Holds (now (pool .exit)) shape (taken (decode (now (pool .entry))) (f .0) (fresh (record { buffer = buffer .0; offset = offset; len = length }) next)) ⌝ }
+    ensures { λ _. ⌜ Holds (now (pool .exit)) shape
+        (taken (decode (now (pool .entry))) (f .0) (fresh (record { buffer = buffer .0; offset = offset; len = length }) next)) ⌝ }
 {
     let m = tables::buffer_count(pool, shape, buffer);
     tables::set_buffer_count(pool, shape, buffer, m + 1);
@@ -95,7 +96,10 @@ fn in_line(pool: &[u8], shape: Shape, f: u16, more: u16, tail: u16) -> InLine
 // Takes a new piece for what the range has of the piece to copy, `more` to come after it; answers how far copying is then: a descriptor cloned.
 fn clone_piece(pool: &mut [u8], shape: Shape, c: Cloning, more: u16, tail: u16) -> Cloning
     requires { ⌜ Shaped (now pool) shape × (shape .pieces < 65535) × Clonable (decode (now pool)) c ⌝ }
-    ensures { λ r. ⌜ Holds (now (pool .exit)) shape (taken (decode (now (pool .entry))) (c .free) (fresh (partOf (stretchAt (decode (now (pool .entry))) (c .at)) c) (linkInLine (decode (now (pool .entry))) (c .free) more tail))) × (r ≡ cloned (decode (now (pool .entry))) c more) ⌝ }
+    ensures { λ r. ⌜ Holds (now (pool .exit)) shape
+        (taken (decode (now (pool .entry))) (c .free)
+        (fresh (partOf (stretchAt (decode (now (pool .entry))) (c .at)) c) (linkInLine (decode (now (pool .entry))) (c .free) more tail)))
+        × (r ≡ cloned (decode (now (pool .entry))) c more) ⌝ }
 {
     let d = PieceNumber(c.at - 1);
     let line = in_line(pool, shape, c.free, more, tail);
@@ -113,7 +117,8 @@ fn clone_piece(pool: &mut [u8], shape: Shape, c: Cloning, more: u16, tail: u16) 
     }
 }
 
-// New pieces for the `n` bytes that start `into` bytes into the chain from `link`, on the same buffers, taken from the lowest free piece `first` on, before the link `tail`; answers the link to the first: descriptors cloned over shared clusters.
+// New pieces for the `n` bytes that start `into` bytes into the chain from `link`, on the same buffers, taken from the lowest free
+// piece `first` on, before the link `tail`; answers the link to the first: descriptors cloned over shared clusters.
 pub fn copy_pieces(
     pool: &mut [u8],
     shape: Shape,
@@ -128,7 +133,9 @@ pub fn copy_pieces(
     requires { ⌜ (pieces ≡ length (cutOut (stretchesFrom (decode (now pool)) link) into n)) × (pieces ≤ length (freePieces (decode (now pool)))) ⌝ }
     requires { ⌜ ((link ≡ 0 → ⊥) → into < piece (decode (now pool)) (link - 1) .len) ⌝ }
     requires { ⌜ first ≡ lowestFor (isFree (decode (now pool))) pieces (pieceTotal (decode (now pool))) ⌝ }
-    ensures { λ r. ⌜ Holds (now (pool .exit)) shape (built (decode (now (pool .entry))) (freePieces (decode (now (pool .entry)))) (cutOut (stretchesFrom (decode (now (pool .entry))) link) into n) tail) × (r ≡ builtLink (freePieces (decode (now (pool .entry)))) (cutOut (stretchesFrom (decode (now (pool .entry))) link) into n) tail) ⌝ }
+    ensures { λ r. ⌜ Holds (now (pool .exit)) shape
+        (built (decode (now (pool .entry))) (freePieces (decode (now (pool .entry)))) (cutOut (stretchesFrom (decode (now (pool .entry))) link) into n) tail)
+        × (r ≡ builtLink (freePieces (decode (now (pool .entry)))) (cutOut (stretchesFrom (decode (now (pool .entry))) link) into n) tail) ⌝ }
 {
     if pieces == 0 {
         return tail;
@@ -150,7 +157,10 @@ pub fn copy_pieces(
 // Takes a new piece on the lowest free buffer, `more` to come after it; answers how far laying is then: a descriptor over a fresh cluster.
 fn lay_piece(pool: &mut [u8], shape: Shape, c: Laying, more: u16) -> Laying
     requires { ⌜ Shaped (now pool) shape × (shape .pieces < 65535) × Layable (decode (now pool)) c ⌝ }
-    ensures { λ r. ⌜ Holds (now (pool .exit)) shape (taken (decode (now (pool .entry))) (c .free) (fresh (laidAt (decode (now (pool .entry))) c) (linkInLine (decode (now (pool .entry))) (c .free) more 0))) × (r ≡ laidOn (decode (now (pool .entry))) c more) ⌝ }
+    ensures { λ r. ⌜ Holds (now (pool .exit)) shape
+        (taken (decode (now (pool .entry))) (c .free)
+        (fresh (laidAt (decode (now (pool .entry))) c) (linkInLine (decode (now (pool .entry))) (c .free) more 0)))
+        × (r ≡ laidOn (decode (now (pool .entry))) c more) ⌝ }
 {
     let b = room::next_free_buffer(pool, shape, c.from);
     let length = kinds::lesser(BufferNumber::SIZE as u32, c.left);
@@ -167,12 +177,16 @@ fn lay_piece(pool: &mut [u8], shape: Shape, c: Laying, more: u16) -> Laying
     }
 }
 
-// New pieces for `n` bytes, taken from the lowest free piece `first` on, on the `count` lowest free buffers, from `buffer` on, from offset 0, each full but the last; answers the link to the first: descriptors over fresh clusters.
+// New pieces for `n` bytes, taken from the lowest free piece `first` on, on the `count` lowest free buffers, from `buffer` on,
+// from offset 0, each full but the last; answers the link to the first: descriptors over fresh clusters.
 pub fn lay(pool: &mut [u8], shape: Shape, n: u32, count: u16, first: u16, buffer: u16) -> u16
     requires { ⌜ Opened (now pool) shape ⌝ }
     requires { ⌜ (count ≤ length (freePieces (decode (now pool)))) × (count ≤ length (freeBuffers (decode (now pool)))) ⌝ }
-    requires { ⌜ (first ≡ lowestFor (isFree (decode (now pool))) count (pieceTotal (decode (now pool)))) × (buffer ≡ lowestFor (isUnheld (decode (now pool))) count (bufferTotal (decode (now pool)))) ⌝ }
-    ensures { λ r. ⌜ Holds (now (pool .exit)) shape (built (decode (now (pool .entry))) (freePieces (decode (now (pool .entry)))) (laid (newBuffers (decode (now (pool .entry))) count) n) 0) × (r ≡ builtLink (freePieces (decode (now (pool .entry)))) (laid (newBuffers (decode (now (pool .entry))) count) n) 0) ⌝ }
+    requires { ⌜ (first ≡ lowestFor (isFree (decode (now pool))) count (pieceTotal (decode (now pool))))
+        × (buffer ≡ lowestFor (isUnheld (decode (now pool))) count (bufferTotal (decode (now pool)))) ⌝ }
+    ensures { λ r. ⌜ Holds (now (pool .exit)) shape
+        (built (decode (now (pool .entry))) (freePieces (decode (now (pool .entry)))) (laid (newBuffers (decode (now (pool .entry))) count) n) 0)
+        × (r ≡ builtLink (freePieces (decode (now (pool .entry)))) (laid (newBuffers (decode (now (pool .entry))) count) n) 0) ⌝ }
 {
     if count == 0 {
         return 0;

@@ -11,7 +11,8 @@ ghost use Rattle.rules.specs.Sound.{lent};
 
 // free: a slip gives up its chain.
 pub fn free(pool: &mut [u8], storage: &[u8], slip: u16) -> Answer
-    ensures { λ r. ⌜ resultOf r (now (pool .exit)) (now (storage .entry)) [] noView ≡ step (Do (Free slip)) (lent (now (pool .entry)) (now (storage .entry))) ⌝ }
+    ensures { λ r. ⌜ resultOf r (now (pool .exit)) (now (storage .entry)) [] noView
+        ≡ step (Do (Free slip)) (lent (now (pool .entry)) (now (storage .entry))) ⌝ }
 {
     let audited = audit::audit(pool, storage.len());
     if !audited.sound {
@@ -23,7 +24,8 @@ pub fn free(pool: &mut [u8], storage: &[u8], slip: u16) -> Answer
 
 // append: one chain behind another.
 pub fn append(pool: &mut [u8], storage: &[u8], a: u16, b: u16) -> Answer
-    ensures { λ r. ⌜ resultOf r (now (pool .exit)) (now (storage .entry)) [] noView ≡ step (Do (Append a b)) (lent (now (pool .entry)) (now (storage .entry))) ⌝ }
+    ensures { λ r. ⌜ resultOf r (now (pool .exit)) (now (storage .entry)) [] noView
+        ≡ step (Do (Append a b)) (lent (now (pool .entry)) (now (storage .entry))) ⌝ }
 {
     let audited = audit::audit(pool, storage.len());
     if !audited.sound {
@@ -35,7 +37,8 @@ pub fn append(pool: &mut [u8], storage: &[u8], a: u16, b: u16) -> Answer
 
 // drop: the first bytes of a chain go.
 pub fn drop(pool: &mut [u8], storage: &[u8], slip: u16, n: u32) -> Answer
-    ensures { λ r. ⌜ resultOf r (now (pool .exit)) (now (storage .entry)) [] noView ≡ step (Do (Drop slip n)) (lent (now (pool .entry)) (now (storage .entry))) ⌝ }
+    ensures { λ r. ⌜ resultOf r (now (pool .exit)) (now (storage .entry)) [] noView
+        ≡ step (Do (Drop slip n)) (lent (now (pool .entry)) (now (storage .entry))) ⌝ }
 {
     let audited = audit::audit(pool, storage.len());
     if !audited.sound {
@@ -47,7 +50,8 @@ pub fn drop(pool: &mut [u8], storage: &[u8], slip: u16, n: u32) -> Answer
 
 // keep: the first bytes of a chain stay.
 pub fn keep(pool: &mut [u8], storage: &[u8], slip: u16, n: u32) -> Answer
-    ensures { λ r. ⌜ resultOf r (now (pool .exit)) (now (storage .entry)) [] noView ≡ step (Do (Keep slip n)) (lent (now (pool .entry)) (now (storage .entry))) ⌝ }
+    ensures { λ r. ⌜ resultOf r (now (pool .exit)) (now (storage .entry)) [] noView
+        ≡ step (Do (Keep slip n)) (lent (now (pool .entry)) (now (storage .entry))) ⌝ }
 {
     let audited = audit::audit(pool, storage.len());
     if !audited.sound {

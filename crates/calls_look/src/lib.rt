@@ -2,8 +2,8 @@
 use kinds::Answer;
 use kinds::Refusal;
 use kinds::SlipNumber;
-use look::Place;
 use layout::Shape;
+use look::Place;
 ghost use mathlib.Core.Path.{_≡_};
 ghost use mathlib.Core.List.{[]};
 ghost use Prim.Native.Nat.{_<_, _^_};
@@ -57,7 +57,8 @@ fn shown_of(r: look::Shown) -> Shown
 
 // length: the byte count of a chain.
 pub fn length(pool: &[u8], storage: &[u8], slip: u16) -> Answer
-    ensures { λ r. ⌜ resultOf r (now (pool .entry)) (now (storage .entry)) [] noView ≡ step (Do (Length slip)) (lent (now (pool .entry)) (now (storage .entry))) ⌝ }
+    ensures { λ r. ⌜ resultOf r (now (pool .entry)) (now (storage .entry)) [] noView
+        ≡ step (Do (Length slip)) (lent (now (pool .entry)) (now (storage .entry))) ⌝ }
 {
     let audited = audit::audit(pool, storage.len());
     if !audited.sound {
@@ -76,7 +77,8 @@ pub fn read(
     length: u32,
     output: &mut [u8],
 ) -> Answer
-    ensures { λ r. ⌜ resultOf r (now (pool .entry)) (now (storage .entry)) (now (output .exit)) noView ≡ step (Do (Read slip offset length (now (output .entry)))) (lent (now (pool .entry)) (now (storage .entry))) ⌝ }
+    ensures { λ r. ⌜ resultOf r (now (pool .entry)) (now (storage .entry)) (now (output .exit)) noView
+        ≡ step (Do (Read slip offset length (now (output .entry)))) (lent (now (pool .entry)) (now (storage .entry))) ⌝ }
 {
     let audited = audit::audit(pool, storage.len());
     if !audited.sound {
@@ -97,7 +99,8 @@ pub fn read(
 
 // show: the first bytes of a chain in one stretch, of storage or of a lent scratch.
 pub fn show(pool: &[u8], storage: &[u8], slip: u16, n: u32, scratch: &mut [u8]) -> Shown
-    ensures { λ r. ⌜ shownOf r (now (pool .entry)) (now (storage .entry)) (now (scratch .exit)) ≡ step (Do (Show slip n (now (scratch .entry)))) (lent (now (pool .entry)) (now (storage .entry))) ⌝ }
+    ensures { λ r. ⌜ shownOf r (now (pool .entry)) (now (storage .entry)) (now (scratch .exit))
+        ≡ step (Do (Show slip n (now (scratch .entry)))) (lent (now (pool .entry)) (now (storage .entry))) ⌝ }
 {
     let audited = audit::audit(pool, storage.len());
     if !audited.sound {
@@ -109,7 +112,8 @@ pub fn show(pool: &[u8], storage: &[u8], slip: u16, n: u32, scratch: &mut [u8]) 
 
 // list: where the pieces of a chain lie in storage, two numbers each, to the front of a lent list.
 pub fn list(pool: &[u8], storage: &[u8], slip: u16, list: &mut [u32]) -> Answer
-    ensures { λ r. ⌜ resultOf r (now (pool .entry)) (now (storage .entry)) (now (list .exit)) noView ≡ step (Do (WireList slip (now (list .entry)))) (lent (now (pool .entry)) (now (storage .entry))) ⌝ }
+    ensures { λ r. ⌜ resultOf r (now (pool .entry)) (now (storage .entry)) (now (list .exit)) noView
+        ≡ step (Do (WireList slip (now (list .entry)))) (lent (now (pool .entry)) (now (storage .entry))) ⌝ }
 {
     let audited = audit::audit(pool, storage.len());
     if !audited.sound {

@@ -11,7 +11,8 @@ ghost use Rattle.rules.specs.Sound.{lent};
 
 // put: bytes into fresh buffers, under a new slip.
 pub fn put(pool: &mut [u8], storage: &mut [u8], input: &[u8]) -> Answer
-    ensures { λ r. ⌜ resultOf r (now (pool .exit)) (now (storage .exit)) [] noView ≡ step (Do (Put (now (input .entry)))) (lent (now (pool .entry)) (now (storage .entry))) ⌝ }
+    ensures { λ r. ⌜ resultOf r (now (pool .exit)) (now (storage .exit)) [] noView
+        ≡ step (Do (Put (now (input .entry)))) (lent (now (pool .entry)) (now (storage .entry))) ⌝ }
 {
     let audited = audit::audit(pool, storage.len());
     if !audited.sound {
@@ -35,7 +36,8 @@ pub fn dup(pool: &mut [u8], storage: &[u8], slip: u16) -> Answer
 
 // cut: a new slip on a range of a chain.
 pub fn cut(pool: &mut [u8], storage: &[u8], slip: u16, offset: u32, length: u32) -> Answer
-    ensures { λ r. ⌜ resultOf r (now (pool .exit)) (now (storage .entry)) [] noView ≡ step (Do (Cut slip offset length)) (lent (now (pool .entry)) (now (storage .entry))) ⌝ }
+    ensures { λ r. ⌜ resultOf r (now (pool .exit)) (now (storage .entry)) [] noView
+        ≡ step (Do (Cut slip offset length)) (lent (now (pool .entry)) (now (storage .entry))) ⌝ }
 {
     let audited = audit::audit(pool, storage.len());
     if !audited.sound {

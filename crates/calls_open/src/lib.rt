@@ -11,7 +11,8 @@ ghost use Rattle.rules.specs.Sound.{lent};
 
 // open: writes the fresh pool.
 pub fn open(pool: &mut [u8], storage: &[u8], buffers: u16, pieces: u16, slips: u16) -> Answer
-    ensures { λ r. ⌜ resultOf r (now (pool .exit)) (now (storage .entry)) [] noView ≡ step (Open buffers pieces slips) (lent (now (pool .entry)) (now (storage .entry))) ⌝ }
+    ensures { λ r. ⌜ resultOf r (now (pool .exit)) (now (storage .entry)) [] noView
+        ≡ step (Open buffers pieces slips) (lent (now (pool .entry)) (now (storage .entry))) ⌝ }
 {
     let shape = Shape {
         buffers,

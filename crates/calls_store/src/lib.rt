@@ -11,7 +11,8 @@ ghost use Rattle.rules.specs.Sound.{lent};
 
 // pullup: the first bytes of a chain in one piece.
 pub fn pullup(pool: &mut [u8], storage: &mut [u8], slip: u16, n: u32) -> Answer
-    ensures { λ r. ⌜ resultOf r (now (pool .exit)) (now (storage .exit)) [] noView ≡ step (Do (Pullup slip n)) (lent (now (pool .entry)) (now (storage .entry))) ⌝ }
+    ensures { λ r. ⌜ resultOf r (now (pool .exit)) (now (storage .exit)) [] noView
+        ≡ step (Do (Pullup slip n)) (lent (now (pool .entry)) (now (storage .entry))) ⌝ }
 {
     let audited = audit::audit(pool, storage.len());
     if !audited.sound {

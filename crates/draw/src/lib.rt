@@ -1,8 +1,8 @@
 // A pool drawn as text: a line for each slip, then the buffers and the pieces. Any bytes can be drawn.
 use kinds::BufferNumber;
 use kinds::PieceNumber;
-use page::Cursor;
 use layout::Shape;
+use page::Cursor;
 ghost use mathlib.Core.Path.{_≡_};
 ghost use Prim.Native.Nat.{_<_, _≤_};
 ghost use lib.ListN.{length};

@@ -3,8 +3,8 @@ use counts::Entry;
 use kinds::BufferNumber;
 use kinds::PieceNumber;
 use kinds::SlipNumber;
-use page::Cursor;
 use layout::Shape;
+use page::Cursor;
 ghost use mathlib.Core.Path.{_≡_};
 ghost use Prim.Native.Nat.{_<_};
 ghost use Rattle.rules.specs.Tables.{piece, pieceTotal};
@@ -65,7 +65,8 @@ fn put_joined(out: &mut [u8], c: Cursor, d: PieceNumber, e: Entry) -> Cursor
 // Draws the pieces from `link` on behind another, at most `allowed`: a bounded walk.
 fn put_rest(out: &mut [u8], c: Cursor, pool: &[u8], shape: Shape, link: u16, allowed: u16) -> Cursor
     requires { ⌜ Shaped (now pool) shape ⌝ }
-    ensures { λ r. ⌜ Wrote (page (now (out .entry)) c) (page (now (out .exit)) r) (restText (decode (now (pool .entry))) (walk allowed (decode (now (pool .entry))) link)) ⌝ }
+    ensures { λ r. ⌜ Wrote (page (now (out .entry)) c) (page (now (out .exit)) r)
+        (restText (decode (now (pool .entry))) (walk allowed (decode (now (pool .entry))) link)) ⌝ }
 {
     let mut at = c;
     let mut next = link;
@@ -86,7 +87,8 @@ fn put_rest(out: &mut [u8], c: Cursor, pool: &[u8], shape: Shape, link: u16, all
 // Draws the pieces from `link` on, at most as many as the pool has: a chain.
 pub fn put_chain(out: &mut [u8], c: Cursor, pool: &[u8], shape: Shape, link: u16) -> Cursor
     requires { ⌜ Shaped (now pool) shape ⌝ }
-    ensures { λ r. ⌜ Wrote (page (now (out .entry)) c) (page (now (out .exit)) r) (chainText (decode (now (pool .entry))) (walk (pieceTotal (decode (now (pool .entry)))) (decode (now (pool .entry))) link)) ⌝ }
+    ensures { λ r. ⌜ Wrote (page (now (out .entry)) c) (page (now (out .exit)) r)
+        (chainText (decode (now (pool .entry))) (walk (pieceTotal (decode (now (pool .entry)))) (decode (now (pool .entry))) link)) ⌝ }
 {
     if shape.pieces == 0 {
         return c;

@@ -1,7 +1,7 @@
 // The slips drawn as text: a line for each, with the length and the pieces of its chain.
 use kinds::SlipNumber;
-use page::Cursor;
 use layout::Shape;
+use page::Cursor;
 ghost use mathlib.Core.Path.{_≡_};
 ghost use Prim.Native.Nat.{_<_, max};
 ghost use Rattle.rules.specs.Bytes.{decode};

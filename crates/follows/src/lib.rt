@@ -17,7 +17,8 @@ pub struct Counted {
 // audit, with how often it followed next: at most P times, whatever the pool.
 #[no_mangle]
 pub extern "C" fn slp_test_follows(pool: &[u8], storage: &[u8]) -> Counted
-    ensures { λ r. ⌜ (r .code ≡ step (Do Audit) (lent (now (pool .entry)) (now (storage .entry))) .code) × (r .follows ≡ auditFollows (lent (now (pool .entry)) (now (storage .entry)))) × (r .follows ≤ piecesIn (now (pool .entry))) ⌝ }
+    ensures { λ r. ⌜ (r .code ≡ step (Do Audit) (lent (now (pool .entry)) (now (storage .entry))) .code)
+        × (r .follows ≡ auditFollows (lent (now (pool .entry)) (now (storage .entry)))) × (r .follows ≤ piecesIn (now (pool .entry))) ⌝ }
 {
     let audited = audit::audit(pool, storage.len());
     let follows = audited.follows as u32;

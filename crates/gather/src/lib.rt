@@ -70,10 +70,12 @@ fn chunk(n: usize) -> usize
     if n < SIZE { n } else { SIZE }
 }
 
-// Copies the `n` bytes of `storage` from `from` on over those of `output` from `at` on, at once or, where there are more than a buffer's, a buffer's at a time: a memcpy of any length.
+// Copies the `n` bytes of `storage` from `from` on over those of `output` from `at` on, at once or,
+// where there are more than a buffer's, a buffer's at a time: a memcpy of any length.
 fn copy_run(output: &mut [u8], at: usize, storage: &[u8], from: usize, n: usize)
     requires { ⌜ (at + n ≤ length (now output)) × (from + n ≤ length (now storage)) ⌝ }
-    ensures { λ _. ⌜ now (output .exit) ≡ take at (now (output .entry)) ++ (take n (drop from (now (storage .entry))) ++ drop (at + n) (now (output .entry))) ⌝ }
+    ensures { λ _. ⌜ now (output .exit)
+        ≡ take at (now (output .entry)) ++ (take n (drop from (now (storage .entry))) ++ drop (at + n) (now (output .entry))) ⌝ }
 {
     if n <= SIZE {
         storage::copy_part(output, at, storage, from, n);

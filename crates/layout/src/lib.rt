@@ -18,14 +18,20 @@ const VERSION: u16 = 1;
 
 // Where the header's numbers stand: field offsets.
 const VERSION_AT: usize = 3;
+
 const BUFFERS_AT: usize = 5;
+
 const PIECES_AT: usize = 7;
+
 const SLIPS_AT: usize = 9;
 
 // The bytes of the header, of a slip's entry, of a piece's and of a buffer's count: record sizes.
 pub const HEADER: usize = 11;
+
 const SLIP_WIDTH: usize = 2;
+
 const PIECE_WIDTH: usize = 10;
+
 const COUNT_WIDTH: usize = 2;
 
 // The counts of a pool, its table sizes: buffers, pieces and slips.
@@ -94,7 +100,8 @@ pub fn pool_length(shape: Shape) -> usize
 
 // Whether the counts are within their limits and both lengths are the ones they ask.
 pub fn sized(shape: Shape, pool: usize, storage: usize) -> bool
-    ensures { λ r. ⌜ r ≡ (countsOk (shape .buffers) (shape .pieces) (shape .slips) && lengthsOk (shape .buffers) (shape .pieces) (shape .slips) pool storage) ⌝ }
+    ensures { λ r. ⌜ r
+        ≡ (countsOk (shape .buffers) (shape .pieces) (shape .slips) && lengthsOk (shape .buffers) (shape .pieces) (shape .slips) pool storage) ⌝ }
 {
     if !BufferNumber::counted(shape.buffers) {
         return false;
@@ -125,7 +132,8 @@ fn write_mark(pool: &mut [u8])
 // Writes the counts behind the version: a header store.
 fn write_counts(pool: &mut [u8], shape: Shape)
     requires { ⌜ headerLength ≤ length (now pool) ⌝ }
-    ensures { λ _. ⌜ now (pool .exit) ≡ take buffersAt (now (pool .entry)) ++ (bytes16 (shape .buffers ∷ shape .pieces ∷ shape .slips ∷ []) ++ drop headerLength (now (pool .entry))) ⌝ }
+    ensures { λ _. ⌜ now (pool .exit)
+        ≡ take buffersAt (now (pool .entry)) ++ (bytes16 (shape .buffers ∷ shape .pieces ∷ shape .slips ∷ []) ++ drop headerLength (now (pool .entry))) ⌝ }
 {
     word::set16(pool, BUFFERS_AT, shape.buffers);
     word::set16(pool, PIECES_AT, shape.pieces);

@@ -98,7 +98,8 @@ pub fn write(pool: &[u8], shape: Shape, link: u16, n: usize, list: &mut [u32]) -
 // Writes the records of the chain of slip `s` to the front of `list`, two numbers each: position, then length.
 pub fn list(pool: &[u8], shape: Shape, s: SlipNumber, list: &mut [u32]) -> Outcome
     requires { ⌜ Opened (now pool) shape ⌝ }
-    ensures { λ r. ⌜ ((st : List ℕ) → resultOf r (now (pool .entry)) st (now (list .exit)) noView ≡ perform (WireList (s .0) (now (list .entry))) (lent (now (pool .entry)) st)) ⌝ }
+    ensures { λ r. ⌜ ((st : List ℕ) → resultOf r (now (pool .entry)) st (now (list .exit)) noView
+        ≡ perform (WireList (s .0) (now (list .entry))) (lent (now (pool .entry)) st)) ⌝ }
     ensures { λ r. ⌜ Leaves r (stateOf (slip (decode (now (pool .entry))) (s .0))) ⌝ }
 {
     let b = begin(pool, shape, s, list.len() / 2);

@@ -72,7 +72,8 @@ pub fn read(
     output: &mut [u8],
 ) -> Outcome
     requires { ⌜ Opened (now pool) shape × (length (now storage) ≡ storageLength (shape .buffers)) ⌝ }
-    ensures { λ r. ⌜ resultOf r (now (pool .entry)) (now (storage .entry)) (now (output .exit)) noView ≡ perform (Read (s .0) off n (now (output .entry))) (lent (now (pool .entry)) (now (storage .entry))) ⌝ }
+    ensures { λ r. ⌜ resultOf r (now (pool .entry)) (now (storage .entry)) (now (output .exit)) noView
+        ≡ perform (Read (s .0) off n (now (output .entry))) (lent (now (pool .entry)) (now (storage .entry))) ⌝ }
     ensures { λ r. ⌜ Leaves r (stateOf (slip (decode (now (pool .entry))) (s .0))) ⌝ }
 {
     if !chain::held(pool, shape, s) {

@@ -32,7 +32,8 @@ fn scattered(pool: &[u8], shape: Shape, link: u16) -> bool
     tables::piece_next(pool, shape, PieceNumber(link - 1)) != 0
 }
 
-// Puts the bytes of the chain of slip `s` into fresh pieces on fresh buffers, each full but the last, under the same slip; a chain of at most one piece stays: a chain compacted.
+// Puts the bytes of the chain of slip `s` into fresh pieces on fresh buffers, each full but the
+// last, under the same slip; a chain of at most one piece stays: a chain compacted.
 pub fn pack(pool: &mut [u8], shape: Shape, storage: &mut [u8], s: SlipNumber) -> Outcome
     requires { ⌜ Opened (now pool) shape × (length (now storage) ≡ storageLength (shape .buffers)) ⌝ }
     ensures { λ r. ⌜ resultOf r (now (pool .exit)) (now (storage .exit)) [] noView ≡ perform (Pack (s .0)) (lent (now (pool .entry)) (now (storage .entry))) ⌝ }

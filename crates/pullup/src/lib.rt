@@ -31,15 +31,18 @@ ghost use Rattle.pullup.specs.Pull.{pulledFrom, Pullable, Pulled};
 fn make_first(pool: &mut [u8], shape: Shape, at: Spot, f: u16, b: BufferNumber, n: u16) -> u16
     requires { ⌜ Opened (now pool) shape × Is (linkOk (decode (now pool)) (at .link)) × (b .0 < shape .buffers) ⌝ }
     requires { ⌜ ((at .link ≡ 0 → ⊥) → at .into < piece (decode (now pool)) (at .link - 1) .len) ⌝ }
-    requires { ⌜ (length (restFrom (decode (now pool)) (at .own) (at .link) (at .into) .more) < length (freePieces (decode (now pool)))) × (f ≡ firstFrom (isFree (decode (now pool))) 0 (pieceTotal (decode (now pool)))) ⌝ }
-    ensures { λ r. ⌜ Holds (now (pool .exit)) shape (made (pulledFrom (decode (now (pool .entry))) at (b .0) n) (freePieces (decode (now (pool .entry))))) × (r ≡ madeLink (pulledFrom (decode (now (pool .entry))) at (b .0) n) (freePieces (decode (now (pool .entry))))) ⌝ }
+    requires { ⌜ (length (restFrom (decode (now pool)) (at .own) (at .link) (at .into) .more) < length (freePieces (decode (now pool))))
+        × (f ≡ firstFrom (isFree (decode (now pool))) 0 (pieceTotal (decode (now pool)))) ⌝ }
+    ensures { λ r. ⌜ Holds (now (pool .exit)) shape (made (pulledFrom (decode (now (pool .entry))) at (b .0) n) (freePieces (decode (now (pool .entry)))))
+        × (r ≡ madeLink (pulledFrom (decode (now (pool .entry))) at (b .0) n) (freePieces (decode (now (pool .entry))))) ⌝ }
 {
     let rest = rest::settle(pool, shape, at.link, at.into, at.own, f + 1);
     build::take_piece(pool, shape, PieceNumber(f), b, 0, n, rest);
     f + 1
 }
 
-// Copies the first `n` bytes of the chain of slip `s`, which starts at `head`, to buffer `b`, and puts a piece for them in their place: a gather into a new head segment.
+// Copies the first `n` bytes of the chain of slip `s`, which starts at `head`, to buffer `b`,
+// and puts a piece for them in their place: a gather into a new head segment.
 fn pull(
     pool: &mut [u8],
     shape: Shape,
@@ -63,7 +66,8 @@ fn pull(
 // Brings the first `n` bytes of the chain of slip `s` into one piece; they are copied only where the first piece has fewer: m_pullup of a handle's chain.
 pub fn pullup(pool: &mut [u8], shape: Shape, storage: &mut [u8], s: SlipNumber, n: u32) -> Outcome
     requires { ⌜ Opened (now pool) shape × (length (now storage) ≡ storageLength (shape .buffers)) ⌝ }
-    ensures { λ r. ⌜ resultOf r (now (pool .exit)) (now (storage .exit)) [] noView ≡ perform (Pullup (s .0) n) (lent (now (pool .entry)) (now (storage .entry))) ⌝ }
+    ensures { λ r. ⌜ resultOf r (now (pool .exit)) (now (storage .exit)) [] noView
+        ≡ perform (Pullup (s .0) n) (lent (now (pool .entry)) (now (storage .entry))) ⌝ }
     ensures { λ r. ⌜ Leaves r (stateOf (slip (decode (now (pool .exit))) (s .0))) ⌝ }
 {
     if !chain::held(pool, shape, s) {

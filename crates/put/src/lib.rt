@@ -20,7 +20,8 @@ ghost use Rattle.answer.specs.Result.{resultOf, Leaves};
 // Puts `input` into fresh pieces on fresh buffers, each full but the last, under a new slip: a chain made from bytes.
 pub fn put(pool: &mut [u8], shape: Shape, storage: &mut [u8], input: &[u8]) -> Outcome
     requires { ⌜ Opened (now pool) shape × (length (now storage) ≡ storageLength (shape .buffers)) ⌝ }
-    ensures { λ r. ⌜ resultOf r (now (pool .exit)) (now (storage .exit)) [] noView ≡ perform (Put (now (input .entry))) (lent (now (pool .entry)) (now (storage .entry))) ⌝ }
+    ensures { λ r. ⌜ resultOf r (now (pool .exit)) (now (storage .exit)) [] noView
+        ≡ perform (Put (now (input .entry))) (lent (now (pool .entry)) (now (storage .entry))) ⌝ }
     ensures { λ r. ⌜ Leaves r (stateOf (slip (decode (now (pool .exit))) (numberOf r))) ⌝ }
 {
     let t = room::next_vacant(pool, shape, 0);

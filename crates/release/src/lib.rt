@@ -54,7 +54,8 @@ pub fn turn(pool: &mut [u8], shape: Shape, s: SlipNumber, v: u16)
 
 // Piece `l` takes the next `n`, and its old next is released: a tail put in another's place.
 pub fn relink(pool: &mut [u8], shape: Shape, l: PieceNumber, n: u16)
-    requires { ⌜ Shaped (now pool) shape × (l .0 < shape .pieces) × Releasable (setPiece (decode (now pool)) (l .0) (withNext (piece (decode (now pool)) (l .0)) n)) (piece (decode (now pool)) (l .0) .next) ⌝ }
+    requires { ⌜ Shaped (now pool) shape × (l .0 < shape .pieces)
+        × Releasable (setPiece (decode (now pool)) (l .0) (withNext (piece (decode (now pool)) (l .0)) n)) (piece (decode (now pool)) (l .0) .next) ⌝ }
     ensures { λ _. ⌜ Holds (now (pool .exit)) shape (relinkedTo (decode (now (pool .entry))) (l .0) n) ⌝ }
 {
     let old = tables::piece_next(pool, shape, l);
@@ -62,7 +63,8 @@ pub fn relink(pool: &mut [u8], shape: Shape, l: PieceNumber, n: u16)
     release(pool, shape, old);
 }
 
-// The link `n` goes behind the piece that `last` leads to, or under slip `s` where that is 0, and what stood there is released: a tail put behind a run of own pieces.
+// The link `n` goes behind the piece that `last` leads to, or under slip `s` where that is 0,
+// and what stood there is released: a tail put behind a run of own pieces.
 pub fn hang(pool: &mut [u8], shape: Shape, s: SlipNumber, last: u16, n: u16)
     requires { ⌜ Shaped (now pool) shape × (s .0 < shape .slips) × (last ≤ shape .pieces) × (n < 65535) × Hangable (decode (now pool)) last n ⌝ }
     ensures { λ _. ⌜ Holds (now (pool .exit)) shape (hungTo (decode (now (pool .entry))) (s .0) last n) ⌝ }

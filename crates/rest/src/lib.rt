@@ -23,7 +23,8 @@ ghost use Rattle.build.specs.Clone.{Copyable};
 fn shorten(pool: &mut [u8], shape: Shape, d: PieceNumber, n: u16)
     requires { ⌜ Shaped (now pool) shape × (d .0 < shape .pieces) × (piece (decode (now pool)) (d .0) .count < 65535) ⌝ }
     requires { ⌜ (n ≤ piece (decode (now pool)) (d .0) .len) × (piece (decode (now pool)) (d .0) .offset + n < 65536) ⌝ }
-    ensures { λ _. ⌜ Holds (now (pool .exit)) shape (setPiece (raised (decode (now (pool .entry))) (d .0)) (d .0) (shorter (piece (raised (decode (now (pool .entry))) (d .0)) (d .0)) n)) ⌝ }
+    ensures { λ _. ⌜ Holds (now (pool .exit)) shape
+        (setPiece (raised (decode (now (pool .entry))) (d .0)) (d .0) (shorter (piece (raised (decode (now (pool .entry))) (d .0)) (d .0)) n)) ⌝ }
 {
     let count = tables::piece_count(pool, shape, d);
     let offset = tables::piece_offset(pool, shape, d);
@@ -32,10 +33,14 @@ fn shorten(pool: &mut [u8], shape: Shape, d: PieceNumber, n: u16)
     tables::set_piece_place(pool, shape, d, offset + n, length - n);
 }
 
-// The free piece `f` becomes what piece `d` has from its byte `n` on, before the same next, to which there is one reference more: a descriptor cloned and trimmed.
+// The free piece `f` becomes what piece `d` has from its byte `n` on, before the same next,
+// to which there is one reference more: a descriptor cloned and trimmed.
 pub fn clone_rest(pool: &mut [u8], shape: Shape, d: PieceNumber, n: u16, f: PieceNumber)
-    requires { ⌜ Shaped (now pool) shape × (f .0 < shape .pieces) × Copyable (decode (now pool)) (d .0) n × Sharable (decode (now pool)) (piece (decode (now pool)) (d .0) .next) ⌝ }
-    ensures { λ _. ⌜ Holds (now (pool .exit)) shape (taken (shared (decode (now (pool .entry))) (piece (decode (now (pool .entry))) (d .0) .next)) (f .0) (fresh (stretch (shorter (piece (decode (now (pool .entry))) (d .0)) n)) (piece (decode (now (pool .entry))) (d .0) .next))) ⌝ }
+    requires { ⌜ Shaped (now pool) shape × (f .0 < shape .pieces) × Copyable (decode (now pool)) (d .0) n
+        × Sharable (decode (now pool)) (piece (decode (now pool)) (d .0) .next) ⌝ }
+    ensures { λ _. ⌜ Holds (now (pool .exit)) shape
+        (taken (shared (decode (now (pool .entry))) (piece (decode (now (pool .entry))) (d .0) .next)) (f .0)
+        (fresh (stretch (shorter (piece (decode (now (pool .entry))) (d .0)) n)) (piece (decode (now (pool .entry))) (d .0) .next))) ⌝ }
 {
     let buffer = tables::piece_buffer(pool, shape, d);
     let offset = tables::piece_offset(pool, shape, d);
@@ -61,12 +66,18 @@ pub fn wanted(link: u16, into: u32, own: bool) -> u16
     1
 }
 
-// Makes what stays from `into` bytes into the piece that `link` leads to, with the lowest free piece from `from` on where a new one is needed; answers the link to it: a head trimmed in place or copied.
+// Makes what stays from `into` bytes into the piece that `link` leads to, with the lowest free piece from `from`
+// on where a new one is needed; answers the link to it: a head trimmed in place or copied.
 pub fn settle(pool: &mut [u8], shape: Shape, link: u16, into: u32, own: bool, from: u16) -> u16
     requires { ⌜ Opened (now pool) shape × Is (linkOk (decode (now pool)) link) ⌝ }
     requires { ⌜ ((link ≡ 0 → ⊥) → into < piece (decode (now pool)) (link - 1) .len) ⌝ }
-    requires { ⌜ length (restFrom (decode (now pool)) own link into .more) ≤ length (places (isFree (decode (now pool))) from (pieceTotal (decode (now pool)) - from)) ⌝ }
-    ensures { λ r. ⌜ Holds (now (pool .exit)) shape (made (restFrom (decode (now (pool .entry))) own link into) (places (isFree (decode (now (pool .entry)))) from (pieceTotal (decode (now (pool .entry))) - from))) × (r ≡ madeLink (restFrom (decode (now (pool .entry))) own link into) (places (isFree (decode (now (pool .entry)))) from (pieceTotal (decode (now (pool .entry))) - from))) ⌝ }
+    requires { ⌜ length (restFrom (decode (now pool)) own link into .more) ≤ length
+        (places (isFree (decode (now pool))) from (pieceTotal (decode (now pool)) - from)) ⌝ }
+    ensures { λ r. ⌜ Holds (now (pool .exit)) shape
+        (made (restFrom (decode (now (pool .entry))) own link into)
+        (places (isFree (decode (now (pool .entry)))) from (pieceTotal (decode (now (pool .entry))) - from)))
+        × (r ≡ madeLink (restFrom (decode (now (pool .entry))) own link into)
+        (places (isFree (decode (now (pool .entry)))) from (pieceTotal (decode (now (pool .entry))) - from))) ⌝ }
 {
     if link == 0 {
         return 0;

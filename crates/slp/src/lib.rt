@@ -23,7 +23,8 @@ pub extern "C" fn slp_open(
     pieces: u16,
     slips: u16,
 ) -> Answer
-    ensures { λ r. ⌜ resultOf r (now (pool .exit)) (now (storage .entry)) [] noView ≡ step (Open buffers pieces slips) (lent (now (pool .entry)) (now (storage .entry))) ⌝ }
+    ensures { λ r. ⌜ resultOf r (now (pool .exit)) (now (storage .entry)) [] noView
+        ≡ step (Open buffers pieces slips) (lent (now (pool .entry)) (now (storage .entry))) ⌝ }
 {
     calls_open::open(pool, storage, buffers, pieces, slips)
 }
@@ -39,7 +40,8 @@ pub extern "C" fn slp_audit(pool: &[u8], storage: &[u8]) -> Answer
 // put: bytes into fresh buffers, under a new slip.
 #[no_mangle]
 pub extern "C" fn slp_put(pool: &mut [u8], storage: &mut [u8], input: &[u8]) -> Answer
-    ensures { λ r. ⌜ resultOf r (now (pool .exit)) (now (storage .exit)) [] noView ≡ step (Do (Put (now (input .entry)))) (lent (now (pool .entry)) (now (storage .entry))) ⌝ }
+    ensures { λ r. ⌜ resultOf r (now (pool .exit)) (now (storage .exit)) [] noView
+        ≡ step (Do (Put (now (input .entry)))) (lent (now (pool .entry)) (now (storage .entry))) ⌝ }
 {
     calls_new::put(pool, storage, input)
 }
@@ -47,7 +49,8 @@ pub extern "C" fn slp_put(pool: &mut [u8], storage: &mut [u8], input: &[u8]) -> 
 // free: a slip gives up its chain.
 #[no_mangle]
 pub extern "C" fn slp_free(pool: &mut [u8], storage: &[u8], slip: u16) -> Answer
-    ensures { λ r. ⌜ resultOf r (now (pool .exit)) (now (storage .entry)) [] noView ≡ step (Do (Free slip)) (lent (now (pool .entry)) (now (storage .entry))) ⌝ }
+    ensures { λ r. ⌜ resultOf r (now (pool .exit)) (now (storage .entry)) [] noView
+        ≡ step (Do (Free slip)) (lent (now (pool .entry)) (now (storage .entry))) ⌝ }
 {
     calls_change::free(pool, storage, slip)
 }
@@ -69,7 +72,8 @@ pub extern "C" fn slp_cut(
     offset: u32,
     length: u32,
 ) -> Answer
-    ensures { λ r. ⌜ resultOf r (now (pool .exit)) (now (storage .entry)) [] noView ≡ step (Do (Cut slip offset length)) (lent (now (pool .entry)) (now (storage .entry))) ⌝ }
+    ensures { λ r. ⌜ resultOf r (now (pool .exit)) (now (storage .entry)) [] noView
+        ≡ step (Do (Cut slip offset length)) (lent (now (pool .entry)) (now (storage .entry))) ⌝ }
 {
     calls_new::cut(pool, storage, slip, offset, length)
 }
@@ -77,7 +81,8 @@ pub extern "C" fn slp_cut(
 // append: one chain behind another.
 #[no_mangle]
 pub extern "C" fn slp_append(pool: &mut [u8], storage: &[u8], a: u16, b: u16) -> Answer
-    ensures { λ r. ⌜ resultOf r (now (pool .exit)) (now (storage .entry)) [] noView ≡ step (Do (Append a b)) (lent (now (pool .entry)) (now (storage .entry))) ⌝ }
+    ensures { λ r. ⌜ resultOf r (now (pool .exit)) (now (storage .entry)) [] noView
+        ≡ step (Do (Append a b)) (lent (now (pool .entry)) (now (storage .entry))) ⌝ }
 {
     calls_change::append(pool, storage, a, b)
 }
@@ -85,7 +90,8 @@ pub extern "C" fn slp_append(pool: &mut [u8], storage: &[u8], a: u16, b: u16) ->
 // drop: the first bytes of a chain go.
 #[no_mangle]
 pub extern "C" fn slp_drop(pool: &mut [u8], storage: &[u8], slip: u16, n: u32) -> Answer
-    ensures { λ r. ⌜ resultOf r (now (pool .exit)) (now (storage .entry)) [] noView ≡ step (Do (Drop slip n)) (lent (now (pool .entry)) (now (storage .entry))) ⌝ }
+    ensures { λ r. ⌜ resultOf r (now (pool .exit)) (now (storage .entry)) [] noView
+        ≡ step (Do (Drop slip n)) (lent (now (pool .entry)) (now (storage .entry))) ⌝ }
 {
     calls_change::drop(pool, storage, slip, n)
 }
@@ -93,7 +99,8 @@ pub extern "C" fn slp_drop(pool: &mut [u8], storage: &[u8], slip: u16, n: u32) -
 // keep: the first bytes of a chain stay.
 #[no_mangle]
 pub extern "C" fn slp_keep(pool: &mut [u8], storage: &[u8], slip: u16, n: u32) -> Answer
-    ensures { λ r. ⌜ resultOf r (now (pool .exit)) (now (storage .entry)) [] noView ≡ step (Do (Keep slip n)) (lent (now (pool .entry)) (now (storage .entry))) ⌝ }
+    ensures { λ r. ⌜ resultOf r (now (pool .exit)) (now (storage .entry)) [] noView
+        ≡ step (Do (Keep slip n)) (lent (now (pool .entry)) (now (storage .entry))) ⌝ }
 {
     calls_change::keep(pool, storage, slip, n)
 }
@@ -101,7 +108,8 @@ pub extern "C" fn slp_keep(pool: &mut [u8], storage: &[u8], slip: u16, n: u32) -
 // pullup: the first bytes of a chain in one piece.
 #[no_mangle]
 pub extern "C" fn slp_pullup(pool: &mut [u8], storage: &mut [u8], slip: u16, n: u32) -> Answer
-    ensures { λ r. ⌜ resultOf r (now (pool .exit)) (now (storage .exit)) [] noView ≡ step (Do (Pullup slip n)) (lent (now (pool .entry)) (now (storage .entry))) ⌝ }
+    ensures { λ r. ⌜ resultOf r (now (pool .exit)) (now (storage .exit)) [] noView
+        ≡ step (Do (Pullup slip n)) (lent (now (pool .entry)) (now (storage .entry))) ⌝ }
 {
     calls_store::pullup(pool, storage, slip, n)
 }
@@ -117,7 +125,8 @@ pub extern "C" fn slp_pack(pool: &mut [u8], storage: &mut [u8], slip: u16) -> An
 // length: the byte count of a chain.
 #[no_mangle]
 pub extern "C" fn slp_length(pool: &[u8], storage: &[u8], slip: u16) -> Answer
-    ensures { λ r. ⌜ resultOf r (now (pool .entry)) (now (storage .entry)) [] noView ≡ step (Do (Length slip)) (lent (now (pool .entry)) (now (storage .entry))) ⌝ }
+    ensures { λ r. ⌜ resultOf r (now (pool .entry)) (now (storage .entry)) [] noView
+        ≡ step (Do (Length slip)) (lent (now (pool .entry)) (now (storage .entry))) ⌝ }
 {
     calls_look::length(pool, storage, slip)
 }
@@ -132,7 +141,8 @@ pub extern "C" fn slp_read(
     length: u32,
     output: &mut [u8],
 ) -> Answer
-    ensures { λ r. ⌜ resultOf r (now (pool .entry)) (now (storage .entry)) (now (output .exit)) noView ≡ step (Do (Read slip offset length (now (output .entry)))) (lent (now (pool .entry)) (now (storage .entry))) ⌝ }
+    ensures { λ r. ⌜ resultOf r (now (pool .entry)) (now (storage .entry)) (now (output .exit)) noView
+        ≡ step (Do (Read slip offset length (now (output .entry)))) (lent (now (pool .entry)) (now (storage .entry))) ⌝ }
 {
     calls_look::read(pool, storage, slip, offset, length, output)
 }
@@ -146,7 +156,8 @@ pub extern "C" fn slp_show(
     n: u32,
     scratch: &mut [u8],
 ) -> Shown
-    ensures { λ r. ⌜ shownOf r (now (pool .entry)) (now (storage .entry)) (now (scratch .exit)) ≡ step (Do (Show slip n (now (scratch .entry)))) (lent (now (pool .entry)) (now (storage .entry))) ⌝ }
+    ensures { λ r. ⌜ shownOf r (now (pool .entry)) (now (storage .entry)) (now (scratch .exit))
+        ≡ step (Do (Show slip n (now (scratch .entry)))) (lent (now (pool .entry)) (now (storage .entry))) ⌝ }
 {
     calls_look::show(pool, storage, slip, n, scratch)
 }
@@ -154,7 +165,8 @@ pub extern "C" fn slp_show(
 // list: where the pieces of a chain lie in storage, two numbers each, to the front of a lent list.
 #[no_mangle]
 pub extern "C" fn slp_list(pool: &[u8], storage: &[u8], slip: u16, list: &mut [u32]) -> Answer
-    ensures { λ r. ⌜ resultOf r (now (pool .entry)) (now (storage .entry)) (now (list .exit)) noView ≡ step (Do (WireList slip (now (list .entry)))) (lent (now (pool .entry)) (now (storage .entry))) ⌝ }
+    ensures { λ r. ⌜ resultOf r (now (pool .entry)) (now (storage .entry)) (now (list .exit)) noView
+        ≡ step (Do (WireList slip (now (list .entry)))) (lent (now (pool .entry)) (now (storage .entry))) ⌝ }
 {
     calls_look::list(pool, storage, slip, list)
 }
@@ -175,7 +187,8 @@ pub extern "C" fn slp_stretches(
     slip: u16,
     list: &mut [Stretch],
 ) -> Answer
-    ensures { λ r. ⌜ resultOf r (now (pool .entry)) (now (storage .entry)) (numbers (now (list .exit))) noView ≡ step (Do (WireList slip (numbers (now (list .entry))))) (lent (now (pool .entry)) (now (storage .entry))) ⌝ }
+    ensures { λ r. ⌜ resultOf r (now (pool .entry)) (now (storage .entry)) (numbers (now (list .exit))) noView
+        ≡ step (Do (WireList slip (numbers (now (list .entry))))) (lent (now (pool .entry)) (now (storage .entry))) ⌝ }
 {
     let b = calls_look::begin(pool, storage, slip, list.len());
     let shape = b.shape;

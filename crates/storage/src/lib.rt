@@ -57,7 +57,8 @@ pub fn fill_buffer(storage: &mut [u8], b: BufferNumber, input: &[u8])
     fill(&mut storage[start..end], input);
 }
 
-// Copies the `n` bytes of `src` from `from` on over those of `dst` from `at` on, at most a buffer's, by way of a local array, of which the compiler makes one memmove.
+// Copies the `n` bytes of `src` from `from` on over those of `dst` from `at` on, at most a
+// buffer's, by way of a local array, of which the compiler makes one memmove.
 pub fn copy_part(dst: &mut [u8], at: usize, src: &[u8], from: usize, n: usize)
     requires { ⌜ (at + n ≤ length (now dst)) × (from + n ≤ length (now src)) × (n ≤ bufferSize) ⌝ }
     ensures { λ _. ⌜ now (dst .exit) ≡ take at (now (dst .entry)) ++ (take n (drop from (now (src .entry))) ++ drop (at + n) (now (dst .entry))) ⌝ }
@@ -69,10 +70,13 @@ pub fn copy_part(dst: &mut [u8], at: usize, src: &[u8], from: usize, n: usize)
     copy(&mut dst[at..end], &block[..n]);
 }
 
-// Sets the bytes of buffer `b` from `at` on to the `n` bytes of storage from `from` on, by way of a local array, as copy_part: only the buffer's stretch is lent to be written (a cluster write from another).
+// Sets the bytes of buffer `b` from `at` on to the `n` bytes of storage from `from` on, by way of a local array,
+// as copy_part: only the buffer's stretch is lent to be written (a cluster write from another).
 pub fn fill_part(storage: &mut [u8], b: BufferNumber, at: usize, from: usize, n: usize)
     requires { ⌜ (startOf (b .0) + sizeOf (b .0) ≤ length (now storage)) × (at + n ≤ sizeOf (b .0)) × (from + n ≤ length (now storage)) ⌝ }
-    ensures { λ _. ⌜ now (storage .exit) ≡ take (startOf (b .0) + at) (now (storage .entry)) ++ (take n (drop from (now (storage .entry))) ++ drop (startOf (b .0) + at + n) (now (storage .entry))) ⌝ }
+    ensures { λ _. ⌜ now (storage .exit)
+        ≡ take (startOf (b .0) + at) (now (storage .entry))
+        ++ (take n (drop from (now (storage .entry))) ++ drop (startOf (b .0) + at + n) (now (storage .entry))) ⌝ }
 {
     let start = b.start();
     let end = start + SIZE;
@@ -84,7 +88,9 @@ pub fn fill_part(storage: &mut [u8], b: BufferNumber, at: usize, from: usize, n:
 // Sets the bytes of buffer `b` from `n` on to zero: only its stretch is lent (the rest of a cluster cleared).
 pub fn fill_rest(storage: &mut [u8], b: BufferNumber, n: usize)
     requires { ⌜ (startOf (b .0) + sizeOf (b .0) ≤ length (now storage)) × (n ≤ sizeOf (b .0)) ⌝ }
-    ensures { λ _. ⌜ now (storage .exit) ≡ take (startOf (b .0) + n) (now (storage .entry)) ++ (replicate (sizeOf (b .0) - n) 0 ++ drop (startOf (b .0) + sizeOf (b .0)) (now (storage .entry))) ⌝ }
+    ensures { λ _. ⌜ now (storage .exit)
+        ≡ take (startOf (b .0) + n) (now (storage .entry))
+        ++ (replicate (sizeOf (b .0) - n) 0 ++ drop (startOf (b .0) + sizeOf (b .0)) (now (storage .entry))) ⌝ }
 {
     let start = b.start();
     let from = start + n;

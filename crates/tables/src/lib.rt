@@ -104,7 +104,8 @@ pub fn set_piece_next(pool: &mut [u8], shape: Shape, d: PieceNumber, n: u16)
 // Sets the offset and the length of piece `d`: its data window.
 pub fn set_piece_place(pool: &mut [u8], shape: Shape, d: PieceNumber, offset: u16, length: u16)
     requires { ⌜ Shaped (now pool) shape × (d .0 < shape .pieces) ⌝ }
-    ensures { λ _. ⌜ Holds (now (pool .exit)) shape (setPiece (decode (now (pool .entry))) (d .0) (withPlace (piece (decode (now (pool .entry))) (d .0)) offset length)) ⌝ }
+    ensures { λ _. ⌜ Holds (now (pool .exit)) shape
+        (setPiece (decode (now (pool .entry))) (d .0) (withPlace (piece (decode (now (pool .entry))) (d .0)) offset length)) ⌝ }
 {
     let at = layout::piece_at(shape, d);
     word::set16(pool, at + 4, offset);
@@ -114,7 +115,8 @@ pub fn set_piece_place(pool: &mut [u8], shape: Shape, d: PieceNumber, offset: u1
 // Sets the count and the buffer of piece `d`: its reference count and its cluster.
 fn set_piece_base(pool: &mut [u8], shape: Shape, d: PieceNumber, count: u16, buffer: BufferNumber)
     requires { ⌜ Shaped (now pool) shape × (d .0 < shape .pieces) ⌝ }
-    ensures { λ _. ⌜ Holds (now (pool .exit)) shape (setPiece (decode (now (pool .entry))) (d .0) (withBase (piece (decode (now (pool .entry))) (d .0)) count (buffer .0))) ⌝ }
+    ensures { λ _. ⌜ Holds (now (pool .exit)) shape
+        (setPiece (decode (now (pool .entry))) (d .0) (withBase (piece (decode (now (pool .entry))) (d .0)) count (buffer .0))) ⌝ }
 {
     let at = layout::piece_at(shape, d);
     word::set16(pool, at, count);
@@ -133,7 +135,8 @@ pub fn set_piece(
     next: u16,
 )
     requires { ⌜ Shaped (now pool) shape × (d .0 < shape .pieces) ⌝ }
-    ensures { λ _. ⌜ Holds (now (pool .exit)) shape (setPiece (decode (now (pool .entry))) (d .0) (record { count = count; buffer = buffer .0; offset = offset; len = length; next = next })) ⌝ }
+    ensures { λ _. ⌜ Holds (now (pool .exit)) shape
+        (setPiece (decode (now (pool .entry))) (d .0) (record { count = count; buffer = buffer .0; offset = offset; len = length; next = next })) ⌝ }
 {
     set_piece_base(pool, shape, d, count, buffer);
     set_piece_place(pool, shape, d, offset, length);

@@ -103,7 +103,8 @@ pub fn gather(
     requires { ⌜ Opened (now pool) shape × Is (linkOk (decode (now pool)) (c .link)) × InPiece (decode (now pool)) c ⌝ }
     requires { ⌜ length (now storage) ≡ storageLength (shape .buffers) ⌝ }
     requires { ⌜ (c .into + n ≤ total (stretchesFrom (decode (now pool)) (c .link))) × (n ≤ length (now output)) ⌝ }
-    ensures { λ _. ⌜ now (output .exit) ≡ copied (take n (drop (c .into) (contents (now (storage .entry)) (stretchesFrom (decode (now (pool .entry))) (c .link))))) (now (output .entry)) ⌝ }
+    ensures { λ _. ⌜ now (output .exit)
+        ≡ copied (take n (drop (c .into) (contents (now (storage .entry)) (stretchesFrom (decode (now (pool .entry))) (c .link))))) (now (output .entry)) ⌝ }
     ensures { λ r. ⌜ r ≡ behind (decode (now (pool .entry))) c n ⌝ }
 {
     let mut g = c;
@@ -135,7 +136,8 @@ pub fn fill_free(pool: &[u8], shape: Shape, storage: &mut [u8], input: &[u8], bu
     requires { ⌜ Shaped (now pool) shape × (length (now storage) ≡ storageLength (shape .buffers)) ⌝ }
     requires { ⌜ buffersFor (length (now input)) ≤ length (freeBuffers (decode (now pool))) ⌝ }
     requires { ⌜ buffer ≡ lowestFor (isUnheld (decode (now pool))) (buffersFor (length (now input))) (bufferTotal (decode (now pool))) ⌝ }
-    ensures { λ _. ⌜ now (storage .exit) ≡ stored (now (storage .entry)) (newBuffers (decode (now (pool .entry))) (buffersFor (length (now (input .entry))))) (now (input .entry)) ⌝ }
+    ensures { λ _. ⌜ now (storage .exit)
+        ≡ stored (now (storage .entry)) (newBuffers (decode (now (pool .entry))) (buffersFor (length (now (input .entry))))) (now (input .entry)) ⌝ }
 {
     let mut at = 0;
     let mut from = buffer;
@@ -148,7 +150,8 @@ pub fn fill_free(pool: &[u8], shape: Shape, storage: &mut [u8], input: &[u8], bu
     }
 }
 
-// Fills the free buffer `b` with the `n` bytes of a chain from the place `c` on, one piece after another, and then zeros; answers the place behind them: one cluster of a gather.
+// Fills the free buffer `b` with the `n` bytes of a chain from the place `c` on, one piece after
+// another, and then zeros; answers the place behind them: one cluster of a gather.
 fn refill_buffer(
     pool: &[u8],
     shape: Shape,
@@ -160,7 +163,9 @@ fn refill_buffer(
     requires { ⌜ Opened (now pool) shape × Is (linkOk (decode (now pool)) (c .link)) × InPiece (decode (now pool)) c ⌝ }
     requires { ⌜ (length (now storage) ≡ storageLength (shape .buffers)) × (b .0 < shape .buffers) × Is (isUnheld (decode (now pool)) (b .0)) ⌝ }
     requires { ⌜ (c .into + n ≤ total (stretchesFrom (decode (now pool)) (c .link))) × (n ≤ bufferSize) ⌝ }
-    ensures { λ _. ⌜ now (storage .exit) ≡ filled (now (storage .entry)) (b .0) (take n (drop (c .into) (contents (now (storage .entry)) (stretchesFrom (decode (now (pool .entry))) (c .link))))) ⌝ }
+    ensures { λ _. ⌜ now (storage .exit)
+        ≡ filled (now (storage .entry)) (b .0)
+        (take n (drop (c .into) (contents (now (storage .entry)) (stretchesFrom (decode (now (pool .entry))) (c .link))))) ⌝ }
     ensures { λ r. ⌜ r ≡ behind (decode (now (pool .entry))) c n ⌝ }
 {
     let mut g = c;
@@ -177,13 +182,16 @@ fn refill_buffer(
     g
 }
 
-// Fills the lowest free buffers, from `buffer` on, with the first `n` bytes of the chain from `link`, in order, and the rest of the last with zeros: a gather into fresh clusters.
+// Fills the lowest free buffers, from `buffer` on, with the first `n` bytes of the chain from
+// `link`, in order, and the rest of the last with zeros: a gather into fresh clusters.
 pub fn refill(pool: &[u8], shape: Shape, storage: &mut [u8], link: u16, n: u32, buffer: u16)
     requires { ⌜ Opened (now pool) shape × Is (linkOk (decode (now pool)) link) ⌝ }
     requires { ⌜ (length (now storage) ≡ storageLength (shape .buffers)) × (n ≤ total (stretchesFrom (decode (now pool)) link)) ⌝ }
     requires { ⌜ buffersFor n ≤ length (freeBuffers (decode (now pool))) ⌝ }
     requires { ⌜ buffer ≡ lowestFor (isUnheld (decode (now pool))) (buffersFor n) (bufferTotal (decode (now pool))) ⌝ }
-    ensures { λ _. ⌜ now (storage .exit) ≡ stored (now (storage .entry)) (newBuffers (decode (now (pool .entry))) (buffersFor n)) (take n (contents (now (storage .entry)) (stretchesFrom (decode (now (pool .entry))) link))) ⌝ }
+    ensures { λ _. ⌜ now (storage .exit)
+        ≡ stored (now (storage .entry)) (newBuffers (decode (now (pool .entry))) (buffersFor n))
+        (take n (contents (now (storage .entry)) (stretchesFrom (decode (now (pool .entry))) link))) ⌝ }
 {
     let mut c = Cursor {
         link: link,
