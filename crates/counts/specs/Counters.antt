@@ -11,7 +11,6 @@ use Rattle.rules.specs.Tables.{Piece, Tables, piece, headOf}
 use Rattle.rules.specs.Sound.{inUse, leads, heads, nexts, lying}
 use Rattle.layout.specs.declared.Shape.{Shape}
 use Rattle.tables.specs.Shape.{Shaped}
-use Rattle.counts.specs.declared.Entry.{Entry}
 use Rattle.counts.specs.Ranges.{slipsInRange, piecesInRange}
 
 -- the pool p has the shape h, within the limits
@@ -20,10 +19,6 @@ pub record Limited (p : List ℕ) (h : Shape) : Type 0 where
   pub few-buffers : h .buffers ≤ mostBuffers
   pub few-pieces : h .pieces ≤ mostPieces
   pub few-slips : h .slips ≤ mostSlips
-
--- the piece of a loaded entry
-abbrev pub pieceOf : Entry → Piece
-pieceOf e = record { count = e .count; buffer = e .buffer .0; offset = e .offset; len = e .len; next = e .next }
 
 -- ---- counters
 

@@ -3,40 +3,22 @@ use kinds::BufferNumber;
 use kinds::PieceNumber;
 use kinds::SlipNumber;
 use layout::Shape;
+use tables::Entry;
 ghost use mathlib.Core.Path.{_≡_};
-ghost use Prim.Native.Nat.{pred, _+_, _<_, _≤_};
+ghost use Prim.Native.Nat.{_+_, _<_, _≤_};
 ghost use Rattle.kinds.specs.Limits.{mostPieces, mostBuffers};
-ghost use Rattle.rules.specs.Tables.{isBlank, piece};
+ghost use Rattle.rules.specs.Tables.{isBlank};
 ghost use Rattle.rules.specs.Bytes.{decode};
 ghost use Rattle.rules.specs.Sound.{heads, nexts, lying};
-ghost use Rattle.tables.specs.Shape.{Shaped};
+ghost use Rattle.tables.specs.Entry.{pieceOf};
 ghost use Rattle.counts.specs.Ranges.{usedInRange, pieceInRange, countsAgree, buffersAgree, referencesOk};
-ghost use Rattle.counts.specs.Counters.{Limited, pieceOf, zeros, tallied, lieOf, Room, Hold, SlipsCounted, PiecesCounted};
+ghost use Rattle.counts.specs.Counters.{Limited, zeros, tallied, lieOf, Room, Hold, SlipsCounted, PiecesCounted};
 
 // One counter for each piece that a pool may have.
 const PIECES: usize = PieceNumber::MOST as usize;
 
 // One counter for each buffer that a pool may have.
 const BUFFERS: usize = BufferNumber::MOST as usize;
-
-// The five numbers of a piece, loaded.
-pub struct Entry {
-    pub count: u16,
-    pub buffer: BufferNumber,
-    pub offset: u16,
-    pub len: u16,
-    pub next: u16,
-}
-
-// The link that a slip's entry holds.
-fn link_of(raw: u16) -> u16
-    ensures { λ r. ⌜ r ≡ pred raw ⌝ }
-{
-    if raw == 0 {
-        return 0;
-    }
-    raw - 1
-}
 
 // Counts one reference more to the piece that the link `n` leads to.
 fn count_link(refs: &mut [u16; PIECES], n: u16)
@@ -57,7 +39,7 @@ fn count_slips(pool: &[u8], shape: Shape, refs: &mut [u16; PIECES]) -> bool
 {
     let mut s: u16 = 0;
     while s < shape.slips {
-        let n = link_of(tables::slip(pool, shape, SlipNumber(s)));
+        let n = tables::link_of(tables::slip(pool, shape, SlipNumber(s)));
         if n > shape.pieces {
             return false;
         }
@@ -65,20 +47,6 @@ fn count_slips(pool: &[u8], shape: Shape, refs: &mut [u16; PIECES]) -> bool
         s += 1;
     }
     true
-}
-
-// The entry of piece `d`.
-pub fn entry_of(pool: &[u8], shape: Shape, d: PieceNumber) -> Entry
-    requires { ⌜ Shaped (now pool) shape × (d .0 < shape .pieces) ⌝ }
-    ensures { λ r. ⌜ pieceOf r ≡ piece (decode (now (pool .entry))) (d .0) ⌝ }
-{
-    Entry {
-        count: tables::piece_count(pool, shape, d),
-        buffer: tables::piece_buffer(pool, shape, d),
-        offset: tables::piece_offset(pool, shape, d),
-        len: tables::piece_length(pool, shape, d),
-        next: tables::piece_next(pool, shape, d),
-    }
 }
 
 // Whether an entry is all zero.
@@ -151,7 +119,7 @@ fn count_pieces(
 {
     let mut d: u16 = 0;
     while d < shape.pieces {
-        let e = entry_of(pool, shape, PieceNumber(d));
+        let e = tables::entry_of(pool, shape, PieceNumber(d));
         if !entry_ok(e, shape) {
             return false;
         }

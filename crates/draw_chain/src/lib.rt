@@ -1,10 +1,10 @@
 // A chain drawn as text: its pieces one behind the other, and their length. No walk is longer than the pool's count of pieces.
-use counts::Entry;
 use kinds::BufferNumber;
 use kinds::PieceNumber;
 use kinds::SlipNumber;
 use layout::Shape;
 use page::Cursor;
+use tables::Entry;
 ghost use mathlib.Core.Path.{_≡_};
 ghost use Prim.Native.Nat.{_<_};
 ghost use Rattle.rules.specs.Tables.{piece, pieceTotal};
@@ -12,8 +12,8 @@ ghost use Rattle.rules.specs.Bytes.{decode};
 ghost use Rattle.rules.specs.Chain.{walk, stretches, total, lengthOf};
 ghost use Rattle.tables.specs.Shape.{Shaped};
 ghost use Rattle.page.specs.Page.{page, Wrote};
-ghost use Rattle.counts.specs.Counters.{pieceOf};
 ghost use Rattle.draw_chain.specs.Text.{timesText, pieceText, joinedText, restText, chainText};
+ghost use Rattle.tables.specs.Entry.{pieceOf};
 
 // The entry of piece `d`, or zeros past the last: a bounded descriptor load.
 fn entry(pool: &[u8], shape: Shape, d: PieceNumber) -> Entry
@@ -29,7 +29,7 @@ fn entry(pool: &[u8], shape: Shape, d: PieceNumber) -> Entry
             next: 0,
         };
     }
-    counts::entry_of(pool, shape, d)
+    tables::entry_of(pool, shape, d)
 }
 
 // Draws a count above 1, as `x2`: the mark of what is shared.

@@ -47,7 +47,7 @@ pub fn pack(pool: &mut [u8], shape: Shape, storage: &mut [u8], s: SlipNumber) ->
         return answer::done(pool, shape, s, 0);
     }
     let n = chain::bytes_from(pool, shape, head);
-    let count = transfer::buffers_for(n as usize);
+    let count = room::buffers_for(n as usize);
     let pieces = room::piece_room(pool, shape, count);
     if !pieces.enough {
         return Outcome::Refused(Refusal::Pieces);

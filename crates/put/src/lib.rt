@@ -28,7 +28,7 @@ pub fn put(pool: &mut [u8], shape: Shape, storage: &mut [u8], input: &[u8]) -> O
     if t == shape.slips {
         return Outcome::Refused(Refusal::Slips);
     }
-    let count = transfer::buffers_for(input.len());
+    let count = room::buffers_for(input.len());
     let pieces = room::piece_room(pool, shape, count);
     if !pieces.enough {
         return Outcome::Refused(Refusal::Pieces);

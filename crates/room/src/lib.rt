@@ -8,8 +8,12 @@ ghost use Prim.Native.Nat.{_<_};
 ghost use Rattle.rules.specs.Tables.{slipTotal, pieceTotal, bufferTotal};
 ghost use Rattle.rules.specs.Bytes.{decode};
 ghost use Rattle.rules.specs.Room.{isVacant, isFree, isUnheld};
+ghost use Rattle.rules.specs.Build.{buffersFor};
 ghost use Rattle.tables.specs.Shape.{Shaped};
 ghost use Rattle.room.specs.Free.{firstFrom, enoughFrom, roomFor};
+
+// The bytes of a buffer, to count by.
+const SIZE: usize = BufferNumber::SIZE as usize;
 
 // The lowest free number where any is wanted, 0 where none is, and whether as many are free as are wanted: what a free-list probe finds.
 pub struct Room {
@@ -136,4 +140,14 @@ pub fn buffer_room(pool: &[u8], shape: Shape, k: usize) -> Room
         lowest: lowest,
         enough: enough,
     }
+}
+
+// How many buffers `n` bytes need: a ceiling division.
+pub fn buffers_for(n: usize) -> usize
+    ensures { λ r. ⌜ r ≡ buffersFor n ⌝ }
+{
+    if n % SIZE == 0 {
+        return n / SIZE;
+    }
+    n / SIZE + 1
 }

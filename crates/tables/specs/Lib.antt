@@ -1,2 +1,3 @@
 -- What the contracts of tables cite.
 pub mod Shape
+pub mod Entry

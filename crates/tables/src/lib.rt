@@ -5,13 +5,23 @@ use kinds::SlipNumber;
 use kinds::SlipState;
 use layout::Shape;
 ghost use mathlib.Core.Path.{_≡_};
-ghost use Prim.Native.Nat.{_<_, _≤_};
+ghost use Prim.Native.Nat.{pred, _<_, _≤_};
 ghost use mathlib.Core.List.{_∷_, _++_};
 ghost use lib.ListN.{length};
 ghost use Rattle.kinds.specs.SlipState.{stateOf};
 ghost use Rattle.rules.specs.Tables.{blank, slip, piece, bufferCount, setSlip, setPiece, withCount, withNext, withPlace, setCount};
 ghost use Rattle.rules.specs.Bytes.{decode};
+ghost use Rattle.tables.specs.Entry.{pieceOf};
 ghost use Rattle.tables.specs.Shape.{Shaped, Holds, withBase};
+
+// The five numbers of a piece, loaded.
+pub struct Entry {
+    pub count: u16,
+    pub buffer: BufferNumber,
+    pub offset: u16,
+    pub len: u16,
+    pub next: u16,
+}
 
 // What the entry of slip `s` says, as a number: a handle table load.
 pub fn slip(pool: &[u8], shape: Shape, s: SlipNumber) -> u16
@@ -27,6 +37,16 @@ pub fn slip_state(pool: &[u8], shape: Shape, s: SlipNumber) -> SlipState
     ensures { λ r. ⌜ r ≡ stateOf (slip (decode (now (pool .entry))) (s .0)) ⌝ }
 {
     kinds::state_of(slip(pool, shape, s))
+}
+
+// The link that a slip's entry holds.
+pub fn link_of(raw: u16) -> u16
+    ensures { λ r. ⌜ r ≡ pred raw ⌝ }
+{
+    if raw == 0 {
+        return 0;
+    }
+    raw - 1
 }
 
 // The count of piece `d`: its reference count.
@@ -67,6 +87,20 @@ pub fn piece_next(pool: &[u8], shape: Shape, d: PieceNumber) -> u16
     ensures { λ r. ⌜ r ≡ piece (decode (now (pool .entry))) (d .0) .next ⌝ }
 {
     word::get16(pool, layout::piece_at(shape, d) + 8)
+}
+
+// The entry of piece `d`.
+pub fn entry_of(pool: &[u8], shape: Shape, d: PieceNumber) -> Entry
+    requires { ⌜ Shaped (now pool) shape × (d .0 < shape .pieces) ⌝ }
+    ensures { λ r. ⌜ pieceOf r ≡ piece (decode (now (pool .entry))) (d .0) ⌝ }
+{
+    Entry {
+        count: piece_count(pool, shape, d),
+        buffer: piece_buffer(pool, shape, d),
+        offset: piece_offset(pool, shape, d),
+        len: piece_length(pool, shape, d),
+        next: piece_next(pool, shape, d),
+    }
 }
 
 // The count of buffer `b`: the reference count of a cluster.

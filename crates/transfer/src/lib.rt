@@ -36,16 +36,6 @@ struct Extent {
     count: u32,
 }
 
-// How many buffers `n` bytes need: a ceiling division.
-pub fn buffers_for(n: usize) -> usize
-    ensures { λ r. ⌜ r ≡ buffersFor n ⌝ }
-{
-    if n % SIZE == 0 {
-        return n / SIZE;
-    }
-    n / SIZE + 1
-}
-
 // The byte of storage at which the stretch of piece `d` starts: its data pointer.
 pub fn position(pool: &[u8], shape: Shape, d: PieceNumber) -> usize
     requires { ⌜ Shaped (now pool) shape × (d .0 < shape .pieces) ⌝ }

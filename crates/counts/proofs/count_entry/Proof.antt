@@ -2,7 +2,8 @@
 use mathlib.Core.Path.{ap, sym}
 use native.Mathlib.Omega.{arith}
 use borrow.Author.Needs.{needs}
-use Rattle.counts.specs.Counters.{pieceOf, tallied}
+use Rattle.tables.specs.Entry.{pieceOf}
+use Rattle.counts.specs.Counters.{tallied}
 use Rattle.counts.proofs.Counters.{lie-free, lie-used}
 use Rattle.counts.proofs.count_entry.Statement.{statement}
 use Rattle.counts.proofs.count_entry.Tie as tie

@@ -1,7 +1,7 @@
--- `counts::entry_of` meets its contract. Assumes nothing.
+-- `tables::entry_of` meets its contract. Assumes nothing.
 use borrow.Author.Needs.{needs}
-use Rattle.counts.proofs.entry_of.Statement.{statement}
-use Rattle.counts.proofs.entry_of.Tie as tie
+use Rattle.tables.proofs.entry_of.Statement.{statement}
+use Rattle.tables.proofs.entry_of.Tie as tie
 
 piece-count-requires : tie.Need-piece-count-requires
 piece-count-requires c κs = search needs
