@@ -76,7 +76,7 @@ pub fn begin(pool: &[u8], shape: Shape, s: SlipNumber, room: usize) -> Begun
 }
 
 // Writes the records of the first `n` pieces of the chain from `link` to the front of `list`, and answers the link behind them: a scatter list filled.
-pub fn write(pool: &[u8], shape: Shape, link: u16, n: usize, list: &mut [u32]) -> u16
+pub fn write_records(pool: &[u8], shape: Shape, link: u16, n: usize, list: &mut [u32]) -> u16
     requires { ⌜ Opened (now pool) shape × Is (linkOk (decode (now pool)) link) ⌝ }
     requires { ⌜ (n ≤ length (stretchesFrom (decode (now pool)) link)) × (2 * n ≤ length (now list)) ⌝ }
     ensures { λ _. ⌜ now (list .exit) ≡ copied (records (take n (stretchesFrom (decode (now (pool .entry))) link))) (now (list .entry)) ⌝ }
@@ -106,7 +106,7 @@ pub fn list(pool: &[u8], shape: Shape, s: SlipNumber, list: &mut [u32]) -> Outco
     let outcome = b.outcome;
     let link = b.link;
     let n = b.pieces as usize;
-    write(pool, shape, link, n, list);
+    write_records(pool, shape, link, n, list);
     outcome
 }
 
@@ -116,7 +116,7 @@ pub fn first(pool: &[u8], shape: Shape, link: u16) -> Record
     ensures { λ r. ⌜ r ≡ recordOf (piece (decode (now (pool .entry))) (link - 1)) ⌝ }
 {
     let mut pair = [0u32; 2];
-    let next = write(pool, shape, link, 1, &mut pair);
+    let next = write_records(pool, shape, link, 1, &mut pair);
     Record {
         stretch: Stretch {
             position: pair[0],

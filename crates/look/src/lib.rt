@@ -93,7 +93,7 @@ pub fn read(
         link: link,
         into: into,
     };
-    transfer::gather(pool, shape, storage, from, n, output);
+    transfer::copy_out(pool, shape, storage, from, n, output);
     answer::done(pool, shape, s, n)
 }
 
@@ -154,7 +154,7 @@ pub fn show(
         link: link,
         into: 0,
     };
-    transfer::gather(pool, shape, storage, from, n, scratch);
+    transfer::copy_out(pool, shape, storage, from, n, scratch);
     Shown {
         outcome: answer::done(pool, shape, s, n),
         place: Place::Scratch,

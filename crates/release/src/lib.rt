@@ -11,7 +11,7 @@ ghost use Rattle.release.specs.Release.{Held, Releasable, stepped, stepN
 ghost use Rattle.release.specs.Hang.{Hangable, hungTo};
 
 // Gives up one reference to piece `d` and returns the link to give up next, 0 none: a count lowered, or a descriptor freed.
-pub fn step(pool: &mut [u8], shape: Shape, d: PieceNumber) -> u16
+pub fn give_up(pool: &mut [u8], shape: Shape, d: PieceNumber) -> u16
     requires { ⌜ Shaped (now pool) shape × Held (decode (now pool)) (d .0) ⌝ }
     ensures { λ r. ⌜ Holds (now (pool .exit)) shape (stepped (decode (now (pool .entry))) (d .0)) × (r ≡ stepNext (decode (now (pool .entry))) (d .0)) ⌝ }
 {
@@ -35,7 +35,7 @@ pub fn release(pool: &mut [u8], shape: Shape, link: u16)
 {
     let mut next = link;
     while next != 0 {
-        next = step(pool, shape, PieceNumber(next - 1));
+        next = give_up(pool, shape, PieceNumber(next - 1));
     }
 }
 

@@ -82,7 +82,7 @@ fn extent_at(pool: &[u8], shape: Shape, c: Cursor, most: u32) -> Extent
 }
 
 // Copies the `n` bytes from the place `c` on to the front of `output`, one piece after another, and answers the place behind them: a gather.
-pub fn gather(
+pub fn copy_out(
     pool: &[u8],
     shape: Shape,
     storage: &[u8],

@@ -12,8 +12,8 @@ use Rattle.list.proofs.first.Tie as tie
 slice-aggregate-write : tie.Need-slice-aggregate-write
 slice-aggregate-write c = search needs
 
-write-requires : tie.Need-write-requires
-write-requires c κs =
+write-records-requires : tie.Need-write-records-requires
+write-records-requires c κs =
     let z = c .before .before in
     let T = decode (z .args .pool .now) in
     ((z .pre .0, z .pre .1), (omega (arith, ap length (stretches-on T (z .args .link) (z .pre .0 .sound) (z .pre .1) (z .pre .2))), omega arith))
@@ -28,8 +28,8 @@ returns : tie.Need-returns
 returns c =
     let w = c .before in
     let z = w .before .before .before in
-    first-record (decode (z .args .pool .now)) (z .args .link) (z .pre .0 .sound) (z .pre .1) (z .pre .2) (w .write .ensures .0) (w .write .ensures .1)
+    first-record (decode (z .args .pool .now)) (z .args .link) (z .pre .0 .sound) (z .pre .1) (z .pre .2) (w .write-records .ensures .0) (w .write-records .ensures .1)
 
 pub first-spec : {M : Type 1} → statement M
 first-spec =
-    tie.close (tie.spec slice-aggregate-write write-requires array-read-t10 array-read-t13 returns)
+    tie.close (tie.spec slice-aggregate-write write-records-requires array-read-t10 array-read-t13 returns)

@@ -17,8 +17,8 @@ begin-requires c κs = search needs
 cast-n : tie.Need-cast-n
 cast-n c = search needs
 
-write-requires : tie.Need-write-requires
-write-requires c κs =
+write-records-requires : tie.Need-write-records-requires
+write-records-requires c κs =
     let b = c .before .before in
     let z = b .before .before .before in
     let T = decode (z .args .pool .now) in
@@ -38,8 +38,8 @@ returns c =
     let z = y .before in
     let p = z .args .pool .now in
     let whole = fits-decode p (λ i. omega (arith, y .shared-slice-known .given i)) (z .pre .shaped .fits) in
-    let performs : (st : List ℕ) → _ = λ st. list-performs p st (z .args .list .now) (z .args .s .0) whole (b .begin .ensures) (w .write .ensures .0) in
+    let performs : (st : List ℕ) → _ = λ st. list-performs p st (z .args .list .now) (z .args .s .0) whole (b .begin .ensures) (w .write-records .ensures .0) in
     (λ st. performs st .0, performs [] .1)
 
 pub list-spec : {M : Type 1} → statement M
-list-spec = tie.close (tie.spec begin-requires cast-n write-requires same-length returns)
+list-spec = tie.close (tie.spec begin-requires cast-n write-records-requires same-length returns)

@@ -103,8 +103,8 @@ returns-3 c =
     let a = start e .args in
     (read-narrow (a .pool .now) (a .storage .now) (a .output .now) (a .s .0) (a .off) (a .n) (named-here e) (in-range (c .before)) (omega arith), tt)
 
-gather-requires : tie.Need-gather-requires
-gather-requires c κs =
+copy-out-requires : tie.Need-copy-out-requires
+copy-out-requires c κs =
     let r = c .before in
     let k = counted (r .before) in
     let f = k .before in
@@ -136,7 +136,7 @@ returns-4 c =
     let bytes = found-bytes T (z .pre .0 .sound) (headOf T (a .s .0)) (a .off) (f .find .result) (good e) (place f) st fit in
     let same = fits-decode p (λ i. omega (arith, y .shared-slice-known .given i)) (z .pre .0 .shaped .fits) in (
       read-done p st (a .output .now) (a .s .0) (a .off) (a .n) (named-here e) (in-range (r .before)) (c .done .ensures) (omega (arith, r .if3 .left)) same
-          (g .gather .ensures .0 ∙ ap (λ (l : List ℕ). copied (take (a .n) l) (a .output .now)) bytes),
+          (g .copy-out .ensures .0 ∙ ap (λ (l : List ℕ). copied (take (a .n) l) (a .output .now)) bytes),
       rw (c .done .ensures),
     )
 
@@ -153,7 +153,7 @@ read-spec =
     part-of-requires
     returns-2
     returns-3
-    gather-requires
+    copy-out-requires
     done-requires
     same-length
     returns-4)

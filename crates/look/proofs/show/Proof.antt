@@ -187,8 +187,8 @@ returns-5 c =
     let a = start e .args in
     show-narrow (a .pool .now) (a .storage .now) (a .scratch .now) (a .s .0) (a .n) (named-here e) (short (h .before)) (enough r) (c .unseen4 .ensures) (first-lacks (counted r .before)) (omega (arith, c .before .if5 .taken))
 
-gather-requires : tie.Need-gather-requires
-gather-requires c κs =
+copy-out-requires : tie.Need-copy-out-requires
+copy-out-requires c κs =
     let r = c .before .before in
     let h = headed r in
     let z = start (at-head h) in
@@ -210,8 +210,8 @@ returns-6 c =
     let a = start e .args in
     let T = tables e in
     show-scratch (a .pool .now) (a .storage .now) (a .scratch .now) (a .s .0) (a .n) (named-here e) (short (h .before)) (enough r) (c .done2 .ensures) (whole-pool e)
-    _ (first-lacks (counted r .before)) (omega (arith, q .if5 .left)) (g .gather .kept .1 .1 .1 .1 .1 .0)
-    (g .gather .ensures .0 ∙ ap (λ (l : ℕ). copied (take (a .n) (contents (a .storage .now) (stretchesFrom T l))) (a .scratch .now)) (h .head-link .ensures))
+    _ (first-lacks (counted r .before)) (omega (arith, q .if5 .left)) (g .copy-out .kept .1 .1 .1 .1 .1 .0)
+    (g .copy-out .ensures .0 ∙ ap (λ (l : ℕ). copied (take (a .n) (contents (a .storage .now) (stretchesFrom T l))) (a .scratch .now)) (h .head-link .ensures))
 
 pub show-spec : {M : Type 1} → statement M
 show-spec =
@@ -233,7 +233,7 @@ show-spec =
     returns-4
     unseen-requires-4
     returns-5
-    gather-requires
+    copy-out-requires
     done-requires-2
     same-length
     returns-6)

@@ -21,8 +21,8 @@ loop-holds c = let z = c .before in (refl, z .pre .0, starts (z .pre .1))
 sub-t8 : tie.Need-sub-t8 Inv-loop μ-loop
 sub-t8 c = search needs
 
-step-requires : tie.Need-step-requires Inv-loop μ-loop
-step-requires c κs =
+give-up-requires : tie.Need-give-up-requires Inv-loop μ-loop
+give-up-requires c κs =
     let l = c .before .before .loop in
     (l .inv .1, goes (l .next) (l .inv .2) (c .before .loop-test .taken) .held)
 
@@ -30,14 +30,14 @@ loop-less : tie.Need-loop-less Inv-loop μ-loop
 loop-less c =
     let l = c .before .before .before .before .before .loop in
     let g = goes (l .next) (l .inv .2) (c .before .before .before .before .loop-test .taken) in
-    rw (c .before .before .step .ensures .0 .is) (g .less)
+    rw (c .before .before .give-up .ensures .0 .is) (g .less)
 
 loop-again : tie.Need-loop-again Inv-loop μ-loop
 loop-again c =
     let l = c .before .before .before .before .before .loop in
-    let w = c .before .before .step .ensures in
+    let w = c .before .before .give-up .ensures in
     let g = goes (l .next) (l .inv .2) (c .before .before .before .before .loop-test .taken) in
-    (c .before .before .step .kept .0 ∙ l .inv .0, w .0 .shaped, rw (w .0 .is, w .1) (g .left))
+    (c .before .before .give-up .kept .0 ∙ l .inv .0, w .0 .shaped, rw (w .0 .is, w .1) (g .left))
 
 same-length : tie.Need-same-length Inv-loop μ-loop
 same-length c = c .before .loop .inv .0
@@ -53,7 +53,7 @@ release-spec =
     μ-loop
     loop-holds
     sub-t8
-    step-requires
+    give-up-requires
     loop-less
     loop-again
     same-length

@@ -1,4 +1,4 @@
--- `list::write` meets its contract: each turn writes the record of the piece reached, behind those written. Assumes nothing.
+-- `list::write_records` meets its contract: each turn writes the record of the piece reached, behind those written. Assumes nothing.
 use mathlib.Core.Path.{_≡_, refl}
 use Prim.Native.Nat.{ℕ, _+_, _-_, _*_, _≤_, _<_}
 use native.Mathlib.Omega.{arith}
@@ -9,8 +9,8 @@ use Rattle.rules.specs.Chain.{stretch, positionOf}
 use Rattle.tables.proofs.Laws.{whole, total-pieces, total-buffers}
 use Rattle.chain.proofs.Links.{InUse, stretches-few}
 use Rattle.list.proofs.Laws.{Writing, writing-first, writing-all, writing-some, writing-piece, writing-on}
-use Rattle.list.proofs.write.Statement.{statement}
-use Rattle.list.proofs.write.Tie as tie
+use Rattle.list.proofs.write_records.Statement.{statement}
+use Rattle.list.proofs.write_records.Tie as tie
 
 abbrev Inv-loop : tie.InvT-loop
 Inv-loop pool shape link n list₀ at₀ k₀ list at k = (length list ≡ length list₀) × Writing (decode pool) link n list₀ at k list
@@ -115,8 +115,8 @@ returns c =
     let y = c .before .before .before .before in
     writing-all (y .pre .0 .0 .sound) (y .pre .0 .1) (y .pre .1 .0) (c .before .loop .inv .1) (λ h. omega (arith, c .loop-test .left))
 
-pub write-spec : {M : Type 1} → statement M
-write-spec =
+pub write-records-spec : {M : Type 1} → statement M
+write-records-spec =
     tie.close
     (tie.spec
     Inv-loop

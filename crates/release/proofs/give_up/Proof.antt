@@ -1,4 +1,4 @@
--- `release::step` meets its contract. Assumes nothing.
+-- `release::give_up` meets its contract. Assumes nothing.
 use borrow.Author.Needs.{needs}
 use native.Mathlib.Omega.{arith}
 use mathlib.Core.Path.{ap}
@@ -7,8 +7,8 @@ use Rattle.kinds.specs.declared.BufferNumber.{BufferNumber}
 use Rattle.rules.specs.Bytes.{decode}
 use Rattle.tables.proofs.Laws.{whole, total-pieces, total-buffers}
 use Rattle.release.proofs.Laws.{step-lowered, step-freed}
-use Rattle.release.proofs.step.Statement.{statement}
-use Rattle.release.proofs.step.Tie as tie
+use Rattle.release.proofs.give_up.Statement.{statement}
+use Rattle.release.proofs.give_up.Tie as tie
 
 -- piece d is below P
 below : (c : tie.Start) → c .args .d .0 < c .args .shape .pieces
@@ -72,8 +72,8 @@ returns-2 c =
     (ap (λ (b : BufferNumber). b .0) (o .before .before .before .before .piece-buffer .ensures)) (o .buffer-count .ensures) (o .before .before .piece-next .ensures)
     (c .before .before .before .before .before .before .set-buffer-count .ensures) (c .before .before .clear-piece .ensures)
 
-pub step-spec : {M : Type 1} → statement M
-step-spec =
+pub give-up-spec : {M : Type 1} → statement M
+give-up-spec =
     tie.close
     (tie.spec
     piece-count-requires

@@ -1,4 +1,4 @@
--- `transfer::gather` meets its contract: the bytes from the place `g` on are still to go to the place `at` of the output. Assumes nothing.
+-- `transfer::copy_out` meets its contract: the bytes from the place `g` on are still to go to the place `at` of the output. Assumes nothing.
 use mathlib.Core.Path.{_≡_, refl, sym, ap, _∙_}
 use Prim.Native.Nat.{_+_, _-_, _≤_, _<_}
 use native.Mathlib.Omega.{arith}
@@ -13,8 +13,8 @@ use Rattle.rules.proofs.Contents.{Fit}
 use Rattle.tables.proofs.Laws.{whole, total-pieces, total-buffers}
 use Rattle.transfer.specs.Behind.{behind}
 use Rattle.transfer.proofs.Copy.{bytesFrom, Going, going-first, going-some, going-piece, going-before, going-count, going-within, going-lies, going-on, going-done, going-end}
-use Rattle.transfer.proofs.gather.Statement.{statement}
-use Rattle.transfer.proofs.gather.Tie as tie
+use Rattle.transfer.proofs.copy_out.Statement.{statement}
+use Rattle.transfer.proofs.copy_out.Tie as tie
 
 abbrev Inv-loop : tie.InvT-loop
 Inv-loop pool shape storage n output₀ g₀ left₀ at₀ output g left at =
@@ -103,8 +103,8 @@ returns c =
     let o = c .before .before .before .before .before .pre .0 .0 .sound in
     (going-done o w (c .loop-test .left), going-end o w (c .loop-test .left))
 
-pub gather-spec : {M : Type 1} → statement M
-gather-spec =
+pub copy-out-spec : {M : Type 1} → statement M
+copy-out-spec =
     tie.close
     (tie.spec
     Inv-loop
