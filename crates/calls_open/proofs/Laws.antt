@@ -8,7 +8,7 @@ use Rattle.kinds.specs.declared.Refusal.the-variants.{Counts}
 use Rattle.kinds.specs.declared.Answer.{Answer}
 use Rattle.kinds.specs.Refusal.{refusalCode}
 use Rattle.rules.specs.Basics.{Is}
-use Rattle.rules.specs.Layout.{poolLength}
+use Rattle.rules.specs.Layout.{poolLength, storageLength}
 use Rattle.rules.specs.Tables.{freshTables}
 use Rattle.rules.specs.Bytes.{encode}
 use Rattle.rules.specs.Rule.{noView}
@@ -24,7 +24,7 @@ use Rattle.answer.proofs.Perform.{perform-none}
 use Rattle.calls.specs.Result.{resultOf}
 use Rattle.calls.proofs.Laws.{opened, sound-step}
 use Rattle.rules.specs.Sound.{lent, countsOk, lengthsOk}
-use lib.Dec.{eqb→eq}
+use lib.Dec.{eqb, eqb→eq}
 
 -- ---- open
 
@@ -44,7 +44,9 @@ module _ (p st : List ℕ) (B P S : ℕ) {b : Bool} (test : b ≡ (countsOk B P 
 
   pub open-length : b ≡ true → length p ≡ poolLength B P S
   unfolding openable
-  open-length q = eqb→eq (length p) _ (and-0 _ _ (and-parts (countsOk B P S) _ (is-openable q) .1))
+  open-length q =
+      eqb→eq (length p) (poolLength B P S)
+      (and-0 (eqb (length p) (poolLength B P S)) (eqb (length st) (storageLength B)) (and-parts (countsOk B P S) (lengthsOk B P S (length p) (length st)) (is-openable q) .1))
 
   pub open-done : {after : List ℕ} → b ≡ true → after ≡ encode (freshTables B P S) → resultOf (record { code = 0; number = 0 }) after st [] noView ≡ step (Open B P S) (lent p st)
   unfolding step

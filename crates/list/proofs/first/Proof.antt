@@ -9,8 +9,8 @@ use Rattle.list.proofs.Laws.{first-record}
 use Rattle.list.proofs.first.Statement.{statement}
 use Rattle.list.proofs.first.Tie as tie
 
-slice-aggregate-write : tie.Need-slice-aggregate-write
-slice-aggregate-write c = search needs
+slice-aggregate-write-records : tie.Need-slice-aggregate-write-records
+slice-aggregate-write-records c = search needs
 
 write-records-requires : tie.Need-write-records-requires
 write-records-requires c κs =
@@ -32,4 +32,4 @@ returns c =
 
 pub first-spec : {M : Type 1} → statement M
 first-spec =
-    tie.close (tie.spec slice-aggregate-write write-records-requires array-read-t10 array-read-t13 returns)
+    tie.close (tie.spec slice-aggregate-write-records write-records-requires array-read-t10 array-read-t13 returns)
