@@ -400,11 +400,11 @@ reads-ok (Put input) S h f a = (let r = put-reading input S h f a in record { by
 reads-ok (Free s) S h f a = (let r = free-reading s S h (rule-sound (Free s) S h a) (first-named (S .tables) s [] (a .early) .0) in record { bytes = r .0; vacancy = r .1 })
 reads-ok (Dup s) S h f a = (let r = dup-reading s S h a in record { bytes = r .0; vacancy = r .1 })
 reads-ok (Cut s off n) S h f a = (let r = cut-reading s off n S h f a in record { bytes = r .0; vacancy = r .1 })
-reads-ok (Append x y) S h f a = (let r = append-reading x y S h a in record { bytes = r .0; vacancy = r .1 })
-reads-ok (Drop s n) S h f a = (let r = drop-reading s n S h f a in record { bytes = r .0; vacancy = r .1 })
-reads-ok (Keep s n) S h f a = (let r = keep-reading s n S h f a in record { bytes = r .0; vacancy = r .1 })
-reads-ok (Pullup s n) S h f a = (let r = pullup-reading s n S h f a in record { bytes = r .0; vacancy = r .1 })
-reads-ok (Pack s) S h f a = (let r = pack-reading s S h f a in record { bytes = r .0; vacancy = r .1 })
+reads-ok (Append x y) S h f a = (let b = both-named (S .tables) x y (a .early) in let r = append-reading x y S h a in record { bytes = r .0; vacancy = λ t. r .1 t ∙ sym (at-same x t false (at y true (isVacant (S .tables))) (held-false (S .tables) x (b .0 .1) ∙ sym (at-there y x true (isVacant (S .tables)) (b .2)))) })
+reads-ok (Drop s n) S h f a = (let r = drop-reading s n S h f a in record { bytes = r .0; vacancy = λ t. r .1 t ∙ sym (at-same s t false (isVacant (S .tables)) (held-false (S .tables) s (first-named (S .tables) s _ (a .early) .1))) })
+reads-ok (Keep s n) S h f a = (let r = keep-reading s n S h f a in record { bytes = r .0; vacancy = λ t. r .1 t ∙ sym (at-same s t false (isVacant (S .tables)) (held-false (S .tables) s (first-named (S .tables) s _ (a .early) .1))) })
+reads-ok (Pullup s n) S h f a = (let r = pullup-reading s n S h f a in record { bytes = λ t. r .0 t ∙ sym (at-same s t (reads S s) (reads S) refl); vacancy = λ t. r .1 t ∙ sym (at-same s t false (isVacant (S .tables)) (held-false (S .tables) s (first-named (S .tables) s _ (a .early) .1))) })
+reads-ok (Pack s) S h f a = (let r = pack-reading s S h f a in record { bytes = λ t. r .0 t ∙ sym (at-same s t (reads S s) (reads S) refl); vacancy = λ t. r .1 t ∙ sym (at-same s t false (isVacant (S .tables)) (held-false (S .tables) s (first-named (S .tables) s _ (a .early) .1))) })
 reads-ok (Length s) S h f a = record { bytes = λ t. refl; vacancy = λ t. refl }
 reads-ok (Read s off n out) S h f a = record { bytes = λ t. refl; vacancy = λ t. refl }
 reads-ok (Show s n scratch) S h f a = record { bytes = λ t. refl; vacancy = λ t. refl }

@@ -1,7 +1,7 @@
 -- What the answered slips and all other slips read, and that what is put, or listed, is read again, in bytes. Assumes nothing.
 use mathlib.Core.Path.{_≡_, refl, sym, ap, ap₂, subst, _∙_}
 use mathlib.Core.Logic.{_≢_, inl, inr}
-use mathlib.Core.Bool.{false, not, _&&_}
+use mathlib.Core.Bool.{true, false, not, _&&_}
 use mathlib.Core.List.{List, [], _++_}
 use Prim.Native.Nat.{ℕ, _+_, _*_, _≤_, _<_}
 use native.Mathlib.Decide.{decLt}
@@ -144,11 +144,11 @@ others-same (Put input) S a t n v = (let w = not-new (S .tables) t (a .slips-roo
 others-same (Free s) S a t n v = (at-there s t _ (reads S) n, at-there s t _ (isVacant (S .tables)) n)
 others-same (Dup s) S a t n v = (let w = not-new (S .tables) t (a .slips-room) v in (at-there _ t _ (reads S) w, at-there _ t _ (isVacant (S .tables)) w))
 others-same (Cut s off k) S a t n v = (let w = not-new (S .tables) t (a .slips-room) v in (at-there _ t _ (reads S) w, at-there _ t _ (isVacant (S .tables)) w))
-others-same (Append x y) S a t n v = (let w : t ≢ y = λ q. n (inr q) in (at-there x t _ (at y [] (reads S)) (λ q. n (inl q)) ∙ at-there y t [] (reads S) w, at-there y t _ (isVacant (S .tables)) w))
-others-same (Drop s k) S a t n v = (at-there s t _ (reads S) n, refl)
-others-same (Keep s k) S a t n v = (at-there s t _ (reads S) n, refl)
-others-same (Pullup s k) S a t n v = (refl, refl)
-others-same (Pack s) S a t n v = (refl, refl)
+others-same (Append x y) S a t n v = (let w : t ≢ y = λ q. n (inr q) in (at-there x t _ (at y [] (reads S)) (λ q. n (inl q)) ∙ at-there y t [] (reads S) w, at-there x t _ (at y true (isVacant (S .tables))) (λ q. n (inl q)) ∙ at-there y t _ (isVacant (S .tables)) w))
+others-same (Drop s k) S a t n v = (at-there s t _ (reads S) n, at-there s t _ (isVacant (S .tables)) n)
+others-same (Keep s k) S a t n v = (at-there s t _ (reads S) n, at-there s t _ (isVacant (S .tables)) n)
+others-same (Pullup s k) S a t n v = (at-there s t _ (reads S) n, at-there s t _ (isVacant (S .tables)) n)
+others-same (Pack s) S a t n v = (at-there s t _ (reads S) n, at-there s t _ (isVacant (S .tables)) n)
 others-same (Length s) S a t n v = (refl, refl)
 others-same (Read s off k out) S a t n v = (refl, refl)
 others-same (Show s k scratch) S a t n v = (refl, refl)

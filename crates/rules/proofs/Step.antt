@@ -253,11 +253,11 @@ slips-vacant o m e t =
 -- ---- what is taken, in bytes
 
 pub slips-took : (o : Operation) (m : Lent) → step (Do o) m .code ≡ 0
-    → Took (decode (m .pool)) (decode (next (Do o) m .pool)) (rule o (stateIn m) .wants) (target o (decode (m .pool)))
+    → Took (decode (m .pool)) (decode (next (Do o) m .pool)) (rule o (stateIn m) .wants) (target o (stateIn m))
 slips-took o m e =
     let d = did o m e in
     let S = stateIn m in
-    subst (λ (X : State). Took (S .tables) (X .tables) (rule o S .wants) (target o (S .tables))) (sym (after-state o m e))
+    subst (λ (X : State). Took (S .tables) (X .tables) (rule o S .wants) (target o S)) (sym (after-state o m e))
     (takes o S (sound-now m (d .was-sound)) (allowed (rule o S) (S .tables) (d .allowed-code)))
 
 -- ---- bytes that stay

@@ -1,16 +1,16 @@
 -- append a, b: a reads as a then b; b is vacant.
 use mathlib.Core.Bool.{Bool, _||_}
-use mathlib.Core.List.{List, [], _∷_}
+use mathlib.Core.List.{List, [], _∷_, _++_}
 use Prim.Native.Nat.{ℕ}
 use lib.ListN.{length, drop}
 use lib.Dec.{eqb}
 use Rattle.kinds.specs.declared.Refusal.the-variants.{Slip, Same}
 use Rattle.rules.specs.Basics.{if_then_else_}
 use Rattle.rules.specs.Tables.{Tables, slip, headOf, vacant, pieceTotal, setSlip}
-use Rattle.rules.specs.Chain.{State, Stretch, spans, ownPieces, withTables}
+use Rattle.rules.specs.Chain.{State, Stretch, spans, ownPieces, reads, withTables}
 use Rattle.rules.specs.Room.{freePieces}
 use Rattle.rules.specs.Build.{built, builtLink, behindOwn}
-use Rattle.rules.specs.Rule.{Rule, _⇐_, unnamed, want, alters}
+use Rattle.rules.specs.Rule.{Rule, _⇐_, unnamed, want, alters, Meaning, means, reading, vacating}
 
 -- a's own pieces, by the counts at entry; and the stretches of the others, which are replaced
 abbrev pub ownOf : Tables → ℕ → List ℕ
@@ -45,3 +45,7 @@ abbrev pub append : ℕ → ℕ → State → Rule
 append a b S =
     let T = S .tables in
     alters ((Slip ⇐ (unnamed T a || unnamed T b)) ∷ (Same ⇐ eqb a b) ∷ []) (want 0 (if oneEmpty T a b then 0 else length (notOwn T a)) 0) 0 (appendAfter a b S)
+
+-- a reads as a then b; b is vacant
+abbrev pub appendCall : ℕ → ℕ → Meaning
+appendCall a b = means (a ∷ b ∷ []) (append a b) (λ S. reading a (reads S a ++ reads S b) ∷ vacating b ∷ [])

@@ -1,13 +1,13 @@
 -- cut s, off, len: a new slip on one new piece for each piece that overlaps the range, on the same buffers.
 use mathlib.Core.List.{[], _∷_}
 use Prim.Native.Nat.{ℕ, _+_}
-use lib.ListN.{length}
+use lib.ListN.{length, take, drop}
 use lib.Dec.{ltb}
 use Rattle.kinds.specs.declared.Refusal.the-variants.{Slip, Range}
-use Rattle.rules.specs.Chain.{State, spans, lengthOf, cutOut, withTables}
+use Rattle.rules.specs.Chain.{State, spans, lengthOf, cutOut, reads, withTables}
 use Rattle.rules.specs.Room.{freePieces, newSlip}
 use Rattle.rules.specs.Build.{plain, underNew}
-use Rattle.rules.specs.Rule.{Rule, _⇐_, unnamed, want, alters}
+use Rattle.rules.specs.Rule.{Rule, _⇐_, unnamed, want, alters, Meaning, means, reading}
 
 unfoldable pub cutAfter : ℕ → ℕ → ℕ → State → State
 cutAfter s off n S = let T = S .tables in withTables S (underNew (plain T (cutOut (spans T s) off n)) (freePieces T) (newSlip T))
@@ -17,3 +17,7 @@ abbrev pub cut : ℕ → ℕ → ℕ → State → Rule
 cut s off n S =
     let T = S .tables in
     alters ((Slip ⇐ unnamed T s) ∷ (Range ⇐ ltb (lengthOf T s) (off + n)) ∷ []) (want 1 (length (cutOut (spans T s) off n)) 0) (newSlip T) (cutAfter s off n S)
+
+-- the new slip reads the n bytes of s from off on
+abbrev pub cutCall : ℕ → ℕ → ℕ → Meaning
+cutCall s off n = means (s ∷ []) (cut s off n) (λ S. reading (newSlip (S .tables)) (take n (drop off (reads S s))) ∷ [])

@@ -2,16 +2,16 @@
 use mathlib.Core.Bool.{Bool, true, _&&_}
 use mathlib.Core.List.{List, [], _∷_}
 use Prim.Native.Nat.{ℕ, zero, suc, _+_, _-_}
-use lib.ListN.{length}
+use lib.ListN.{length, drop}
 use lib.Dec.{ltb, eqb, leb}
 use Rattle.kinds.specs.declared.Refusal.the-variants.{Slip, Range}
 use Rattle.rules.specs.Basics.{if_then_else_}
 use Rattle.rules.specs.Tables.{Piece, Tables, piece, setPiece, withPlace}
-use Rattle.rules.specs.Chain.{State, stretch, chain, lengthOf}
+use Rattle.rules.specs.Chain.{State, stretch, chain, lengthOf, reads}
 use Rattle.rules.specs.Room.{freePieces}
 use Rattle.rules.specs.Release.{shared}
 use Rattle.rules.specs.Build.{Plan, plain, underOld}
-use Rattle.rules.specs.Rule.{Rule, _⇐_, unnamed, want, alters}
+use Rattle.rules.specs.Rule.{Rule, _⇐_, unnamed, want, alters, Meaning, means, reading}
 
 -- a piece without its first n bytes
 abbrev pub shorter : Piece → ℕ → Piece
@@ -48,3 +48,7 @@ abbrev pub dropFirst : ℕ → ℕ → State → Rule
 dropFirst s n S =
     let T = S .tables in
     alters ((Slip ⇐ unnamed T s) ∷ (Range ⇐ ltb (lengthOf T s) n) ∷ []) (want 0 (length (dropped T s n .more)) 0) 0 (dropAfter s n S)
+
+-- s reads its bytes but the first n
+abbrev pub dropCall : ℕ → ℕ → Meaning
+dropCall s n = means (s ∷ []) (dropFirst s n) (λ S. reading s (drop n (reads S s)) ∷ [])

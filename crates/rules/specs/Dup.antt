@@ -4,11 +4,11 @@ use Prim.Native.Nat.{ℕ, zero, suc}
 use lib.ListN.{length}
 use Rattle.kinds.specs.declared.Refusal.the-variants.{Slip}
 use Rattle.rules.specs.Tables.{Tables, piece, headOf}
-use Rattle.rules.specs.Chain.{State, stretch, withTables}
+use Rattle.rules.specs.Chain.{State, stretch, reads, withTables}
 use Rattle.rules.specs.Room.{freePieces, newSlip}
 use Rattle.rules.specs.Release.{shared}
 use Rattle.rules.specs.Build.{Plan, plain, underNew}
-use Rattle.rules.specs.Rule.{Rule, _⇐_, unnamed, want, alters}
+use Rattle.rules.specs.Rule.{Rule, _⇐_, unnamed, want, alters, Meaning, means, reading}
 
 -- a second chain like that of the link n; an empty chain needs no piece
 unfoldable pub dupPlan : Tables → ℕ → Plan
@@ -22,3 +22,7 @@ abbrev pub dup : ℕ → State → Rule
 dup s S =
     let T = S .tables in
     alters ((Slip ⇐ unnamed T s) ∷ []) (want 1 (length (dupPlan T (headOf T s) .more)) 0) (newSlip T) (dupAfter s S)
+
+-- the new slip reads what s reads
+abbrev pub dupCall : ℕ → Meaning
+dupCall s = means (s ∷ []) (dup s) (λ S. reading (newSlip (S .tables)) (reads S s) ∷ [])

@@ -2,15 +2,15 @@
 use mathlib.Core.Bool.{Bool}
 use mathlib.Core.List.{List, [], _∷_}
 use Prim.Native.Nat.{ℕ}
-use lib.ListN.{length, drop}
+use lib.ListN.{length, take, drop}
 use lib.Dec.{ltb, eqb}
 use Rattle.kinds.specs.declared.Refusal.the-variants.{Slip, Range}
 use Rattle.rules.specs.Basics.{if_then_else_, lastOf}
 use Rattle.rules.specs.Tables.{Tables, piece, headOf, setPiece, withPlace}
-use Rattle.rules.specs.Chain.{State, Stretch, spans, lengthOf, ownPieces, cutOut, withTables}
+use Rattle.rules.specs.Chain.{State, Stretch, spans, lengthOf, ownPieces, cutOut, reads, withTables}
 use Rattle.rules.specs.Room.{freePieces}
 use Rattle.rules.specs.Build.{built, builtLink, behindOwn}
-use Rattle.rules.specs.Rule.{Rule, _⇐_, unnamed, want, alters}
+use Rattle.rules.specs.Rule.{Rule, _⇐_, unnamed, want, alters, Meaning, means, reading}
 
 -- the stretches that stay, the last one shortened
 abbrev pub kept : Tables → ℕ → ℕ → List Stretch
@@ -54,3 +54,7 @@ keep s n S =
     let T = S .tables in
     alters ((Slip ⇐ unnamed T s) ∷ (Range ⇐ ltb (lengthOf T s) n) ∷ [])
     (want 0 (if keepsAll T s n then 0 else length (keptNotOwn T s n)) 0) 0 (keepAfter s n S)
+
+-- s reads the first n of its bytes
+abbrev pub keepCall : ℕ → ℕ → Meaning
+keepCall s n = means (s ∷ []) (keep s n) (λ S. reading s (take n (reads S s)) ∷ [])

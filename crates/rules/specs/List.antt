@@ -5,7 +5,7 @@ use lib.ListN.{length}
 use lib.Dec.{ltb}
 use Rattle.kinds.specs.declared.Refusal.the-variants.{Slip, Narrow}
 use Rattle.rules.specs.Chain.{State, Stretch, spans, positionOf}
-use Rattle.rules.specs.Rule.{Rule, _⇐_, unnamed, want, noView}
+use Rattle.rules.specs.Rule.{Rule, _⇐_, unnamed, want, noView, Meaning, looks}
 use Rattle.rules.specs.Read.{copied}
 
 -- the records of stretches, two numbers each: the position in storage, then the length (a scatter list)
@@ -24,3 +24,7 @@ wireList s list S =
       output = copied (records xs) list;
       view = noView;
     }
+
+-- it changes nothing, and is lent the list
+abbrev pub listCall : ℕ → List ℕ → Meaning
+listCall s list = looks (s ∷ []) list (wireList s list)

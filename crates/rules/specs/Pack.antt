@@ -10,7 +10,7 @@ use Rattle.rules.specs.Tables.{Tables}
 use Rattle.rules.specs.Chain.{State, chain, lengthOf, reads, withStorage}
 use Rattle.rules.specs.Room.{freePieces, newBuffers}
 use Rattle.rules.specs.Build.{plain, underOld, buffersFor, laid, stored}
-use Rattle.rules.specs.Rule.{Rule, _⇐_, unnamed, Wants, want, alters}
+use Rattle.rules.specs.Rule.{Rule, _⇐_, unnamed, Wants, want, alters, Meaning, means, reading}
 
 -- a chain of at most one piece: nothing changes
 abbrev pub inOne : Tables → ℕ → Bool
@@ -28,3 +28,7 @@ packWants T s = if inOne T s then want 0 0 0 else want 0 (buffersFor (lengthOf T
 
 abbrev pub pack : ℕ → State → Rule
 pack s S = alters ((Slip ⇐ unnamed (S .tables) s) ∷ []) (packWants (S .tables) s) 0 (packAfter s S)
+
+-- s reads as before
+abbrev pub packCall : ℕ → Meaning
+packCall s = means (s ∷ []) (pack s) (λ S. reading s (reads S s) ∷ [])

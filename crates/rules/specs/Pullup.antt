@@ -12,7 +12,7 @@ use Rattle.rules.specs.Chain.{State, spans, firstLength, lengthOf, reads
 use Rattle.rules.specs.Room.{freePieces, newBuffers}
 use Rattle.rules.specs.Build.{Plan, underOld, laid, stored}
 use Rattle.rules.specs.Drop.{dropped}
-use Rattle.rules.specs.Rule.{Rule, _⇐_, unnamed, Wants, want, alters}
+use Rattle.rules.specs.Rule.{Rule, _⇐_, unnamed, Wants, want, alters, Meaning, means, reading}
 
 -- n bytes on a new buffer, before what drop of n leaves
 abbrev pub pulled : Tables → ℕ → ℕ → Plan
@@ -38,3 +38,7 @@ abbrev pub pullup : ℕ → ℕ → State → Rule
 pullup s n S =
     let T = S .tables in
     alters ((Slip ⇐ unnamed T s) ∷ (Long ⇐ ltb bufferSize n) ∷ (Range ⇐ ltb (lengthOf T s) n) ∷ []) (pullupWants T s n) 0 (pullupAfter s n S)
+
+-- s reads as before
+abbrev pub pullupCall : ℕ → ℕ → Meaning
+pullupCall s n = means (s ∷ []) (pullup s n) (λ S. reading s (reads S s) ∷ [])

@@ -1,11 +1,11 @@
 -- put input: the bytes go into fresh pieces on fresh buffers, under a new slip.
-use mathlib.Core.List.{List, []}
+use mathlib.Core.List.{List, [], _∷_}
 use Prim.Native.Nat.{ℕ}
 use lib.ListN.{length}
 use Rattle.rules.specs.Chain.{State, stateOf}
 use Rattle.rules.specs.Room.{freePieces, newSlip, newBuffers}
 use Rattle.rules.specs.Build.{plain, underNew, buffersFor, laid, stored}
-use Rattle.rules.specs.Rule.{Rule, want, alters}
+use Rattle.rules.specs.Rule.{Rule, want, alters, Meaning, means, reading}
 
 unfoldable pub putAfter : List ℕ → State → State
 putAfter input S =
@@ -17,3 +17,7 @@ abbrev pub put : List ℕ → State → Rule
 put input S =
     let k = buffersFor (length input) in
     alters [] (want 1 k k) (newSlip (S .tables)) (putAfter input S)
+
+-- the new slip reads the input
+abbrev pub putCall : List ℕ → Meaning
+putCall input = means [] (put input) (λ S. reading (newSlip (S .tables)) input ∷ [])

@@ -5,7 +5,7 @@ use lib.ListN.{length, take, drop}
 use lib.Dec.{ltb}
 use Rattle.kinds.specs.declared.Refusal.the-variants.{Slip, Range, Narrow}
 use Rattle.rules.specs.Chain.{State, lengthOf, reads}
-use Rattle.rules.specs.Rule.{Rule, _⇐_, unnamed, want, noView}
+use Rattle.rules.specs.Rule.{Rule, _⇐_, unnamed, want, noView, Meaning, looks}
 
 -- xs at the front of a lent output
 abbrev pub copied : List ℕ → List ℕ → List ℕ
@@ -22,3 +22,7 @@ read s off n out S =
       output = copied (take n (drop off (reads S s))) out;
       view = noView;
     }
+
+-- it changes nothing, and is lent the output
+abbrev pub readCall : ℕ → ℕ → ℕ → List ℕ → Meaning
+readCall s off n out = looks (s ∷ []) out (read s off n out)

@@ -1,5 +1,5 @@
 -- What a call's rule says of it, where the pool is sound.
-use mathlib.Core.Bool.{Bool, not, _&&_}
+use mathlib.Core.Bool.{Bool, true, false, not, _&&_}
 use mathlib.Core.List.{List, [], _∷_, _++_}
 use Prim.Native.Nat.{ℕ}
 use lib.ListN.{length}
@@ -76,3 +76,34 @@ answers js n S = alters js (want 0 0 0) n S
 -- the code of a call where the pool is sound
 abbrev pub codeIn : Rule → Tables → ℕ
 codeIn r T = firstCode (r .judged ++ full (r .wants) (room T))
+
+-- ---- all that is said of a call, in one record
+
+-- What a slip is left with: the bytes that it reads, and whether it is vacant.
+pub record Change : Type 0 where
+  pub slip : ℕ
+  pub bytes : List ℕ
+  pub vacated : Bool
+
+-- slip s is held and reads xs; slip s is vacant
+abbrev pub reading : ℕ → List ℕ → Change
+reading s xs = record { slip = s; bytes = xs; vacated = false }
+
+abbrev pub vacating : ℕ → Change
+vacating s = record { slip = s; bytes = []; vacated = true }
+
+-- The meaning of a call: its rule; the output, scratch or list that it is lent; the slips that it
+-- names; and what changes for callers, the slip that gets what is new first.
+pub record Meaning : Type 0 where
+  pub rule : State → Rule
+  pub lent : List ℕ
+  pub names : List ℕ
+  pub changes : State → List Change
+
+-- a call that names slips, is lent no output, and changes slips
+abbrev pub means : List ℕ → (State → Rule) → (State → List Change) → Meaning
+means ns r cs = record { rule = r; lent = []; names = ns; changes = cs }
+
+-- a call that names slips, is lent an output, and changes none
+abbrev pub looks : List ℕ → List ℕ → (State → Rule) → Meaning
+looks ns out r = record { rule = r; lent = out; names = ns; changes = λ S. [] }

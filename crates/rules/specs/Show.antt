@@ -8,7 +8,7 @@ use Rattle.kinds.specs.Limits.{bufferSize}
 use Rattle.kinds.specs.declared.Refusal.the-variants.{Slip, Long, Range, Narrow}
 use Rattle.rules.specs.Basics.{if_then_else_}
 use Rattle.rules.specs.Chain.{State, Stretch, spans, firstLength, lengthOf, positionOf, reads}
-use Rattle.rules.specs.Rule.{Rule, _⇐_, unnamed, want, View, noView}
+use Rattle.rules.specs.Rule.{Rule, _⇐_, unnamed, want, View, noView, Meaning, looks}
 use Rattle.rules.specs.Read.{copied}
 
 -- the first piece does not have the n bytes
@@ -35,3 +35,7 @@ show s n scratch S =
       output = if scattered (spans T s) n then copied (take n (reads S s)) scratch else scratch;
       view = viewOf (spans T s) n;
     }
+
+-- it changes nothing, and is lent the scratch
+abbrev pub showCall : ℕ → ℕ → List ℕ → Meaning
+showCall s n scratch = looks (s ∷ []) scratch (show s n scratch)

@@ -9,22 +9,22 @@ use Rattle.rules.specs.Tables.{freshTables}
 use Rattle.rules.specs.Bytes.{decode, encode}
 use Rattle.rules.specs.Chain.{State, stateOf}
 use Rattle.rules.specs.Sound.{Lent, sound, lent}
-use Rattle.rules.specs.Rule.{Rule, View, noView, codeIn}
+use Rattle.rules.specs.Rule.{Rule, View, noView, codeIn, Meaning}
 use Rattle.rules.specs.Open.{openable}
-use Rattle.rules.specs.Audit.{audit}
-use Rattle.rules.specs.Put.{put}
-use Rattle.rules.specs.Free.{free}
-use Rattle.rules.specs.Dup.{dup}
-use Rattle.rules.specs.Cut.{cut}
-use Rattle.rules.specs.Append.{append}
-use Rattle.rules.specs.Drop.{dropFirst}
-use Rattle.rules.specs.Keep.{keep}
-use Rattle.rules.specs.Pullup.{pullup}
-use Rattle.rules.specs.Pack.{pack}
-use Rattle.rules.specs.Length.{chainLength}
-use Rattle.rules.specs.Read.{read}
-use Rattle.rules.specs.Show.{show}
-use Rattle.rules.specs.List.{wireList}
+use Rattle.rules.specs.Audit.{auditCall}
+use Rattle.rules.specs.Put.{putCall}
+use Rattle.rules.specs.Free.{freeCall}
+use Rattle.rules.specs.Dup.{dupCall}
+use Rattle.rules.specs.Cut.{cutCall}
+use Rattle.rules.specs.Append.{appendCall}
+use Rattle.rules.specs.Drop.{dropCall}
+use Rattle.rules.specs.Keep.{keepCall}
+use Rattle.rules.specs.Pullup.{pullupCall}
+use Rattle.rules.specs.Pack.{packCall}
+use Rattle.rules.specs.Length.{lengthCall}
+use Rattle.rules.specs.Read.{readCall}
+use Rattle.rules.specs.Show.{showCall}
+use Rattle.rules.specs.List.{listCall}
 
 -- The calls that ask a sound pool, with what they are lent besides pool and storage.
 pub data Operation : Type 0 where
@@ -48,39 +48,29 @@ pub data Call : Type 0 where
   Open : ℕ → ℕ → ℕ → Call
   Do : Operation → Call
 
--- each operation's rule
-unfoldable pub rule : Operation → State → Rule
-rule Audit S = audit S
-rule (Put input) S = put input S
-rule (Free s) S = free s S
-rule (Dup s) S = dup s S
-rule (Cut s off n) S = cut s off n S
-rule (Append a b) S = append a b S
-rule (Drop s n) S = dropFirst s n S
-rule (Keep s n) S = keep s n S
-rule (Pullup s n) S = pullup s n S
-rule (Pack s) S = pack s S
-rule (Length s) S = chainLength s S
-rule (Read s off n out) S = read s off n out S
-rule (Show s n scratch) S = show s n scratch S
-rule (WireList s list) S = wireList s list S
+-- each operation's meaning
+abbrev pub meaning : Operation → Meaning
+meaning Audit = auditCall
+meaning (Put input) = putCall input
+meaning (Free s) = freeCall s
+meaning (Dup s) = dupCall s
+meaning (Cut s off n) = cutCall s off n
+meaning (Append a b) = appendCall a b
+meaning (Drop s n) = dropCall s n
+meaning (Keep s n) = keepCall s n
+meaning (Pullup s n) = pullupCall s n
+meaning (Pack s) = packCall s
+meaning (Length s) = lengthCall s
+meaning (Read s off n out) = readCall s off n out
+meaning (Show s n scratch) = showCall s n scratch
+meaning (WireList s list) = listCall s list
 
--- the lent output, scratch or list
+-- its rule, and the output, scratch or list that it is lent
+unfoldable pub rule : Operation → State → Rule
+rule o S = meaning o .rule S
+
 abbrev pub lentOut : Operation → List ℕ
-lentOut Audit = []
-lentOut (Put input) = []
-lentOut (Free s) = []
-lentOut (Dup s) = []
-lentOut (Cut s off n) = []
-lentOut (Append a b) = []
-lentOut (Drop s n) = []
-lentOut (Keep s n) = []
-lentOut (Pullup s n) = []
-lentOut (Pack s) = []
-lentOut (Length s) = []
-lentOut (Read s off n out) = out
-lentOut (Show s n scratch) = scratch
-lentOut (WireList s list) = list
+lentOut o = meaning o .lent
 
 -- what a call is lent besides pool and storage
 abbrev pub lentTo : Call → List ℕ

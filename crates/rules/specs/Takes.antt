@@ -1,32 +1,24 @@
 -- Which slips, pieces and buffers an operation takes: the lowest free at entry, in chain order.
 use mathlib.Core.Path.{_≡_}
 use mathlib.Core.Bool.{not, _&&_}
-use mathlib.Core.List.{List, map}
+use mathlib.Core.List.{List, [], _∷_, map}
 use Prim.Native.Nat.{ℕ, _≤_}
 use lib.ListN.{take}
 use Rattle.rules.specs.Basics.{places, passing}
 use Rattle.rules.specs.Tables.{Tables, slipTotal, pieceTotal, bufferTotal}
 use Rattle.rules.specs.Chain.{State, Stretch, chain, spans}
-use Rattle.rules.specs.Room.{isVacant, isFree, isUnheld, vacantSlips, freePieces, freeBuffers, newSlip}
-use Rattle.rules.specs.Rule.{Wants, room}
-use Rattle.rules.specs.Step.{Operation, Audit, Put, Free, Dup, Cut, Append, Drop, Keep, Pullup, Pack, Length, Read, Show, WireList, rule}
+use Rattle.rules.specs.Room.{isVacant, isFree, isUnheld, vacantSlips, freePieces, freeBuffers}
+use Rattle.rules.specs.Rule.{Wants, room, Change}
+use Rattle.rules.specs.Step.{Operation, meaning, rule}
 
--- the slip whose chain gets what is new
-abbrev pub target : Operation → Tables → ℕ
-target Audit T = 0
-target (Put input) T = newSlip T
-target (Free s) T = s
-target (Dup s) T = newSlip T
-target (Cut s off n) T = newSlip T
-target (Append a b) T = a
-target (Drop s n) T = s
-target (Keep s n) T = s
-target (Pullup s n) T = s
-target (Pack s) T = s
-target (Length s) T = s
-target (Read s off n out) T = s
-target (Show s n scratch) T = s
-target (WireList s list) T = s
+-- the slip whose chain gets what is new: that of the first change, or else the first named
+abbrev pub firstSlip : List Change → List ℕ → ℕ
+firstSlip (c ∷ cs) ns = c .slip
+firstSlip [] (s ∷ ns) = s
+firstSlip [] [] = 0
+
+abbrev pub target : Operation → State → ℕ
+target o S = firstSlip (meaning o .changes S) (meaning o .names)
 
 -- those free in T and no longer in T′
 abbrev pub tookSlips : Tables → Tables → List ℕ
@@ -53,4 +45,4 @@ pub record Took (T T′ : Tables) (w : Wants) (t : ℕ) : Type 0 where
 
 -- The claim about an operation that is done, proved in proofs/Takes.antt.
 abbrev pub TakesOk : Operation → State → Type 0
-TakesOk o S = Took (S .tables) (rule o S .after .tables) (rule o S .wants) (target o (S .tables))
+TakesOk o S = Took (S .tables) (rule o S .after .tables) (rule o S .wants) (target o S)
