@@ -1,25 +1,36 @@
 -- append: soundness is kept, and what its slip then holds. Assumes nothing.
 use mathlib.Core.Path.{_≡_, refl, sym, ap, subst, _∙_}
-use mathlib.Core.Logic.{_≢_}
-use mathlib.Core.List.{List, [], _∷_, _++_, append-assoc}
+use mathlib.Core.Logic.{_≢_, inl, inr, ⊎-elim}
+use mathlib.Core.List.{List, [], _∷_, _++_, append-assoc, append-nil, map-append}
+use mathlib.Core.Bool.{Bool, false, true, _||_}
 use Prim.Native.Nat.{ℕ, _<_, pred, _≤_}
 use native.Mathlib.Omega.{arith}
+use native.Mathlib.Decide.{ℕ-discrete}
 use lib.ListN.{length, getD, length-set, take, take-append-drop}
-use lib.Seq.{getD-set-other}
+use lib.Seq.{getD-set-other, getD-set-same}
 use lib.Dec.{eqb, eqb→eq}
+use Rattle.rules.specs.Basics.{Is, if_then_else_, passing}
 use Rattle.rules.specs.Tables.{Tables, slip, headOf, vacant, slipTotal, pieceTotal, bufferTotal, setSlip, piece}
-use Rattle.rules.specs.Chain.{State, spans, Stretch, chain, stretches, withTables}
-use Rattle.rules.specs.Room.{freePieces}
+use Rattle.rules.specs.Chain.{State, spans, Stretch, chain, stretches, withTables, contents, reads}
+use Rattle.rules.specs.Room.{freePieces, isFree, isUnheld, isVacant}
 use Rattle.rules.specs.Build.{built, builtLink}
-use Rattle.rules.specs.Append.{ownOf, notOwn, joined, appendAfter}
-use Rattle.rules.proofs.Logic.{if-either}
+use Rattle.rules.specs.Rule.{reading, vacating, want}
+use Rattle.rules.specs.Append.{ownOf, notOwn, joined, appendAfter, append, appendCall, oneEmpty}
+use Rattle.rules.specs.Takes.{Took}
+use Rattle.rules.proofs.Logic.{if-either, if-F, or-cases}
 use Rattle.rules.proofs.Moves.{SoundNow, hit, reorder, slip-move, SoundWith}
-use Rattle.rules.proofs.Build.{OwnList, own-pieces, own-list-still, built-sound, built-kept, behind-sound}
-use Rattle.rules.proofs.Room.{free-pieces}
-use Rattle.rules.proofs.Chain.{spans-good, good-drop, built-own, AllUsed, chain-used}
 use Rattle.rules.proofs.Rank.{head-pos}
-use Rattle.rules.proofs.Meets.{chain-meets, agree-all, agree-stretches, slip-same, built-same, built-meets, built-agree}
-use Rattle.rules.proofs.Hang.{Run, Gives, gives-as, gives-from, behind-gives, own-run, ones-used, own-ones, run-still, own-front}
+use Rattle.rules.proofs.Build.{OwnList, own-pieces, own-list-still, built-sound, built-kept, behind-sound}
+use Rattle.rules.proofs.Room.{free-pieces, passing-front, passing-none}
+use Rattle.rules.proofs.Chain.{spans-good, good-drop, built-own, AllUsed, chain-used}
+use Rattle.rules.proofs.Meets.{chain-meets, agree-all, agree-stretches, slip-same, built-same, built-meets, built-agree, Same, same-trans}
+use Rattle.rules.proofs.Hang.{Run, Gives, gives-as, gives-from, behind-gives, own-run, ones-used, own-ones, run-still, own-front, gives-chain, gives-spans, moved-spans}
+use Rattle.rules.proofs.Contents.{contents-append}
+use Rattle.rules.proofs.Codes.{Allowed, both-named}
+use Rattle.rules.proofs.Sizes.{Sizes, behind-sizes, behind-storage, built-sizes, slip-set, then-sizes}
+use Rattle.rules.proofs.After.{Reading, at-by, at-there, empty-spans, gives-reading, gone-reading, held-false, same-reading, stays-as, then-reading}
+use Rattle.rules.proofs.Takes.{buffersOf, new-front, no-slips, old-as, old-none, spans-none, took, took-none, used-none}
+use Rattle.rules.proofs.Lawful.{Lawful}
 
 -- ---- before the hanging
 
@@ -122,3 +133,197 @@ joined-gives a b S ne la lb z (rank, h) r =
     (gives-as refl
     ((λ i. kept i ++ (mb .1 ∙ ap {B = List Stretch} (λ xs. rest ++ xs) (cb .1)) i)
     ∙ sym (append-assoc (stretches T own) rest (spans T b)) ∙ ap {B = List Stretch} (λ xs. xs ++ spans T b) (own-and-not T a (rank, h))) g)
+
+-- ---- append is lawful
+
+joined-sizes : (a b : ℕ) (S : State) → Sizes (S .tables) (joined a b S .tables)
+unfolding joined
+joined-sizes a b S =
+    let T = S .tables in
+    let fs = freePieces T in
+    let T₁ = setSlip T b vacant in
+    then-sizes (slip-set T b vacant) (then-sizes (built-sizes T₁ fs (notOwn T a) (headOf T b))
+    (behind-sizes (withTables S (built T₁ fs (notOwn T a) (headOf T b))) a (ownOf T a) (builtLink fs (notOwn T a) (headOf T b))))
+
+joined-storage : (a b : ℕ) (S : State) → joined a b S .storage ≡ S .storage
+unfolding joined
+joined-storage a b S = behind-storage _ a (ownOf (S .tables) a) _
+
+append-storage : (a b : ℕ) (S : State) → appendAfter a b S .storage ≡ S .storage
+unfolding appendAfter
+append-storage a b S =
+    let T = S .tables in
+    if-either (λ (X : State). X .storage ≡ S .storage) (eqb (headOf T a) 0) _ _ (λ _. refl)
+    (λ _. if-either (λ (X : State). X .storage ≡ S .storage) (eqb (headOf T b) 0) _ _ (λ _. refl) (λ _. joined-storage a b S))
+
+append-sizes : (a b : ℕ) (S : State) → Sizes (S .tables) (appendAfter a b S .tables)
+unfolding appendAfter
+append-sizes a b S =
+    let T = S .tables in
+    if-either (λ (X : State). Sizes T (X .tables)) (eqb (headOf T a) 0) _ _
+    (λ _. then-sizes (slip-set T b vacant) (slip-set (setSlip T b vacant) a (slip T b)))
+    (λ _. if-either (λ (X : State). Sizes T (X .tables)) (eqb (headOf T b) 0) _ _ (λ _. slip-set T b vacant) (λ _. joined-sizes a b S))
+
+-- What slips read: b is vacated first, and then a reads both.
+module _ (a b : ℕ) (S : State) (ne : a ≢ b) (la : a < slipTotal (S .tables)) (lb : b < slipTotal (S .tables)) (za : 0 < slip (S .tables) a) (zb : 0 < slip (S .tables) b) (h : SoundNow (S .tables)) where
+  abbrev vacatedFirst : State
+  vacatedFirst = withTables S (setSlip (S .tables) b vacant)
+
+  -- b's head is held while b is vacant
+  first-sound : SoundWith (headOf (S .tables) b ∷ []) (vacatedFirst .tables)
+  first-sound = (h .0, slip-move {fl = []} b 0 lb (reorder (λ x. omega arith) (h .1)))
+
+  first-reading : Reading S vacatedFirst (vacating b ∷ [])
+  first-reading =
+      gone-reading S vacatedFirst b refl (getD-set-same (S .tables .slips) b 0 0 lb) (λ u n. getD-set-other (S .tables .slips) b u 0 0 n)
+      (λ u _. slip-same (S .tables) b 0 (headOf (S .tables) u)) h first-sound
+
+  first-same : slip (vacatedFirst .tables) a ≡ slip (S .tables) a
+  first-same = getD-set-other (S .tables .slips) b a 0 0 ne
+
+  -- a is empty: it takes b's head
+  taker-reading : headOf (S .tables) a ≡ 0 → SoundNow (setSlip (vacatedFirst .tables) a (slip (S .tables) b))
+      → Reading vacatedFirst (withTables S (setSlip (vacatedFirst .tables) a (slip (S .tables) b))) (reading a (reads S a ++ reads S b) ∷ [])
+  unfolding contents
+  taker-reading e h′ =
+      let T = S .tables in
+      let T₁ : Tables = vacatedFirst .tables in
+      let T₂ : Tables = setSlip T₁ a (slip T b) in
+      let S₂ : State = withTables S T₂ in
+      let mine : slip T₂ a ≡ slip T b = getD-set-same (T₁ .slips) a (slip T b) 0 (omega (arith, length-set (T .slips) b 0)) in
+      let other : (u : ℕ) → u ≢ a → slip T₂ u ≡ slip T₁ u = λ u n. getD-set-other (T₁ .slips) a u (slip T b) 0 n in
+      let none : reads S a ≡ [] = ap (contents (S .storage)) (empty-spans T a e) in
+      record {
+        bytes = at-by a (reads S a ++ reads S b) (reads vacatedFirst) (reads S₂)
+            (ap (contents (S .storage)) (moved-spans a b mine (same-trans (slip-same T b 0 (headOf T b)) (slip-same T₁ a (slip T b) (headOf T b))) h h′)
+            ∙ ap {B = List ℕ} (λ xs. xs ++ reads S b) (sym none))
+            (λ u n. ap (contents (S .storage)) (moved-spans u u (other u n) (slip-same T₁ a (slip T b) (headOf T₁ u)) first-sound h′));
+        vacancy = at-by a false (isVacant T₁) (isVacant T₂) (sym (held-false T₂ a (omega (arith, mine)))) (λ u n. ap (λ v. eqb v 0) (other u n));
+      }
+
+  -- b is empty: a stays
+  stayer-reading : headOf (S .tables) b ≡ 0 → Reading vacatedFirst vacatedFirst (reading a (reads S a ++ reads S b) ∷ [])
+  unfolding contents
+  stayer-reading e =
+      let none : reads S b ≡ [] = ap (contents (S .storage)) (empty-spans (S .tables) b e) in
+      same-reading vacatedFirst a (reads S a ++ reads S b) (omega (arith, first-same))
+      (ap {B = List ℕ} (λ xs. reads S a ++ xs) none ∙ append-nil (reads S a) ∙ sym (first-reading .bytes a ∙ at-there b a [] (reads S) ne))
+
+  joined-reading : SoundNow (joined a b S .tables) → length (notOwn (S .tables) a) ≤ length (freePieces (S .tables)) → Reading vacatedFirst (joined a b S) (reading a (reads S a ++ reads S b) ∷ [])
+  joined-reading h′ r =
+      let T = S .tables in
+      let st = joined-storage a b S in
+      gives-reading vacatedFirst (joined a b S) a _ _ (reads S a ++ reads S b) (joined-gives a b S ne la lb za h r) first-sound h′ (λ u. ap (λ (q : List ℕ). contents q (spans (vacatedFirst .tables) u)) st)
+      (ap (λ (q : List ℕ). contents q (spans T a ++ spans T b)) st ∙ contents-append (S .storage) (spans T a) (spans T b))
+
+-- where neither chain is empty append wants a piece for each that is not own
+wanted-rest : (T : Tables) (a b : ℕ) → (if oneEmpty T a b then 0 else length (notOwn T a)) ≤ length (freePieces T) → (Is (eqb (headOf T a) 0) → ⊥) → (Is (eqb (headOf T b) 0) → ⊥) → length (notOwn T a) ≤ length (freePieces T)
+wanted-rest T a b r na nb =
+    omega (arith, if-F (oneEmpty T a b) 0 (length (notOwn T a)) (λ t. ⊎-elim na nb (or-cases (eqb (headOf T a) 0) (eqb (headOf T b) 0) t)))
+
+append-leaves : (a b : ℕ) (S : State) → SoundNow (S .tables) → Allowed (append a b S) (S .tables) → SoundNow (appendAfter a b S .tables)
+    → Reading S (appendAfter a b S) (reading a (reads S a ++ reads S b) ∷ vacating b ∷ [])
+unfolding appendAfter
+append-leaves a b S h al =
+    let T = S .tables in
+    let ((la, za), (lb, zb), ne) = both-named T a b (al .early) in
+    let first = first-reading a b S ne la lb za zb h in
+    let P : State → Type 0 = λ X. SoundNow (X .tables) → Reading S X (reading a (reads S a ++ reads S b) ∷ vacating b ∷ []) in
+    if-either P (eqb (headOf T a) 0) _ _
+    (λ e h′. then-reading first (taker-reading a b S ne la lb za zb h (eqb→eq (headOf T a) 0 e) h′))
+    (λ na. if-either P (eqb (headOf T b) 0) _ _
+    (λ e _. then-reading first (stayer-reading a b S ne la lb za zb h (eqb→eq (headOf T b) 0 e)))
+    (λ nb h′. then-reading first (joined-reading a b S ne la lb za zb h h′ (wanted-rest T a b (al .pieces-room) na nb))))
+
+-- what holds of every branch of two choices by the same tests
+if-three : {A B : Type 0} (P : A → B → Type 0) (b c : Bool) (k m n : A) (x y : B) → P k x → P m x → P n y → P (if b then k else if c then m else n) (if b || c then x else y)
+unfolding if_then_else_
+if-three P true c k m n x y p q r = p
+if-three P false true k m n x y p q r = q
+if-three P false false k m n x y p q r = r
+
+-- What is taken: where either chain is empty, and where neither is.
+module _ (a b : ℕ) (S : State) (la : a < slipTotal (S .tables)) (za : 0 < slip (S .tables) a) (lb : b < slipTotal (S .tables)) (zb : 0 < slip (S .tables) b) (ne : a ≢ b) (h : SoundNow (S .tables)) where
+  gone : slip (setSlip (S .tables) b vacant) b ≡ 0
+  gone = getD-set-same (S .tables .slips) b 0 0 lb
+
+  stay : (u : ℕ) → u ≢ b → slip (setSlip (S .tables) b vacant) u ≡ slip (S .tables) u
+  stay u n = getD-set-other (S .tables .slips) b u 0 0 n
+
+  -- a vacant slip is neither
+  not-a : (u : ℕ) → slip (S .tables) u ≡ 0 → u ≢ a
+  not-a u z e = omega (arith, ap (slip (S .tables)) e)
+
+  not-b : (u : ℕ) → slip (S .tables) u ≡ 0 → u ≢ b
+  not-b u z e = omega (arith, ap (slip (S .tables)) e)
+
+  none-a : SoundNow (setSlip (setSlip (S .tables) b vacant) a (slip (S .tables) b)) → Took (S .tables) (setSlip (setSlip (S .tables) b vacant) a (slip (S .tables) b)) (want 0 0 0) a
+  none-a h′ =
+      let T = S .tables in
+      let T₁ : Tables = setSlip T b vacant in
+      let T′ : Tables = setSlip T₁ a (slip T b) in
+      let other : (u : ℕ) → u ≢ a → slip T′ u ≡ slip T₁ u = λ u n. getD-set-other (T₁ .slips) a u (slip T b) 0 n in
+      let same : (n : ℕ) → Same T T′ n = λ n. same-trans (slip-same T b 0 n) (slip-same T₁ a (slip T b) n) in
+      let mine : slip T′ a ≡ slip T b = getD-set-same (T₁ .slips) a (slip T b) 0 (omega (arith, length-set (T .slips) b 0)) in
+      took-none T T′ a h′
+      (λ u. elim (ℕ-discrete u a) [
+        | yes e ↦ old-as T T′ u b h h′ (ap (slip T′) e ∙ mine) (same (headOf T b))
+        | no e ↦
+            elim (ℕ-discrete u b) [
+              | yes k ↦ old-none T T′ u h′ (other u e ∙ ap (slip T₁) k ∙ gone)
+              | no k ↦ old-as T T′ u u h h′ (other u e ∙ stay u k) (same (headOf T u))
+            ]
+      ])
+      (λ u z. other u (not-a u z) ∙ stay u (not-b u z) ∙ z)
+
+  none-b : SoundNow (setSlip (S .tables) b vacant) → Took (S .tables) (setSlip (S .tables) b vacant) (want 0 0 0) a
+  none-b h′ =
+      let T = S .tables in
+      let T′ : Tables = setSlip T b vacant in
+      took-none T T′ a h′
+      (λ u. elim (ℕ-discrete u b) [ yes e ↦ old-none T T′ u h′ (ap (slip T′) e ∙ gone) | no e ↦ old-as T T′ u u h h′ (stay u e) (slip-same T b 0 (headOf T u)) ])
+      (λ u z. stay u (not-b u z) ∙ z)
+
+  joined-takes : SoundNow (joined a b S .tables) → length (notOwn (S .tables) a) ≤ length (freePieces (S .tables)) → Took (S .tables) (joined a b S .tables) (want 0 (length (notOwn (S .tables) a)) 0) a
+  joined-takes h′ r =
+      let T = S .tables in
+      let T₁ : Tables = setSlip T b vacant in
+      let T′ = joined a b S .tables in
+      let g = joined-gives a b S ne la lb za h r in
+      let own = ownOf T a in
+      let new = take (length (notOwn T a)) (freePieces T) in
+      took T T′ (want 0 (length (notOwn T a)) 0) a h′ (omega arith)
+      (λ u n. elim (ℕ-discrete u b) [
+        | yes e ↦ old-none T T′ u h′ (g .entries u n ∙ ap (slip T₁) e ∙ gone)
+        | no e ↦
+            old-as T T′ u u h h′ (g .entries u n ∙ stay u e)
+            (same-trans (slip-same T b 0 (headOf T u)) (subst (λ x. Same T₁ T′ (pred x)) (stay u e) (g .others u n)))
+      ])
+      (no-slips T T′ (λ u z. g .entries u (not-a u z) ∙ stay u (not-b u z) ∙ z))
+      (ap (passing (isFree T)) (gives-chain g h′)
+      ∙ passing-front (isFree T) own (new ++ chain T b) (used-none T own (ones-used T own (own-ones (pieceTotal T) (headOf T a) T)))
+      ∙ new-front T (length (notOwn T a)) (chain T b) (chain-used T b h))
+      (ap (λ (xs : List Stretch). passing (isUnheld T) (buffersOf xs)) (gives-spans g h′)
+      ∙ ap (passing (isUnheld T)) (map-append (λ (x : Stretch). x .buffer) (spans T a) (spans T b))
+      ∙ passing-front (isUnheld T) (buffersOf (spans T a)) (buffersOf (spans T b)) (spans-none T a h)
+      ∙ passing-none (isUnheld T) (buffersOf (spans T b)) (spans-none T b h))
+
+  append-takes : SoundNow (appendAfter a b S .tables) → (if oneEmpty (S .tables) a b then 0 else length (notOwn (S .tables) a)) ≤ length (freePieces (S .tables))
+      → Took (S .tables) (appendAfter a b S .tables) (want 0 (if oneEmpty (S .tables) a b then 0 else length (notOwn (S .tables) a)) 0) a
+  unfolding appendAfter
+  append-takes =
+      let T = S .tables in
+      if-three (λ (X : State) (k : ℕ). SoundNow (X .tables) → k ≤ length (freePieces T) → Took T (X .tables) (want 0 k 0) a)
+      (eqb (headOf T a) 0) (eqb (headOf T b) 0) _ _ _ 0 (length (notOwn T a)) (λ h′ _. none-a h′) (λ h′ _. none-b h′) joined-takes
+
+pub append-lawful : (a b : ℕ) → Lawful (appendCall a b)
+append-lawful a b = record {
+  rises = λ S. (omega arith, (omega arith, tt));
+  apart = λ S. (omega arith, (omega arith, tt));
+  sizes = append-sizes a b;
+  stays = λ S _. stays-as S (appendAfter a b S) (append-storage a b S);
+  sound = λ S h al. (let ((la, _), (lb, _), ne) = both-named (S .tables) a b (al .early) in append-sound a b S ne la lb h);
+  known = λ S _. (inl (inl refl), (inl (inr refl), tt));
+  leaves = λ S h _ al h′. append-leaves a b S h al h′;
+  takes = λ S h al h′. (let ((la, za), (lb, zb), ne) = both-named (S .tables) a b (al .early) in append-takes a b S la za lb zb ne h h′ (al .pieces-room));
+}

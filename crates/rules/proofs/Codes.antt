@@ -1,9 +1,9 @@
 -- Which code is given, and what follows from a call's being done. Assumes nothing.
 use mathlib.Core.Path.{_≡_, refl, sym, ap, subst, _∙_}
 use mathlib.Core.Logic.{_≢_, _↔_, ⊎-elim}
-use mathlib.Core.Bool.{Bool, true, false, not, _&&_}
+use mathlib.Core.Bool.{Bool, true, false, not, _&&_, _||_}
 use mathlib.Core.List.{List, [], _∷_, _++_, List·Memᴰ, List·Memᴰ·not-nil, List·Memᴰ·cases-cons}
-use Prim.Native.Nat.{ℕ, _+_, _≤_, _<_}
+use Prim.Native.Nat.{ℕ, _≤_, _<_}
 use native.Mathlib.Decide.{ℕ-discrete, decLt}
 use native.Mathlib.Omega.{arith}
 use lib.Dec.{T-not, not-T, leb, leb→le, ltb, ltb→lt, lt→ltb, eqb, eqb→eq}
@@ -12,10 +12,8 @@ use Rattle.kinds.specs.declared.Refusal.the-variants.{Counts, Torn, Slip, Same,
 use Rattle.kinds.specs.Refusal.{refusalCode}
 use Rattle.rules.specs.Basics.{Is, if_then_else_}
 use Rattle.rules.specs.Tables.{Tables, slip, slipTotal}
-use Rattle.rules.specs.Chain.{State}
 use Rattle.rules.specs.Rule.{Judged, _⇐_, firstCode, unnamed, Wants, want, room, Rule, full, codeIn}
-use Rattle.rules.specs.Step.{Operation, Audit, Put, Free, Dup, Cut, Append, Drop, Keep, Pullup, Pack, Length, Read, Show, WireList, rule}
-use Rattle.rules.proofs.Logic.{if-T, if-F, if-either, and-0, and-1, not-not, not-zero, not-most, eq→eqb}
+use Rattle.rules.proofs.Logic.{if-T, if-F, if-either, and-0, and-1, not-not, not-zero, not-most, eq→eqb, or-none}
 
 pub refusal-pos : (r : Refusal) → 0 < refusalCode r
 refusal-pos Counts = omega arith
@@ -138,30 +136,24 @@ named T s h =
       not-zero (slip T s) (λ z. T-not (eqb (slip T s) 0) (and-1 (ltb s (slipTotal T)) (not (eqb (slip T s) 0)) t) z),
     )
 
+-- the slip of a call whose first judged refusal is Slip
+pub first-named : (T : Tables) (s : ℕ) (js : List Judged) → firstCode ((Slip ⇐ unnamed T s) ∷ js) ≡ 0 → (s < slipTotal T) × (0 < slip T s)
+first-named T s js e = named T s (first-zero (Slip ⇐ unnamed T s) js e .0)
+
+-- the two slips of append
+pub both-named : (T : Tables) (a b : ℕ) → firstCode ((Slip ⇐ (unnamed T a || unnamed T b)) ∷ (Same ⇐ eqb a b) ∷ []) ≡ 0
+    → ((a < slipTotal T) × (0 < slip T a)) × ((b < slipTotal T) × (0 < slip T b)) × (a ≢ b)
+both-named T a b e =
+    let z = first-zero (Slip ⇐ (unnamed T a || unnamed T b)) ((Same ⇐ eqb a b) ∷ []) e in
+    let n = or-none (unnamed T a) (unnamed T b) (z .0) in
+    (named T a (n .0), named T b (n .1), λ q. first-zero (Same ⇐ eqb a b) [] (z .1) .0 (eq→eqb a b q))
+
 -- ---- the codes judged before room
 
 -- the codes of the list rise from c on
 abbrev pub Rising : ℕ → List Judged → Type 0
 Rising c [] = Unit {0}
 Rising c (j ∷ js) = (c < refusalCode (j .refusal)) × Rising (refusalCode (j .refusal)) js
-
--- Each call's refusals rise from 2 on.
-pub lowest-first : (o : Operation) (S : State) → Rising (refusalCode Torn) (rule o S .judged)
-unfolding rule
-lowest-first Audit S = tt
-lowest-first (Put input) S = tt
-lowest-first (Free s) S = (omega arith, tt)
-lowest-first (Dup s) S = (omega arith, tt)
-lowest-first (Cut s off n) S = (omega arith, (omega arith, tt))
-lowest-first (Append a b) S = (omega arith, (omega arith, tt))
-lowest-first (Drop s n) S = (omega arith, (omega arith, tt))
-lowest-first (Keep s n) S = (omega arith, (omega arith, tt))
-lowest-first (Pullup s n) S = (omega arith, (omega arith, (omega arith, tt)))
-lowest-first (Pack s) S = (omega arith, tt)
-lowest-first (Length s) S = (omega arith, tt)
-lowest-first (Read s off n out) S = (omega arith, (omega arith, (omega arith, tt)))
-lowest-first (Show s n scratch) S = (omega arith, (omega arith, (omega arith, (omega arith, tt))))
-lowest-first (WireList s list) S = (omega arith, (omega arith, tt))
 
 rising-above : (c : ℕ) (js : List Judged) → Rising c js → (j : Judged) → List·Memᴰ j js → c < refusalCode (j .refusal)
 rising-above c [] a j m = absurd (List·Memᴰ·not-nil m)
@@ -186,30 +178,11 @@ abbrev pub Apart : List Judged → Type 0
 Apart [] = Unit {0}
 Apart (j ∷ js) = Other (refusalCode (j .refusal)) × Apart js
 
-apart-first : (js : List Judged) → Apart js → Other (firstCode js)
+-- nor is the one that is given
+pub apart-first : (js : List Judged) → Apart js → Other (firstCode js)
 unfolding firstCode
 apart-first [] a = omega arith
 apart-first (j ∷ js) a = if-either Other (j .applies) (refusalCode (j .refusal)) (firstCode js) (λ _. a .0) (λ _. apart-first js (a .1))
-
-pub judged-apart : (o : Operation) (S : State) → Apart (rule o S .judged)
-unfolding rule
-judged-apart Audit S = tt
-judged-apart (Put input) S = tt
-judged-apart (Free s) S = (omega arith, tt)
-judged-apart (Dup s) S = (omega arith, tt)
-judged-apart (Cut s off n) S = (omega arith, (omega arith, tt))
-judged-apart (Append a b) S = (omega arith, (omega arith, tt))
-judged-apart (Drop s n) S = (omega arith, (omega arith, tt))
-judged-apart (Keep s n) S = (omega arith, (omega arith, tt))
-judged-apart (Pullup s n) S = (omega arith, (omega arith, (omega arith, tt)))
-judged-apart (Pack s) S = (omega arith, tt)
-judged-apart (Length s) S = (omega arith, tt)
-judged-apart (Read s off n out) S = (omega arith, (omega arith, (omega arith, tt)))
-judged-apart (Show s n scratch) S = (omega arith, (omega arith, (omega arith, (omega arith, tt))))
-judged-apart (WireList s list) S = (omega arith, (omega arith, tt))
-
-pub judged-early : (o : Operation) (S : State) → Other (firstCode (rule o S .judged))
-judged-early o S = apart-first (rule o S .judged) (judged-apart o S)
 
 -- ---- the bounds of a call that is done
 

@@ -1,23 +1,30 @@
 -- cut: soundness is kept, what its slip then holds, and how many bytes. Assumes nothing.
+use mathlib.Core.Path.{_≡_, refl}
+use mathlib.Core.List.{[], append-nil, _∷_}
+use mathlib.Core.Logic.{inr}
 use Prim.Native.Nat.{ℕ, _<_, _≤_}
 use native.Mathlib.Omega.{arith}
 use lib.ListN.{length, take, drop, length-take, length-drop}
-use Rattle.rules.specs.Tables.{bufferTotal}
+use Rattle.rules.specs.Tables.{bufferTotal, pieceTotal}
 use Rattle.rules.specs.Chain.{State, spans, cutOut, stretches, reads}
-use Rattle.rules.specs.Room.{vacantSlips, freePieces, newSlip}
+use Rattle.rules.specs.Room.{vacantSlips, freePieces, newSlip, isFree, isUnheld}
 use Rattle.rules.specs.Build.{plain}
-use Rattle.rules.specs.Cut.{cutAfter}
+use Rattle.rules.specs.Rule.{reading}
+use Rattle.rules.specs.Cut.{cutAfter, cut, cutCall}
 use Rattle.rules.specs.Step.{Cut, rule}
+use Rattle.rules.specs.Takes.{Took}
 use Rattle.rules.proofs.Moves.{SoundNow}
 use Rattle.rules.proofs.Build.{plain-planned, new-sound}
-use Rattle.rules.proofs.Room.{free-pieces, new-slip-ok}
+use Rattle.rules.proofs.Room.{free-pieces, new-slip-ok, passing-none}
 use Rattle.rules.proofs.Chain.{spans-good, cutOut-good}
-use mathlib.Core.Path.{_≡_}
-use mathlib.Core.List.{[], append-nil}
 use Rattle.rules.proofs.Meets.{stop, same-refl}
 use Rattle.rules.proofs.Hang.{Gives, gives-as, new-gives}
-use Rattle.rules.proofs.Contents.{Fit, contents-length}
+use Rattle.rules.proofs.Contents.{Fit, contents-length, cutOut-contents}
 use Rattle.rules.proofs.Codes.{Allowed, no-cause}
+use Rattle.rules.proofs.Sizes.{new-sizes, same-sizes}
+use Rattle.rules.proofs.After.{Reading, gives-reading, stays-as}
+use Rattle.rules.proofs.Takes.{buffersOf, cutOut-none, new-pass, roomy, spans-none, took-new}
+use Rattle.rules.proofs.Lawful.{Lawful, new-vacant}
 
 pub cut-sound : (s off n : ℕ) (S : State) → 0 < length (vacantSlips (S .tables)) → SoundNow (S .tables) → SoundNow (cutAfter s off n S .tables)
 unfolding cutAfter
@@ -44,3 +51,33 @@ cut-exact s off n S h f a =
     let c = simp no-cause at (a .early) in
     let l = contents-length (bufferTotal (S .tables)) (S .storage) (spans (S .tables) s) f (spans-good (S .tables) s h) in
     simp (length-take, length-drop) (omega arith)
+
+-- ---- cut is lawful
+
+cut-leaves : (s off n : ℕ) (S : State) → SoundNow (S .tables) → Fit (bufferTotal (S .tables)) (S .storage) → Allowed (cut s off n S) (S .tables) → SoundNow (cutAfter s off n S .tables)
+    → Reading S (cutAfter s off n S) (reading (newSlip (S .tables)) (take n (drop off (reads S s))) ∷ [])
+unfolding cutAfter
+cut-leaves s off n S h f a h′ =
+    gives-reading S (cutAfter s off n S) (newSlip (S .tables)) _ _ _ (cut-gives s off n S h (a .slips-room) (a .pieces-room)) h h′ (λ u. refl)
+    (cutOut-contents (bufferTotal (S .tables)) (S .storage) (spans (S .tables) s) off n f (spans-good (S .tables) s h))
+
+cut-takes : (s off n : ℕ) (S : State) → SoundNow (S .tables) → Allowed (cut s off n S) (S .tables) → SoundNow (cutAfter s off n S .tables)
+    → Took (S .tables) (cutAfter s off n S .tables) (cut s off n S .wants) (newSlip (S .tables))
+cut-takes s off n S h a h′ =
+    let T = S .tables in
+    let xs = cutOut (spans T s) off n in
+    took-new T _ _ _ h h′ (cut-gives s off n S h (a .slips-room) (a .pieces-room)) (length xs) 0 (roomy a)
+    (new-pass (isFree T) (pieceTotal T) (length xs)) (passing-none (isUnheld T) (buffersOf xs) (cutOut-none (isUnheld T) (spans T s) off n (spans-none T s h)))
+
+pub cut-lawful : (s off n : ℕ) → Lawful (cutCall s off n)
+unfolding cutAfter
+cut-lawful s off n = record {
+  rises = λ S. (omega arith, (omega arith, tt));
+  apart = λ S. (omega arith, (omega arith, tt));
+  sizes = λ S. new-sizes (plain (S .tables) _) (freePieces (S .tables)) (newSlip (S .tables)) (same-sizes (S .tables));
+  stays = λ S _. stays-as S (cutAfter s off n S) refl;
+  sound = λ S h a. cut-sound s off n S (a .slips-room) h;
+  known = λ S a. (inr (new-vacant (S .tables) (a .slips-room)), tt);
+  leaves = cut-leaves s off n;
+  takes = cut-takes s off n;
+}

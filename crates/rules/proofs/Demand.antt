@@ -9,9 +9,10 @@ use native.Mathlib.Omega.{arith}
 use lib.Dec.{eqb, eqb→eq, T-not, not-T}
 use Rattle.kinds.specs.declared.Refusal.the-variants.{Counts, Torn, Slips, Pieces, Buffers}
 use Rattle.kinds.specs.Refusal.{refusalCode}
-use Rattle.rules.specs.Basics.{Is, if_then_else_}
+use Rattle.rules.specs.Basics.{Is}
 use Rattle.rules.specs.Tables.{Tables}
 use Rattle.rules.specs.Bytes.{decode}
+use Rattle.rules.specs.Chain.{withTables}
 use Rattle.rules.specs.Sound.{Lent, sound}
 use Rattle.rules.specs.Rule.{_⇐_, firstCode, Wants, want, room, full}
 use Rattle.rules.specs.Open.{openable}
@@ -21,9 +22,9 @@ use Rattle.rules.specs.Demand.{early, wanted, left, CallOk, Each, Demand
 use Rattle.rules.proofs.Logic.{if-T, if-F, if-either, eq→eqb}
 use Rattle.rules.proofs.Audit.{sound-now}
 use Rattle.rules.proofs.Recount.{recount, recounted-same, leaves-room}
-use Rattle.rules.proofs.Codes.{first-yes, first-no, first-none, first-append, none-full, Full, full-facts, Other, judged-early}
+use Rattle.rules.proofs.Codes.{first-yes, first-no, first-none, first-append, none-full, Full, full-facts, Other}
+use Rattle.rules.proofs.Calls.{judged-early}
 use Rattle.rules.proofs.Step.{code-is, opened-sound, step-keeps}
-use Rattle.rules.specs.Chain.{withTables}
 
 -- ---- one call
 

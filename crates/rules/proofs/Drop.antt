@@ -2,31 +2,38 @@
 use mathlib.Core.Path.{_≡_, refl, sym, ap, subst, subst₂, _∙_}
 use mathlib.Core.Bool.{Bool, true, _&&_}
 use mathlib.Core.List.{List, [], _∷_, _++_, List·Memᴰ}
+use mathlib.Core.Logic.{_≢_, inl}
 use Prim.Native.Nat.{ℕ, zero, suc, _+_, _-_, _<_, _≤_, pred}
 use native.Mathlib.Nat.{suc-inj}
 use native.Mathlib.Decide.{decLe}
 use native.Mathlib.Omega.{arith}
-use lib.ListN.{length, take, length-set}
+use lib.ListN.{length, take, length-set, drop}
 use lib.Seq.{getD-set-same, getD-set-other}
 use lib.Dec.{eqb, leb, eqb→eq, leb→le, le→leb}
-use Rattle.rules.specs.Basics.{if_then_else_, Is}
-use Rattle.rules.specs.Tables.{Piece, Tables, blank, piece, slipTotal, setPiece, withCount, headOf, setSlip}
-use Rattle.rules.specs.Chain.{State, chain, stretch, Stretch, stretches, spans}
-use Rattle.rules.specs.Room.{freePieces}
+use Rattle.rules.specs.Basics.{Is}
+use Rattle.rules.specs.Tables.{Piece, Tables, blank, piece, slipTotal, setPiece, withCount, headOf, setSlip, bufferTotal}
+use Rattle.rules.specs.Chain.{State, chain, stretch, Stretch, stretches, spans, contents, reads}
+use Rattle.rules.specs.Room.{freePieces, isUnheld}
 use Rattle.rules.specs.Release.{shared}
 use Rattle.rules.specs.Build.{Plan, underOld}
-use Rattle.rules.specs.Drop.{shorter, dropHere, dropPlan, dropped, dropAfter, ownAt}
+use Rattle.rules.specs.Rule.{reading, want}
+use Rattle.rules.specs.Drop.{shorter, dropHere, dropPlan, dropped, dropAfter, ownAt, dropCall, dropFirst}
+use Rattle.rules.specs.Takes.{Took}
 use Rattle.rules.proofs.Logic.{if-either, not-most, and-0, and-1, if-T, if-F}
 use Rattle.rules.proofs.Moves.{SoundBy, SoundNow, used-in-range, in-range, buffer-pos, trim-move, reorder, slip-move}
 use Rattle.rules.proofs.Rank.{next-pos}
 use Rattle.rules.proofs.Release.{held-pos}
 use Rattle.rules.proofs.Build.{share-sound, still-shared, still-store, still-trans, Planned, plain-planned, old-sound, OwnTo, own-still}
-use Rattle.rules.proofs.Room.{free-pieces}
-use Rattle.rules.proofs.Chain.{AllUsed, chain-used}
-use mathlib.Core.Logic.{_≢_}
+use Rattle.rules.proofs.Room.{free-pieces, passing-none}
+use Rattle.rules.proofs.Chain.{AllUsed, chain-used, spans-good}
 use Rattle.rules.proofs.Meets.{Meets, stop, go, chain-meets, meets-low, Alike, alike, Agree, agree-but, agree-meets, agree-stretches, Same, same-by, same-refl, slip-same, shared-same, Safe, head-safe, own-apart}
 use Rattle.rules.proofs.Hang.{Gives, gives-as, old-gives}
-use Rattle.rules.proofs.Contents.{dropOut}
+use Rattle.rules.proofs.Contents.{dropOut, Fit, dropOut-contents}
+use Rattle.rules.proofs.Codes.{Allowed, first-named}
+use Rattle.rules.proofs.Sizes.{Sizes, old-sizes, old-storage, piece-set, shared-sizes, then-sizes, same-sizes}
+use Rattle.rules.proofs.After.{Reading, StorageStays, gives-reading, same-reading, stays-as}
+use Rattle.rules.proofs.Takes.{buffersOf, dropOut-none, new-front, nothing-taken, roomy, spans-none, took-held}
+use Rattle.rules.proofs.Lawful.{Lawful}
 
 pub drop-here : (T : Tables) (own : Bool) (d n : ℕ) → n < piece T d .len → 0 < piece T d .count → SoundNow T → Planned T (dropHere T own d n)
 unfolding dropHere
@@ -189,3 +196,62 @@ drop-none T own [] n e = refl
 drop-none T own (d ∷ ds) n e =
     let own′ = own && eqb (piece T d .count) 1 in
     if-either (λ (p : Plan). p .more ≡ []) (leb (piece T d .len) n) _ _ (λ _. drop-none T own′ ds (n - piece T d .len) (omega arith)) (λ _. here-none T own′ d n e)
+
+-- ---- drop is lawful
+
+here-sizes : (T : Tables) (own : Bool) (d n : ℕ) → Sizes T (dropHere T own d n .base)
+unfolding dropHere
+here-sizes T own d zero = shared-sizes T (suc d)
+here-sizes T own d (suc r) =
+    if-either (λ (p : Plan). Sizes T (p .base)) own _ _ (λ _. then-sizes (shared-sizes T (suc d)) (piece-set (shared T (suc d)) d _)) (λ _. shared-sizes T (piece T d .next))
+
+pub plan-sizes : (T : Tables) (own : Bool) (ds : List ℕ) (n : ℕ) → Sizes T (dropPlan T own ds n .base)
+unfolding dropPlan
+plan-sizes T own [] n = same-sizes T
+plan-sizes T own (d ∷ ds) n =
+    let own′ = ownAt T own d in
+    if-either (λ (p : Plan). Sizes T (p .base)) (leb (piece T d .len) n) _ _ (λ _. plan-sizes T own′ ds (n - piece T d .len)) (λ _. here-sizes T own′ d n)
+
+drop-leaves : (s n : ℕ) (S : State) → SoundNow (S .tables) → Fit (bufferTotal (S .tables)) (S .storage) → Allowed (dropFirst s n S) (S .tables) → SoundNow (dropAfter s n S .tables)
+    → Reading S (dropAfter s n S) (reading s (drop n (reads S s)) ∷ [])
+unfolding dropAfter
+drop-leaves s n S h f al =
+    let T = S .tables in
+    let (b, z) = first-named T s _ (al .early) in
+    if-either (λ (X : State). SoundNow (X .tables) → Reading S X (reading s (drop n (reads S s)) ∷ [])) (eqb n 0) _ _
+    (λ e _. same-reading S s (drop n (reads S s)) z (ap (λ k. drop k (reads S s)) (eqb→eq n 0 e)))
+    (λ _ h′. (
+    let st = old-storage S (dropped T s n) (freePieces T) s in
+    gives-reading S _ s _ _ (drop n (reads S s)) (drop-gives s n S b h (al .pieces-room)) h h′
+    (λ u. ap (λ (q : List ℕ). contents q (spans T u)) st)
+    (ap (λ (q : List ℕ). contents q (dropOut (spans T s) n)) st ∙ dropOut-contents (bufferTotal T) (S .storage) (spans T s) n f (spans-good T s h))))
+
+drop-takes : (s n : ℕ) (S : State) → SoundNow (S .tables) → Allowed (dropFirst s n S) (S .tables) → SoundNow (dropAfter s n S .tables)
+    → Took (S .tables) (dropAfter s n S .tables) (dropFirst s n S .wants) s
+unfolding dropAfter
+drop-takes s n S h a =
+    let T = S .tables in
+    let (b, z) = first-named T s _ (a .early) in
+    let k = length (dropped T s n .more) in
+    let v = dropped-leaves T s n b h in
+    if-either (λ (X : State). SoundNow (X .tables) → Took T (X .tables) (want 0 k 0) s) (eqb n 0) _ _
+    (λ t _. subst (λ j. Took T T (want 0 j 0) s) (sym (ap length (drop-none T true (chain T s) n (eqb→eq n 0 t)))) (nothing-taken T s h))
+    (λ _ h′. took-held T _ s _ _ h h′ (drop-gives s n S b h (a .pieces-room)) z k 0 (roomy a)
+    (new-front T k (v .rest) (v .used)) (passing-none (isUnheld T) (buffersOf (dropOut (spans T s) n)) (dropOut-none (isUnheld T) (spans T s) n (spans-none T s h))))
+
+pub drop-lawful : (s n : ℕ) → Lawful (dropCall s n)
+unfolding dropAfter
+drop-lawful s n = record {
+  rises = λ S. (omega arith, (omega arith, tt));
+  apart = λ S. (omega arith, (omega arith, tt));
+  sizes = λ S. (
+    let T = S .tables in
+    if-either (λ (X : State). Sizes T (X .tables)) (eqb n 0) _ _ (λ _. same-sizes T) (λ _. old-sizes S (dropped T s n) (freePieces T) s (plan-sizes T true (chain T s) n)));
+  stays = λ S _. (
+    let T = S .tables in
+    if-either (StorageStays S) (eqb n 0) _ _ (λ _. stays-as S S refl) (λ _. stays-as S _ (old-storage S (dropped T s n) (freePieces T) s)));
+  sound = λ S h a. drop-sound s n S (first-named (S .tables) s _ (a .early) .0) h;
+  known = λ S _. (inl refl, tt);
+  leaves = drop-leaves s n;
+  takes = drop-takes s n;
+}

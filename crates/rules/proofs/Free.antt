@@ -1,11 +1,54 @@
--- free keeps soundness. Assumes nothing.
-use Prim.Native.Nat.{ℕ, _<_}
+-- free: soundness is kept, and it is lawful. Assumes nothing.
+use mathlib.Core.List.{[], _∷_}
+use mathlib.Core.Path.{_∙_, ap, refl}
+use mathlib.Core.Logic.{inl}
+use Prim.Native.Nat.{ℕ, _<_, pred}
 use native.Mathlib.Omega.{arith}
-use Rattle.rules.specs.Tables.{slipTotal}
+use native.Mathlib.Decide.{ℕ-discrete}
+use Rattle.rules.specs.Tables.{slipTotal, slip, vacant}
 use Rattle.rules.specs.Chain.{State}
-use Rattle.rules.specs.Free.{freeAfter}
-use Rattle.rules.proofs.Moves.{SoundNow, reorder}
-use Rattle.rules.proofs.Release.{turned-sound}
+use Rattle.rules.specs.Rule.{vacating, want}
+use Rattle.rules.specs.Free.{freeAfter, freeCall}
+use Rattle.rules.specs.Takes.{Took}
+use Rattle.rules.proofs.Moves.{SoundNow, reorder, SoundWith}
+use Rattle.rules.proofs.Release.{turned-sound, turned-storage}
+use Rattle.rules.proofs.Hang.{turned-entries, turned-entry, turned-others}
+use Rattle.rules.proofs.Codes.{first-named}
+use Rattle.rules.proofs.Sizes.{turned-sizes}
+use Rattle.rules.proofs.After.{Reading, gone-reading, stays-as}
+use Rattle.rules.proofs.Takes.{old-as, old-none, took-none}
+use Rattle.rules.proofs.Lawful.{Lawful}
 
 pub free-sound : (s : ℕ) (S : State) → s < slipTotal (S .tables) → SoundNow (S .tables) → SoundNow (freeAfter s S .tables)
 free-sound s S l (rank, h) = turned-sound S s _ l (rank, reorder (λ d. omega arith) h)
+
+-- ---- free is lawful
+
+free-leaves : (s : ℕ) (S : State) → s < slipTotal (S .tables) → SoundNow (S .tables) → SoundNow (freeAfter s S .tables) → Reading S (freeAfter s S) (vacating s ∷ [])
+free-leaves s S b h h′ =
+    let k : SoundWith (pred 0 ∷ []) (S .tables) = (h .0, reorder (λ d. omega arith) (h .1)) in
+    gone-reading S (freeAfter s S) s (turned-storage S s 0) (turned-entry S s 0 b k) (turned-entries S s 0 b k) (turned-others S s 0 b k) h h′
+
+-- it takes nothing
+free-takes : (s : ℕ) (S : State) → s < slipTotal (S .tables) → SoundNow (S .tables) → SoundNow (freeAfter s S .tables) → Took (S .tables) (freeAfter s S .tables) (want 0 0 0) s
+free-takes s S b h h′ =
+    let T = S .tables in
+    let T′ = freeAfter s S .tables in
+    let k : SoundWith (pred 0 ∷ []) T = (h .0, reorder (λ d. omega arith) (h .1)) in
+    let gone = turned-entry S s 0 b k in
+    let stay = turned-entries S s 0 b k in
+    took-none T T′ s h′
+    (λ u. elim (ℕ-discrete u s) [ yes e ↦ old-none T T′ u h′ (ap (slip T′) e ∙ gone) | no e ↦ old-as T T′ u u h h′ (stay u e) (turned-others S s 0 b k u e) ])
+    (λ u z. elim (ℕ-discrete u s) [ yes e ↦ ap (slip T′) e ∙ gone | no e ↦ stay u e ∙ z ])
+
+pub free-lawful : (s : ℕ) → Lawful (freeCall s)
+free-lawful s = record {
+  rises = λ S. (omega arith, tt);
+  apart = λ S. (omega arith, tt);
+  sizes = λ S. turned-sizes S s vacant;
+  stays = λ S _. stays-as S (freeAfter s S) (turned-storage S s vacant);
+  sound = λ S h a. free-sound s S (first-named (S .tables) s [] (a .early) .0) h;
+  known = λ S _. (inl refl, tt);
+  leaves = λ S h _ a h′. free-leaves s S (first-named (S .tables) s [] (a .early) .0) h h′;
+  takes = λ S h a h′. free-takes s S (first-named (S .tables) s [] (a .early) .0) h h′;
+}

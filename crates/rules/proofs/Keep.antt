@@ -1,26 +1,34 @@
 -- keep: soundness is kept, and what its slip then holds. Assumes nothing.
 use mathlib.Core.Path.{_≡_, refl, sym, ap, subst, _∙_}
 use mathlib.Core.List.{List, [], _∷_, _++_, append-nil}
+use mathlib.Core.Logic.{_≢_, inl}
 use Prim.Native.Nat.{ℕ, zero, suc, _+_, _≤_, _<_, pred, _-_, min}
 use native.Mathlib.Omega.{arith}
 use lib.ListN.{length, getD, drop, take, take-append-drop, length-drop}
-use lib.Dec.{eqb, leb, leb→le}
-use Rattle.rules.specs.Basics.{if_then_else_, lastOf}
+use lib.Dec.{eqb, leb, leb→le, eqb→eq}
+use lib.Seq.{getD-set-same, getD-set-other, take-all}
+use Rattle.rules.specs.Basics.{lastOf}
 use Rattle.rules.specs.Tables.{Piece, Tables, blank, piece, headOf, slipTotal, bufferTotal, setPiece, withPlace, slip, setSlip, pieceTotal}
-use Rattle.rules.specs.Chain.{State, Stretch, spans, lengthOf, stretch, stretches, cutOut, withTables}
-use Rattle.rules.specs.Room.{freePieces}
+use Rattle.rules.specs.Chain.{State, Stretch, spans, lengthOf, stretch, stretches, cutOut, withTables, contents, reads}
+use Rattle.rules.specs.Room.{freePieces, isFree, isUnheld}
 use Rattle.rules.specs.Build.{built, builtLink}
-use Rattle.rules.specs.Keep.{kept, keptOwn, keptNotOwn, shortened, keptBy, keepAfter}
-use Rattle.rules.proofs.Logic.{if-either, if-F}
+use Rattle.rules.specs.Rule.{reading, want}
+use Rattle.rules.specs.Keep.{kept, keptOwn, keptNotOwn, shortened, keptBy, keepAfter, keep, keepCall}
+use Rattle.rules.specs.Takes.{Took}
+use Rattle.rules.proofs.Logic.{if-either, if-F, if-both}
 use Rattle.rules.proofs.Moves.{SoundBy, SoundNow, used-in-range, by-place, reorder, trim-move, slip-move}
-use Rattle.rules.proofs.Build.{OwnTo, OwnList, own-pieces, own-list-still, Good, built-sound, built-kept, behind-sound, own-still}
-use Rattle.rules.proofs.Room.{free-pieces}
-use Rattle.rules.proofs.Chain.{spans-good, cutOut-good, good-drop, good-last, built-own}
-use mathlib.Core.Logic.{_≢_}
-use lib.Seq.{getD-set-same, getD-set-other}
 use Rattle.rules.proofs.Rank.{head-pos}
+use Rattle.rules.proofs.Build.{OwnTo, OwnList, own-pieces, own-list-still, Good, built-sound, built-kept, behind-sound, own-still}
+use Rattle.rules.proofs.Room.{free-pieces, passing-front, passing-none}
+use Rattle.rules.proofs.Chain.{spans-good, cutOut-good, good-drop, good-last, built-own}
 use Rattle.rules.proofs.Meets.{stop, alike, agree-but, agree-stretches, Same, same-by, same-refl, slip-same, Safe, head-safe, own-apart, built-same, built-meets, built-agree}
 use Rattle.rules.proofs.Hang.{Gives, gives-as, gives-from, behind-gives, Run, run-low, own-run, own-short, Ones, ones-used, own-ones, run-still, own-front}
+use Rattle.rules.proofs.Contents.{Fit, cutOut-contents}
+use Rattle.rules.proofs.Codes.{Allowed, first-named}
+use Rattle.rules.proofs.Sizes.{Sizes, behind-sizes, behind-storage, built-sizes, piece-set, same-sizes, then-sizes}
+use Rattle.rules.proofs.After.{StorageStays, Reading, gives-reading, reads-length, same-reading, stays-as}
+use Rattle.rules.proofs.Takes.{Roomy, buffersOf, cutOut-none, new-pass, nothing-taken, roomy, spans-none, took-held, used-none}
+use Rattle.rules.proofs.Lawful.{Lawful}
 
 own-last : (j : ℕ) (T : Tables) (n l : ℕ) → OwnTo j T n l → piece T l .count ≡ 1
 own-last zero T n l o = o .1
@@ -255,3 +263,73 @@ keep-gives s n S b z h r =
       all-own = λ e. shortened-covers T s own xs (spans T s) (run .0) n h ol (run .1) (spans-good T s h) front refl (omega arith);
       replaced = λ l. ap {B = List Stretch} (λ ys. ys ++ drop (length own) xs) (front ∙ sym (cut-front (bufferTotal T) (length own) (spans T s) n (spans-good T s h) (omega arith))) ∙ take-append-drop (length own) xs;
     })
+
+-- ---- keep is lawful
+
+shortened-sizes : (T : Tables) (own : List ℕ) (xs : List Stretch) → Sizes T (shortened T own xs)
+unfolding shortened
+shortened-sizes T [] xs = same-sizes T
+shortened-sizes T (d ∷ ds) [] = same-sizes T
+shortened-sizes T (d ∷ ds) (x ∷ xs) = piece-set T (lastOf d ds) _
+
+kept-sizes : (S : State) (s : ℕ) (own : List ℕ) (xs rest : List Stretch) → Sizes (S .tables) (keptBy S s own xs rest .tables)
+unfolding keptBy
+kept-sizes S s own xs [] =
+    let T = S .tables in
+    then-sizes (shortened-sizes T own xs) (behind-sizes (withTables S (shortened T own xs)) s own 0)
+kept-sizes S s own xs (y ∷ ys) =
+    let T = S .tables in
+    let fs = freePieces T in
+    then-sizes (built-sizes T fs (y ∷ ys) 0) (behind-sizes (withTables S (built T fs (y ∷ ys) 0)) s own (builtLink fs (y ∷ ys) 0))
+
+pub kept-storage : (S : State) (s : ℕ) (own : List ℕ) (xs rest : List Stretch) → keptBy S s own xs rest .storage ≡ S .storage
+unfolding keptBy
+kept-storage S s own xs [] = behind-storage _ s own 0
+kept-storage S s own xs (y ∷ ys) = behind-storage _ s own _
+
+keep-leaves : (s n : ℕ) (S : State) → SoundNow (S .tables) → Fit (bufferTotal (S .tables)) (S .storage) → Allowed (keep s n S) (S .tables) → SoundNow (keepAfter s n S .tables)
+    → Reading S (keepAfter s n S) (reading s (take n (reads S s)) ∷ [])
+unfolding keepAfter
+keep-leaves s n S h f al =
+    let T = S .tables in
+    let (b, z) = first-named T s _ (al .early) in
+    if-either (λ (X : State). SoundNow (X .tables) → Reading S X (reading s (take n (reads S s)) ∷ [])) (eqb n (lengthOf T s)) _ _
+    (λ e _. same-reading S s (take n (reads S s)) z (take-all n (reads S s) (omega (arith, reads-length S h f s, eqb→eq n (lengthOf T s) e))))
+    (λ ne h′. (
+    let st = kept-storage S s (keptOwn T s n) (kept T s n) (keptNotOwn T s n) in
+    let r : length (keptNotOwn T s n) ≤ length (freePieces T) = omega (arith, al .pieces-room, if-F (eqb n (lengthOf T s)) 0 (length (keptNotOwn T s n)) ne) in
+    gives-reading S _ s _ _ (take n (reads S s)) (keep-gives s n S b z h r) h h′
+    (λ u. ap (λ (q : List ℕ). contents q (spans T u)) st)
+    (ap (λ (q : List ℕ). contents q (kept T s n)) st ∙ cutOut-contents (bufferTotal T) (S .storage) (spans T s) 0 n f (spans-good T s h))))
+
+keep-takes : (s n : ℕ) (S : State) → SoundNow (S .tables) → Allowed (keep s n S) (S .tables) → SoundNow (keepAfter s n S .tables)
+    → Took (S .tables) (keepAfter s n S .tables) (keep s n S .wants) s
+unfolding keepAfter
+keep-takes s n S h a h″ =
+    let T = S .tables in
+    let (b, z) = first-named T s _ (a .early) in
+    let k = length (keptNotOwn T s n) in
+    let own = keptOwn T s n in
+    if-both (λ (X : State) (j : ℕ). SoundNow (X .tables) → Roomy T (want 0 j 0) → Took T (X .tables) (want 0 j 0) s) (eqb n (lengthOf T s)) _ _ 0 k
+    (λ _ _ _. nothing-taken T s h)
+    (λ _ h′ r. took-held T _ s _ _ h h′ (keep-gives s n S b z h (r .1)) z k 0 r
+    (passing-front (isFree T) own (take k (freePieces T)) (used-none T own (ones-used T own (own-ones (length (kept T s n)) (headOf T s) T))) ∙ new-pass (isFree T) (pieceTotal T) k)
+    (passing-none (isUnheld T) (buffersOf (kept T s n)) (cutOut-none (isUnheld T) (spans T s) 0 n (spans-none T s h))))
+    h″ (roomy a)
+
+pub keep-lawful : (s n : ℕ) → Lawful (keepCall s n)
+unfolding keepAfter
+keep-lawful s n = record {
+  rises = λ S. (omega arith, (omega arith, tt));
+  apart = λ S. (omega arith, (omega arith, tt));
+  sizes = λ S. (
+    let T = S .tables in
+    if-either (λ (X : State). Sizes T (X .tables)) (eqb n (lengthOf T s)) _ _ (λ _. same-sizes T) (λ _. kept-sizes S s (keptOwn T s n) (kept T s n) (keptNotOwn T s n)));
+  stays = λ S _. (
+    let T = S .tables in
+    if-either (StorageStays S) (eqb n (lengthOf T s)) _ _ (λ _. stays-as S S refl) (λ _. stays-as S _ (kept-storage S s (keptOwn T s n) (kept T s n) (keptNotOwn T s n))));
+  sound = λ S h a. keep-sound s n S (first-named (S .tables) s _ (a .early) .0) h;
+  known = λ S _. (inl refl, tt);
+  leaves = keep-leaves s n;
+  takes = keep-takes s n;
+}

@@ -1,15 +1,24 @@
 -- length: its answer is the number of bytes that its slip reads. Assumes nothing.
-use mathlib.Core.Path.{_≡_, sym}
+use mathlib.Core.Path.{_≡_, sym, refl}
+use mathlib.Core.List.{[], _∷_}
 use Prim.Native.Nat.{ℕ}
+use native.Mathlib.Omega.{arith}
 use lib.ListN.{length}
 use Rattle.rules.specs.Tables.{bufferTotal}
 use Rattle.rules.specs.Chain.{State, reads}
+use Rattle.rules.specs.Length.{chainLength, lengthCall}
 use Rattle.rules.specs.Step.{Length, rule}
 use Rattle.rules.proofs.Moves.{SoundNow}
 use Rattle.rules.proofs.Contents.{Fit}
 use Rattle.rules.proofs.After.{reads-length}
+use Rattle.rules.proofs.Lawful.{Lawful, looks-lawful}
 
 -- the answer is how many bytes the slip reads
 pub length-is : (s : ℕ) (S : State) → SoundNow (S .tables) → Fit (bufferTotal (S .tables)) (S .storage) → rule (Length s) S .number ≡ length (reads S s)
 unfolding rule
 length-is s S h f = sym (reads-length S h f s)
+
+-- ---- length only looks
+
+pub length-lawful : (s : ℕ) → Lawful (lengthCall s)
+length-lawful s = looks-lawful (s ∷ []) [] (chainLength s) (λ S. (omega arith, tt)) (λ S. (omega arith, tt)) (λ S. (refl, refl))

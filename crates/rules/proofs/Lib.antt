@@ -13,8 +13,16 @@ pub mod Chain
 pub mod Meets
 pub mod Hang
 pub mod Contents
--- each call, in document 01's order
+-- the audit's test, and the recount: what is in use stands on a slip's chain
 pub mod Audit
+pub mod Recount
+-- what the calls share: codes, sizes, what slips read, what is taken; and what is proved of every call
+pub mod Codes
+pub mod Sizes
+pub mod After
+pub mod Takes
+pub mod Lawful
+-- each call that works on a pool, in document 01's order: it is lawful, and what it has besides
 pub mod Put
 pub mod Free
 pub mod Dup
@@ -28,18 +36,14 @@ pub mod Length
 pub mod Read
 pub mod Show
 pub mod List
+-- the reader without a pool
 pub mod Gather
 -- all calls together
-pub mod Codes
-pub mod Sound
-pub mod Sizes
-pub mod Bounds
-pub mod After
-pub mod Takes
+pub mod Calls
 -- bytes, lists of calls, demand 3, the ten rows
+pub mod Bounds
 pub mod Bytes
 pub mod Step
 pub mod RoundTrip
-pub mod Recount
 pub mod Demand
 pub mod Morning

@@ -5,10 +5,11 @@ use Prim.Native.Nat.{ℕ, _*_}
 use native.Mathlib.Omega.{arith}
 use lib.ListN.{length, take, drop}
 use Rattle.rules.specs.Chain.{State, Stretch, chain, spans}
-use Rattle.rules.specs.List.{records}
+use Rattle.rules.specs.List.{records, listCall, wireList}
 use Rattle.rules.specs.Step.{WireList, rule}
 use Rattle.rules.proofs.Hang.{stretches-length}
 use Rattle.rules.proofs.Codes.{Allowed, no-cause}
+use Rattle.rules.proofs.Lawful.{Lawful, looks-lawful}
 use Rattle.rules.proofs.Read.{copied-front, copied-rest, copied-length}
 
 -- a record has two numbers
@@ -37,3 +38,8 @@ list-exact s list S a =
       front = copied-front (2 * length xs) (records xs) list e;
       rest = copied-rest (2 * length xs) (records xs) list e;
     }
+
+-- ---- list only looks
+
+pub list-lawful : (s : ℕ) (list : List ℕ) → Lawful (listCall s list)
+list-lawful s list = looks-lawful (s ∷ []) list (wireList s list) (λ S. (omega arith, (omega arith, tt))) (λ S. (omega arith, (omega arith, tt))) (λ S. (refl, refl))

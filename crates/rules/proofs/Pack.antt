@@ -1,23 +1,31 @@
 -- pack: soundness is kept, and what its slip then holds. Assumes nothing.
-use mathlib.Core.List.{[], append-nil}
+use mathlib.Core.List.{[], append-nil, _∷_, List}
+use mathlib.Core.Path.{ap, _∙_, refl, sym}
+use mathlib.Core.Logic.{inl}
 use Prim.Native.Nat.{ℕ, _<_, _≤_}
+use native.Mathlib.Omega.{arith}
 use lib.ListN.{length, take}
 use lib.Dec.{leb}
-use Rattle.rules.specs.Basics.{if_then_else_}
-use Rattle.rules.specs.Tables.{slipTotal}
-use Rattle.rules.specs.Chain.{State, chain, lengthOf, stretches}
-use Rattle.rules.specs.Room.{freePieces, newBuffers, freeBuffers}
-use Rattle.rules.specs.Build.{plain, buffersFor, laid, underOld}
-use Rattle.rules.specs.Pack.{packAfter}
-use Rattle.rules.proofs.Logic.{if-either}
+use Rattle.rules.specs.Tables.{slipTotal, bufferTotal, pieceTotal}
+use Rattle.rules.specs.Chain.{State, chain, lengthOf, stretches, contents, reads, spans, withStorage}
+use Rattle.rules.specs.Room.{freePieces, newBuffers, freeBuffers, isFree}
+use Rattle.rules.specs.Build.{plain, buffersFor, laid, underOld, stored}
+use Rattle.rules.specs.Rule.{Wants, reading, want}
+use Rattle.rules.specs.Pack.{packAfter, pack, packCall, packWants}
+use Rattle.rules.specs.Takes.{Took}
+use Rattle.rules.proofs.Logic.{if-either, if-F, if-both}
 use Rattle.rules.proofs.Moves.{SoundNow}
 use Rattle.rules.proofs.Build.{plain-planned, old-sound}
 use Rattle.rules.proofs.Room.{free-pieces}
-use Rattle.rules.proofs.Put.{new-good, new-count}
-use mathlib.Core.Path.{ap, _∙_}
-use native.Mathlib.Omega.{arith}
 use Rattle.rules.proofs.Meets.{stop, same-refl}
 use Rattle.rules.proofs.Hang.{Gives, gives-as, old-gives}
+use Rattle.rules.proofs.Contents.{Fit}
+use Rattle.rules.proofs.Codes.{Allowed, first-named}
+use Rattle.rules.proofs.Sizes.{Sizes, old-sizes, old-storage, same-sizes}
+use Rattle.rules.proofs.After.{Reading, StorageStays, gives-reading, new-here, new-others, reads-length, same-reading, stays-as, stays-new}
+use Rattle.rules.proofs.Takes.{Roomy, new-laid, new-pass, nothing-taken, roomy, took-held}
+use Rattle.rules.proofs.Lawful.{Lawful}
+use Rattle.rules.proofs.Put.{new-good, new-count}
 
 pub pack-sound : (s : ℕ) (S : State) → s < slipTotal (S .tables) → SoundNow (S .tables) → SoundNow (packAfter s S .tables)
 unfolding packAfter
@@ -40,3 +48,59 @@ pack-gives s S S₁ b h rp rb =
     let c = new-count T (buffersFor n) n rb in
     gives-as (append-nil (take (length xs) (freePieces T)) ∙ ap (λ k. take k (freePieces T)) c) (append-nil xs)
     (old-gives (plain T xs) (freePieces T) [] (plain-planned T xs (new-good T n) h) (free-pieces T) (omega (arith, c)) stop S₁ s b (λ u _. same-refl T _))
+
+-- ---- pack is lawful
+
+pack-leaves : (s : ℕ) (S : State) → SoundNow (S .tables) → Fit (bufferTotal (S .tables)) (S .storage) → Allowed (pack s S) (S .tables) → SoundNow (packAfter s S .tables)
+    → Reading S (packAfter s S) (reading s (reads S s) ∷ [])
+unfolding packAfter packWants
+pack-leaves s S h f al =
+    let T = S .tables in
+    let (b, z) = first-named T s _ (al .early) in
+    let stays = leb (length (chain T s)) 1 in
+    let n = lengthOf T s in
+    let k = buffersFor n in
+    if-either (λ (X : State). SoundNow (X .tables) → Reading S X (reading s (reads S s) ∷ [])) stays _ _ (λ _ _. same-reading S s (reads S s) z refl)
+    (λ ne h′. (
+    let w = if-F stays (want 0 0 0) (want 0 k k) ne in
+    let rp : k ≤ length (freePieces T) = omega (arith, al .pieces-room, ap (λ (x : Wants). x .pieces) w) in
+    let rb : k ≤ length (freeBuffers T) = omega (arith, al .buffers-room, ap (λ (x : Wants). x .buffers) w) in
+    let bs = newBuffers T k in
+    let S₁ = withStorage S (stored (S .storage) bs (reads S s)) in
+    let st = old-storage S₁ (plain T (laid bs n)) (freePieces T) s in
+    let long = reads-length S h f s in
+    gives-reading S _ s _ _ (reads S s) (pack-gives s S S₁ b h rp rb) h h′
+    (λ u. ap (λ (q : List ℕ). contents q (spans T u)) st ∙ new-others S h f k (reads S s) u)
+    (ap (λ (q : List ℕ). contents q (laid bs n)) st ∙ ap (λ i. contents (S₁ .storage) (laid bs i)) (sym long) ∙ new-here S h f k (reads S s) rb (omega arith))))
+
+pack-takes : (s : ℕ) (S : State) → SoundNow (S .tables) → Allowed (pack s S) (S .tables) → SoundNow (packAfter s S .tables)
+    → Took (S .tables) (packAfter s S .tables) (pack s S .wants) s
+unfolding packAfter packWants
+pack-takes s S h a h″ =
+    let T = S .tables in
+    let (b, z) = first-named T s _ (a .early) in
+    let n = lengthOf T s in
+    let k = buffersFor n in
+    if-both (λ (X : State) (w : Wants). SoundNow (X .tables) → Roomy T w → Took T (X .tables) w s) (leb (length (chain T s)) 1) _ _ (want 0 0 0) (want 0 k k)
+    (λ _ _ _. nothing-taken T s h)
+    (λ _ h′ r. took-held T _ s _ _ h h′ (pack-gives s S _ b h (r .1) (r .2)) z k k r (new-pass (isFree T) (pieceTotal T) k) (new-laid T k n))
+    h″ (roomy a)
+
+pub pack-lawful : (s : ℕ) → Lawful (packCall s)
+unfolding packAfter
+pack-lawful s = record {
+  rises = λ S. (omega arith, tt);
+  apart = λ S. (omega arith, tt);
+  sizes = λ S. (
+    let T = S .tables in
+    if-either (λ (X : State). Sizes T (X .tables)) (leb (length (chain T s)) 1) _ _ (λ _. same-sizes T) (λ _. old-sizes _ (plain T _) (freePieces T) s (same-sizes T)));
+  stays = λ S f. (
+    let T = S .tables in
+    let k = buffersFor (lengthOf T s) in
+    if-either (StorageStays S) (leb (length (chain T s)) 1) _ _ (λ _. stays-as S S refl)
+    (λ _. stays-new S _ k (reads S s) f (old-storage (withStorage S (stored (S .storage) (newBuffers T k) (reads S s))) (plain T (laid (newBuffers T k) (lengthOf T s))) (freePieces T) s)));
+  sound = λ S h a. pack-sound s S (first-named (S .tables) s _ (a .early) .0) h;
+  known = λ S _. (inl refl, tt);
+  leaves = pack-leaves s;
+  takes = pack-takes s;
+}

@@ -1,26 +1,35 @@
 -- pullup: soundness is kept, and what its slip then holds. Assumes nothing.
-use mathlib.Core.List.{List, _++_, append-assoc}
-use Prim.Native.Nat.{ℕ, _+_, _≤_, _<_}
+use mathlib.Core.List.{List, _++_, append-assoc, [], _∷_, map-append}
+use mathlib.Core.Path.{_≡_, refl, ap, _∙_, sym}
+use mathlib.Core.Logic.{inl}
+use mathlib.Core.Bool.{true}
+use Prim.Native.Nat.{ℕ, _+_, _≤_, _<_, _-_, suc}
 use native.Mathlib.Omega.{arith}
-use lib.ListN.{length, length-take, take, length-append}
+use lib.ListN.{length, length-take, take, length-append, drop, take-append-drop}
 use lib.Dec.{leb}
-use Rattle.rules.specs.Basics.{if_then_else_}
+use Rattle.rules.specs.Basics.{passing}
 use Rattle.rules.specs.Tables.{Tables, slipTotal, bufferTotal}
-use Rattle.rules.specs.Chain.{State, spans, firstLength, Stretch, stretches}
+use Rattle.rules.specs.Chain.{State, spans, firstLength, Stretch, stretches, chain, contents, reads, withStorage}
 use Rattle.rules.specs.Room.{isUnheld, freePieces, freeBuffers, newBuffers}
-use Rattle.rules.specs.Build.{laid, underOld}
+use Rattle.rules.specs.Build.{laid, underOld, stored}
+use Rattle.rules.specs.Rule.{Wants, reading, want}
 use Rattle.rules.specs.Drop.{dropped}
-use Rattle.rules.specs.Pullup.{pulled, pullupAfter}
-use Rattle.rules.proofs.Logic.{if-either, not-most}
+use Rattle.rules.specs.Pullup.{pulled, pullupAfter, pullup, pullupCall, pullupWants}
+use Rattle.rules.specs.Takes.{Took}
+use Rattle.rules.proofs.Logic.{if-either, not-most, if-F, if-both}
 use Rattle.rules.proofs.Moves.{SoundNow}
 use Rattle.rules.proofs.Build.{Good, Planned, old-sound}
-use Rattle.rules.proofs.Room.{free-pieces, new-buffers-in}
-use Rattle.rules.proofs.Chain.{laid-good, good-append}
-use Rattle.rules.proofs.Drop.{dropped-planned, dropped-leaves}
-use mathlib.Core.Path.{_≡_, refl, ap, _∙_}
-use Rattle.rules.proofs.Contents.{dropOut}
+use Rattle.rules.proofs.Room.{free-pieces, new-buffers-in, passing-back}
+use Rattle.rules.proofs.Chain.{laid-good, good-append, spans-good}
 use Rattle.rules.proofs.Hang.{Gives, gives-as, old-gives}
+use Rattle.rules.proofs.Contents.{stored-others, dropOut, Fit, Off, contents-append, dropOut-contents}
+use Rattle.rules.proofs.Codes.{Allowed, first-named, no-cause}
+use Rattle.rules.proofs.Sizes.{Sizes, old-sizes, old-storage, same-sizes}
+use Rattle.rules.proofs.After.{Reading, StorageStays, gives-reading, new-here, new-others, reads-length, same-reading, spans-off, stays-as, stays-new}
+use Rattle.rules.proofs.Takes.{Roomy, buffersOf, dropOut-none, new-front, new-laid, nothing-taken, roomy, spans-none, took-held}
+use Rattle.rules.proofs.Lawful.{Lawful}
 use Rattle.rules.proofs.Put.{new-count}
+use Rattle.rules.proofs.Drop.{dropped-planned, dropped-leaves, plan-sizes}
 
 -- n bytes on one new buffer
 pub one-good : (T : Tables) (n : ℕ) → 1 ≤ n → Good (bufferTotal T) (laid (newBuffers T 1) n)
@@ -52,3 +61,83 @@ pullup-gives s n S S₁ b h p r =
     let xs = laid (newBuffers T 1) n in
     gives-as refl (append-assoc xs (dropped T s n .more) (stretches (dropped T s n .base) (v .rest)) ∙ ap {B = List Stretch} (λ ys. xs ++ ys) (v .covers))
     (old-gives (pulled T s n) (freePieces T) (v .rest) (pulled-planned T s n p h) (free-pieces T) r (v .meets) S₁ s b (v .others))
+
+-- ---- pullup is lawful
+
+off-drop : (bs : List ℕ) (xs : List Stretch) (n : ℕ) → Off bs xs → Off bs (dropOut xs n)
+unfolding dropOut
+off-drop bs [] n o = tt
+off-drop bs (x ∷ xs) n o =
+    if-either (Off bs) (leb (x .len) n) _ _ (λ _. off-drop bs xs (n - x .len) (o .1)) (λ _. (o .0, o .1))
+
+good-dropOut : (B : ℕ) (xs : List Stretch) (n : ℕ) → Good B xs → Good B (dropOut xs n)
+unfolding dropOut
+good-dropOut B [] n g = tt
+good-dropOut B (x ∷ xs) n g =
+    if-either (Good B) (leb (x .len) n) _ _ (λ _. good-dropOut B xs (n - x .len) (g .3))
+    (λ t. (let k = not-most (x .len) n t in (g .0, omega arith, omega (arith, g .2), g .3)))
+
+
+pullup-leaves : (s n : ℕ) (S : State) → SoundNow (S .tables) → Fit (bufferTotal (S .tables)) (S .storage) → Allowed (pullup s n S) (S .tables) → SoundNow (pullupAfter s n S .tables)
+    → Reading S (pullupAfter s n S) (reading s (reads S s) ∷ [])
+unfolding pullupAfter pullupWants
+pullup-leaves s n S h f al =
+    let T = S .tables in
+    let (b, z) = first-named T s _ (al .early) in
+    let i = simp no-cause at (al .early) in
+    let stays = leb n (firstLength (spans T s)) in
+    if-either (λ (X : State). SoundNow (X .tables) → Reading S X (reading s (reads S s) ∷ [])) stays _ _ (λ _ _. same-reading S s (reads S s) z refl)
+    (λ ne h′. (
+    let w = if-F stays (want 0 0 0) (want 0 (suc (length (dropped T s n .more))) 1) ne in
+    let rp : suc (length (dropped T s n .more)) ≤ length (freePieces T) = omega (arith, al .pieces-room, ap (λ (x : Wants). x .pieces) w) in
+    let rb : 1 ≤ length (freeBuffers T) = omega (arith, al .buffers-room, ap (λ (x : Wants). x .buffers) w) in
+    let front = take n (reads S s) in
+    let S₁ = withStorage S (stored (S .storage) (newBuffers T 1) front) in
+    let st = old-storage S₁ (pulled T s n) (freePieces T) s in
+    let long : length front ≡ n = omega (arith, length-take n (reads S s), reads-length S h f s) in
+    let bs = newBuffers T 1 in
+    let fst : contents (S₁ .storage) (laid bs n) ≡ front = ap (λ k. contents (S₁ .storage) (laid bs k)) (sym long) ∙ new-here S h f 1 front rb (omega arith) in
+    let rst : contents (S₁ .storage) (dropOut (spans T s) n) ≡ drop n (reads S s) =
+    stored-others (isUnheld T) 0 (bufferTotal T) bs (S .storage) front (dropOut (spans T s) n) (new-buffers-in T 1) f (good-dropOut (bufferTotal T) (spans T s) n (spans-good T s h)) (off-drop bs (spans T s) n (spans-off T 1 s h))
+    ∙ dropOut-contents (bufferTotal T) (S .storage) (spans T s) n f (spans-good T s h) in
+    gives-reading S _ s _ _ (reads S s) (pullup-gives s n S S₁ b h (omega (arith, not-most n (firstLength (spans T s)) ne)) (omega (arith, pulled-count T s n rb))) h h′
+    (λ u. ap (λ (q : List ℕ). contents q (spans T u)) st ∙ new-others S h f 1 front u)
+    (ap (λ (q : List ℕ). contents q (laid bs n ++ dropOut (spans T s) n)) st ∙ contents-append (S₁ .storage) (laid bs n) (dropOut (spans T s) n) ∙ (λ j. fst j ++ rst j) ∙ take-append-drop n (reads S s))))
+
+pullup-takes : (s n : ℕ) (S : State) → SoundNow (S .tables) → Allowed (pullup s n S) (S .tables) → SoundNow (pullupAfter s n S .tables)
+    → Took (S .tables) (pullupAfter s n S .tables) (pullup s n S .wants) s
+unfolding pullupAfter pullupWants
+pullup-takes s n S h a h″ =
+    let T = S .tables in
+    let (b, z) = first-named T s _ (a .early) in
+    let k = length (dropped T s n .more) in
+    let v = dropped-leaves T s n b h in
+    let xs = laid (newBuffers T 1) n in
+    let ys = dropOut (spans T s) n in
+    if-both (λ (X : State) (w : Wants). SoundNow (X .tables) → Roomy T w → Took T (X .tables) w s) (leb n (firstLength (spans T s))) _ _ (want 0 0 0) (want 0 (suc k) 1)
+    (λ _ _ _. nothing-taken T s h)
+    (λ t h′ r. (
+    let c : length (pulled T s n .more) ≡ suc k = omega (arith, pulled-count T s n (r .2)) in
+    took-held T _ s _ _ h h′ (pullup-gives s n S _ b h (omega (arith, not-most n (firstLength (spans T s)) t)) (omega (arith, r .1))) z (suc k) 1 r
+    (new-front T (length (pulled T s n .more)) (v .rest) (v .used) ∙ ap (λ j. take j (freePieces T)) c)
+    (ap (passing (isUnheld T)) (map-append (λ (x : Stretch). x .buffer) xs ys) ∙ passing-back (isUnheld T) (buffersOf xs) (buffersOf ys) (dropOut-none (isUnheld T) (spans T s) n (spans-none T s h))
+    ∙ new-laid T 1 n)))
+    h″ (roomy a)
+
+pub pullup-lawful : (s n : ℕ) → Lawful (pullupCall s n)
+unfolding pullupAfter
+pullup-lawful s n = record {
+  rises = λ S. (omega arith, (omega arith, (omega arith, tt)));
+  apart = λ S. (omega arith, (omega arith, (omega arith, tt)));
+  sizes = λ S. (
+    let T = S .tables in
+    if-either (λ (X : State). Sizes T (X .tables)) (leb n (firstLength (spans T s))) _ _ (λ _. same-sizes T) (λ _. old-sizes _ (pulled T s n) (freePieces T) s (plan-sizes T true (chain T s) n)));
+  stays = λ S f. (
+    let T = S .tables in
+    if-either (StorageStays S) (leb n (firstLength (spans T s))) _ _ (λ _. stays-as S S refl)
+    (λ _. stays-new S _ 1 (take n (reads S s)) f (old-storage (withStorage S (stored (S .storage) (newBuffers T 1) (take n (reads S s)))) (pulled T s n) (freePieces T) s)));
+  sound = λ S h a. pullup-sound s n S (first-named (S .tables) s _ (a .early) .0) h;
+  known = λ S _. (inl refl, tt);
+  leaves = pullup-leaves s n;
+  takes = pullup-takes s n;
+}

@@ -1,21 +1,29 @@
 -- put: soundness is kept, and what its slip then holds. Assumes nothing.
-use mathlib.Core.List.{List, [], append-nil}
-use Prim.Native.Nat.{ℕ, _-_, _≤_, _<_}
+use mathlib.Core.List.{List, [], append-nil, _∷_}
+use mathlib.Core.Path.{_≡_, ap, _∙_, refl}
+use mathlib.Core.Logic.{inr}
+use Prim.Native.Nat.{ℕ, _≤_, _<_}
 use native.Mathlib.Omega.{arith}
 use lib.ListN.{length, length-take, take}
-use Rattle.rules.specs.Tables.{Tables, bufferTotal}
+use Rattle.rules.specs.Tables.{Tables, bufferTotal, pieceTotal}
 use Rattle.rules.specs.Chain.{State, stretches}
-use Rattle.rules.specs.Room.{isUnheld, vacantSlips, freePieces, freeBuffers, newSlip, newBuffers}
+use Rattle.rules.specs.Room.{isUnheld, vacantSlips, freePieces, freeBuffers, newSlip, newBuffers, isFree}
 use Rattle.rules.specs.Build.{plain, buffersFor, laid}
-use Rattle.rules.specs.Put.{putAfter}
+use Rattle.rules.specs.Rule.{reading}
+use Rattle.rules.specs.Put.{putAfter, put, putCall}
+use Rattle.rules.specs.Takes.{Took}
 use Rattle.rules.proofs.Moves.{SoundNow}
 use Rattle.rules.proofs.Build.{Good, new-sound, plain-planned}
 use Rattle.rules.proofs.Room.{free-pieces, new-slip-ok, new-buffers-in}
 use Rattle.rules.proofs.Chain.{laid-good}
-use mathlib.Core.Path.{_≡_, ap, _∙_}
 use Rattle.rules.proofs.Meets.{stop, same-refl}
 use Rattle.rules.proofs.Hang.{Gives, gives-as, new-gives}
-use Rattle.rules.proofs.Contents.{laid-count}
+use Rattle.rules.proofs.Contents.{laid-count, Fit}
+use Rattle.rules.proofs.Codes.{Allowed}
+use Rattle.rules.proofs.Sizes.{new-sizes, same-sizes}
+use Rattle.rules.proofs.After.{Reading, gives-reading, new-here, new-others, stays-new}
+use Rattle.rules.proofs.Takes.{new-laid, new-pass, roomy, took-new}
+use Rattle.rules.proofs.Lawful.{Lawful, new-vacant}
 
 -- n bytes on the lowest free buffers
 pub new-good : (T : Tables) (n : ℕ) → Good (bufferTotal T) (laid (newBuffers T (buffersFor n)) n)
@@ -45,3 +53,33 @@ put-gives input S s v rp rb =
     let fs = freePieces T in
     gives-as (append-nil (take (length xs) fs) ∙ ap (λ k. take k fs) c) (append-nil xs)
     (new-gives (plain T xs) fs [] (plain-planned T xs (new-good T n) s) (free-pieces T) (omega (arith, c)) stop (newSlip T) (new-slip-ok T v .0) (λ u _. same-refl T _))
+
+-- ---- put is lawful
+
+put-leaves : (input : List ℕ) (S : State) → SoundNow (S .tables) → Fit (bufferTotal (S .tables)) (S .storage) → Allowed (put input S) (S .tables) → SoundNow (putAfter input S .tables)
+    → Reading S (putAfter input S) (reading (newSlip (S .tables)) input ∷ [])
+unfolding putAfter
+put-leaves input S h f a h′ =
+    let k = buffersFor (length input) in
+    gives-reading S (putAfter input S) (newSlip (S .tables)) _ _ input (put-gives input S h (a .slips-room) (a .pieces-room) (a .buffers-room)) h h′
+    (new-others S h f k input) (new-here S h f k input (a .buffers-room) (omega arith))
+
+put-takes : (input : List ℕ) (S : State) → SoundNow (S .tables) → Allowed (put input S) (S .tables) → SoundNow (putAfter input S .tables)
+    → Took (S .tables) (putAfter input S .tables) (put input S .wants) (newSlip (S .tables))
+put-takes input S h a h′ =
+    let T = S .tables in
+    let k = buffersFor (length input) in
+    took-new T _ _ _ h h′ (put-gives input S h (a .slips-room) (a .pieces-room) (a .buffers-room)) k k (roomy a) (new-pass (isFree T) (pieceTotal T) k) (new-laid T k (length input))
+
+pub put-lawful : (input : List ℕ) → Lawful (putCall input)
+unfolding putAfter
+put-lawful input = record {
+  rises = λ S. tt;
+  apart = λ S. tt;
+  sizes = λ S. new-sizes (plain (S .tables) _) (freePieces (S .tables)) (newSlip (S .tables)) (same-sizes (S .tables));
+  stays = λ S f. stays-new S _ (buffersFor (length input)) input f refl;
+  sound = λ S h a. put-sound input S (a .slips-room) h;
+  known = λ S a. (inr (new-vacant (S .tables) (a .slips-room)), tt);
+  leaves = put-leaves input;
+  takes = put-takes input;
+}

@@ -1,18 +1,19 @@
 -- read: the bytes that it copies, and what of the output stays. Assumes nothing.
-use mathlib.Core.Path.{_≡_, ap, _∙_}
-use mathlib.Core.List.{List}
+use mathlib.Core.Path.{_≡_, ap, _∙_, refl}
+use mathlib.Core.List.{List, [], _∷_}
 use Prim.Native.Nat.{ℕ, _≤_}
 use native.Mathlib.Omega.{arith}
 use lib.ListN.{length, take, drop, length-append, length-take, length-drop}
 use lib.Seq.{take-at, drop-at}
 use Rattle.rules.specs.Tables.{bufferTotal}
 use Rattle.rules.specs.Chain.{State, reads}
-use Rattle.rules.specs.Read.{copied}
+use Rattle.rules.specs.Read.{copied, read, readCall}
 use Rattle.rules.specs.Step.{Read, rule}
 use Rattle.rules.proofs.Moves.{SoundNow}
 use Rattle.rules.proofs.Contents.{Fit}
 use Rattle.rules.proofs.Codes.{Allowed, no-cause}
 use Rattle.rules.proofs.After.{reads-length}
+use Rattle.rules.proofs.Lawful.{Lawful, looks-lawful}
 
 -- n bytes xs copied to the front of an output
 module _ (n : ℕ) (xs out : List ℕ) (e : length xs ≡ n) where
@@ -44,3 +45,8 @@ read-exact s off n out S h f a =
     let xs = take n (drop off (reads S s)) in
     let e : length xs ≡ n = simp (length-take, length-drop) (omega arith) in
     record { in-full = e; as-long = copied-length n xs out e (omega arith); front = copied-front n xs out e; rest = copied-rest n xs out e }
+
+-- ---- read only looks
+
+pub read-lawful : (s off n : ℕ) (out : List ℕ) → Lawful (readCall s off n out)
+read-lawful s off n out = looks-lawful (s ∷ []) out (read s off n out) (λ S. (omega arith, (omega arith, (omega arith, tt)))) (λ S. (omega arith, (omega arith, (omega arith, tt)))) (λ S. (refl, refl))

@@ -1,9 +1,8 @@
 -- What the answered slips and all other slips read, and that what is put, or listed, is read again, in bytes. Assumes nothing.
 use mathlib.Core.Path.{_≡_, refl, sym, ap, ap₂, subst, _∙_}
-use mathlib.Core.Logic.{_≢_, inl, inr}
-use mathlib.Core.Bool.{true, false, not, _&&_}
-use mathlib.Core.List.{List, [], _++_}
-use Prim.Native.Nat.{ℕ, _+_, _*_, _≤_, _<_}
+use mathlib.Core.Bool.{false, not, _&&_}
+use mathlib.Core.List.{List, _++_}
+use Prim.Native.Nat.{ℕ, _+_, _*_, _≤_}
 use native.Mathlib.Decide.{decLt}
 use native.Mathlib.Omega.{arith}
 use lib.ListN.{length, take, drop}
@@ -13,23 +12,23 @@ use Rattle.kinds.specs.declared.Refusal.the-variants.{Slip, Range, Narrow}
 use Rattle.rules.specs.Basics.{Is}
 use Rattle.rules.specs.Tables.{Tables, slip, slipTotal, bufferTotal}
 use Rattle.rules.specs.Bytes.{decode}
-use Rattle.rules.specs.Chain.{State, spans, total, lengthOf, reads}
-use Rattle.rules.specs.Room.{isVacant, vacantSlips, newSlip}
+use Rattle.rules.specs.Chain.{spans, total, lengthOf, reads}
 use Rattle.rules.specs.Sound.{Lent, sound}
+use Rattle.rules.specs.Room.{isVacant}
 use Rattle.rules.specs.Rule.{_⇐_, unnamed, room}
 use Rattle.rules.specs.Read.{copied}
 use Rattle.rules.specs.Gather.{gather}
-use Rattle.rules.specs.Step.{Operation, Audit, Put, Free, Dup, Cut, Append, Drop, Keep, Pullup, Pack, Length, Read, Show, WireList, Do, rule, Result, stateIn, done, step, next}
-use Rattle.rules.specs.After.{at, readsAfter, vacantAfter, Names}
-use Rattle.rules.proofs.Logic.{and-intro, not-zero, eq→eqb}
+use Rattle.rules.specs.Step.{Operation, Put, Dup, Cut, Read, WireList, Do, rule, Result, stateIn, done, step, next}
+use Rattle.rules.specs.After.{readsAfter, vacantAfter, Names}
+use Rattle.rules.proofs.Logic.{and-intro, not-zero}
 use Rattle.rules.proofs.Moves.{in-range}
-use Rattle.rules.proofs.Room.{new-slip-ok}
 use Rattle.rules.proofs.Chain.{spans-good}
 use Rattle.rules.proofs.Audit.{sound-now}
-use Rattle.rules.proofs.Codes.{first-zero, first-yes, first-no, first-none, none-full, Allowed, allowed, no-cause}
-use Rattle.rules.proofs.After.{at-here, at-there, reads-length}
+use Rattle.rules.proofs.Codes.{first-zero, first-yes, first-no, first-none, none-full, allowed, no-cause}
+use Rattle.rules.proofs.After.{at-here, reads-length}
 use Rattle.rules.proofs.List.{list-exact}
 use Rattle.rules.proofs.Gather.{gather-records, gather-short}
+use Rattle.rules.proofs.Calls.{others-same}
 use Rattle.rules.proofs.Step.{alters-nothing, code-is, did, sound-within, step-keeps, slips-read, slips-vacant}
 
 -- ---- what a done call answers
@@ -130,29 +129,6 @@ list-gather s list out m e =
     ]
 
 -- ---- the slips that a call does not name
-
--- a new slip was vacant, so a held slip is not it
-not-new : (T : Tables) (t : ℕ) → 0 < length (vacantSlips T) → Is (not (isVacant T t)) → t ≢ newSlip T
-not-new T t h v q = T-not (isVacant T t) v (eq→eqb (slip T t) 0 (ap (slip T) q ∙ new-slip-ok T h .1))
-
--- a done operation changes no held slip that it does not name
-others-same : (o : Operation) (S : State) → Allowed (rule o S) (S .tables) → (t : ℕ) → (Names o t → ⊥) → Is (not (isVacant (S .tables) t))
-    → (readsAfter o S t ≡ reads S t) × (vacantAfter o S t ≡ isVacant (S .tables) t)
-unfolding rule readsAfter vacantAfter
-others-same Audit S a t n v = (refl, refl)
-others-same (Put input) S a t n v = (let w = not-new (S .tables) t (a .slips-room) v in (at-there _ t _ (reads S) w, at-there _ t _ (isVacant (S .tables)) w))
-others-same (Free s) S a t n v = (at-there s t _ (reads S) n, at-there s t _ (isVacant (S .tables)) n)
-others-same (Dup s) S a t n v = (let w = not-new (S .tables) t (a .slips-room) v in (at-there _ t _ (reads S) w, at-there _ t _ (isVacant (S .tables)) w))
-others-same (Cut s off k) S a t n v = (let w = not-new (S .tables) t (a .slips-room) v in (at-there _ t _ (reads S) w, at-there _ t _ (isVacant (S .tables)) w))
-others-same (Append x y) S a t n v = (let w : t ≢ y = λ q. n (inr q) in (at-there x t _ (at y [] (reads S)) (λ q. n (inl q)) ∙ at-there y t [] (reads S) w, at-there x t _ (at y true (isVacant (S .tables))) (λ q. n (inl q)) ∙ at-there y t _ (isVacant (S .tables)) w))
-others-same (Drop s k) S a t n v = (at-there s t _ (reads S) n, at-there s t _ (isVacant (S .tables)) n)
-others-same (Keep s k) S a t n v = (at-there s t _ (reads S) n, at-there s t _ (isVacant (S .tables)) n)
-others-same (Pullup s k) S a t n v = (at-there s t _ (reads S) n, at-there s t _ (isVacant (S .tables)) n)
-others-same (Pack s) S a t n v = (at-there s t _ (reads S) n, at-there s t _ (isVacant (S .tables)) n)
-others-same (Length s) S a t n v = (refl, refl)
-others-same (Read s off k out) S a t n v = (refl, refl)
-others-same (Show s k scratch) S a t n v = (refl, refl)
-others-same (WireList s list) S a t n v = (refl, refl)
 
 module _ (o : Operation) (m : Lent) (e : step (Do o) m .code ≡ 0) (t : ℕ) (n : Names o t → ⊥) (v : Is (not (isVacant (decode (m .pool)) t))) where
   -- every held slip that a done call does not name reads as before

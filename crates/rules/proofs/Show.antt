@@ -12,7 +12,7 @@ use Rattle.rules.specs.Tables.{bufferTotal}
 use Rattle.rules.specs.Chain.{Stretch, State, spans, total, firstLength, positionOf, bytesOf, contents, reads}
 use Rattle.rules.specs.Rule.{View}
 use Rattle.rules.specs.Read.{copied}
-use Rattle.rules.specs.Show.{scattered, viewOf}
+use Rattle.rules.specs.Show.{scattered, viewOf, show, showCall}
 use Rattle.rules.specs.Step.{Show, rule}
 use Rattle.rules.specs.After.{seen}
 use Rattle.rules.proofs.Logic.{if-F, if-either, not-not}
@@ -22,6 +22,7 @@ use Rattle.rules.proofs.Chain.{spans-good}
 use Rattle.rules.proofs.Contents.{Fit, bytes-length}
 use Rattle.rules.proofs.Codes.{Allowed, not-leb-is, no-cause}
 use Rattle.rules.proofs.After.{reads-length}
+use Rattle.rules.proofs.Lawful.{Lawful, looks-lawful}
 use Rattle.rules.proofs.Read.{copied-front, copied-rest, copied-length}
 
 -- a view of the scratch, or of storage from p on
@@ -76,3 +77,8 @@ module _ (s n : ℕ) (scratch : List ℕ) (S : State) (h : SoundNow (S .tables))
 pub show-unchanged : (s n : ℕ) (scratch : List ℕ) (S : State) → n ≤ firstLength (spans (S .tables) s) → rule (Show s n scratch) S .output ≡ scratch
 unfolding rule
 show-unchanged s n scratch S l = if-F (scattered (spans (S .tables) s) n) _ _ (λ t. (let k = simp not-leb-is at t in omega arith))
+
+-- ---- show only looks
+
+pub show-lawful : (s n : ℕ) (scratch : List ℕ) → Lawful (showCall s n scratch)
+show-lawful s n scratch = looks-lawful (s ∷ []) scratch (show s n scratch) (λ S. (omega arith, (omega arith, (omega arith, (omega arith, tt))))) (λ S. (omega arith, (omega arith, (omega arith, (omega arith, tt))))) (λ S. (refl, refl))

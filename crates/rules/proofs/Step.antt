@@ -11,28 +11,26 @@ use Rattle.kinds.specs.Limits.{mostBuffers, mostPieces, mostSlips, counted}
 use Rattle.kinds.specs.declared.Refusal.{Refusal}
 use Rattle.kinds.specs.declared.Refusal.the-variants.{Counts, Torn}
 use Rattle.kinds.specs.Refusal.{refusalCode}
-use Rattle.rules.specs.Basics.{Is, if_then_else_}
+use Rattle.rules.specs.Basics.{Is}
 use Rattle.rules.specs.Layout.{storageLength}
 use Rattle.rules.specs.Tables.{Tables, slipTotal, pieceTotal, bufferTotal, blank, freshTables, bufferCount}
 use Rattle.rules.specs.Bytes.{decode, encode}
 use Rattle.rules.specs.Chain.{State, reads, bytesOf, stateOf}
-use Rattle.rules.specs.Room.{isVacant}
 use Rattle.rules.specs.Sound.{Lent, headerOk, soundTables, sound, lent, countsOk}
+use Rattle.rules.specs.Room.{isVacant}
 use Rattle.rules.specs.Rule.{codeIn}
 use Rattle.rules.specs.Open.{openable}
 use Rattle.rules.specs.Step.{Operation, Call, Open, Do, rule, lentOut, Result, refused, stateIn, done, perform, step, next, lentTo, leftBy}
 use Rattle.rules.specs.After.{readsAfter, vacantAfter}
+use Rattle.rules.specs.Takes.{Took, target}
 use Rattle.rules.proofs.Logic.{if-T, if-F, if-either, and-intro, and-0, eq→eqb, is-dec, and-parts}
 use Rattle.rules.proofs.Moves.{SoundNow}
-use Rattle.rules.proofs.Bytes.{Sized, header-facts, decode-slips, decode-pieces, decode-counts, decode-encode, encode-header, and-is, eqb-is, InRange, counts-facts}
-use Rattle.rules.proofs.Bounds.{small}
-use Rattle.rules.proofs.Sizes.{rule-sizes, rule-storage}
 use Rattle.rules.proofs.Audit.{tables-pass, sound-now, fresh-sound}
 use Rattle.rules.proofs.Codes.{allowed, first-listed}
-use Rattle.rules.proofs.Sound.{rule-sound}
-use Rattle.rules.proofs.After.{reads-ok, wholeOf, held-stays}
-use Rattle.rules.specs.Takes.{Took, target}
-use Rattle.rules.proofs.Takes.{takes}
+use Rattle.rules.proofs.After.{wholeOf}
+use Rattle.rules.proofs.Calls.{held-stays, reads-ok, rule-sizes, rule-sound, rule-storage, takes}
+use Rattle.rules.proofs.Bounds.{small}
+use Rattle.rules.proofs.Bytes.{Sized, header-facts, decode-slips, decode-pieces, decode-counts, decode-encode, encode-header, and-is, eqb-is, InRange, counts-facts}
 
 -- ---- the operation on a sound pool
 

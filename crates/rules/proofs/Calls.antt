@@ -1,0 +1,105 @@
+-- Every operation is lawful, and the laws of all operations that follow. Assumes nothing.
+use mathlib.Core.Path.{_≡_}
+use mathlib.Core.Bool.{not}
+use Prim.Native.Nat.{_<_, ℕ}
+use lib.ListN.{length}
+use Rattle.kinds.specs.declared.Refusal.the-variants.{Torn}
+use Rattle.kinds.specs.Refusal.{refusalCode}
+use Rattle.rules.specs.Basics.{Is}
+use Rattle.rules.specs.Layout.{storageLength}
+use Rattle.rules.specs.Tables.{bufferCount, bufferTotal}
+use Rattle.rules.specs.Chain.{State, bytesOf, reads}
+use Rattle.rules.specs.Room.{isVacant}
+use Rattle.rules.specs.Rule.{Change, firstCode}
+use Rattle.rules.specs.Step.{Operation, Audit, Put, Free, Dup, Cut, Append, Drop, Keep, Pullup, Pack, Length, Read, Show, WireList, meaning, rule}
+use Rattle.rules.specs.After.{Names, ReadsOk, readsAfter, vacantAfter}
+use Rattle.rules.specs.Takes.{TakesOk}
+use Rattle.rules.proofs.Moves.{SoundNow}
+use Rattle.rules.proofs.Contents.{Fit}
+use Rattle.rules.proofs.Codes.{Allowed, Apart, Other, Rising, apart-first}
+use Rattle.rules.proofs.Sizes.{Sizes}
+use Rattle.rules.proofs.After.{wholeOf}
+use Rattle.rules.proofs.Lawful.{Lawful, others-stay, audit-lawful}
+use Rattle.rules.proofs.Put.{put-lawful}
+use Rattle.rules.proofs.Free.{free-lawful}
+use Rattle.rules.proofs.Dup.{dup-lawful}
+use Rattle.rules.proofs.Cut.{cut-lawful}
+use Rattle.rules.proofs.Append.{append-lawful}
+use Rattle.rules.proofs.Drop.{drop-lawful}
+use Rattle.rules.proofs.Keep.{keep-lawful}
+use Rattle.rules.proofs.Pullup.{pullup-lawful}
+use Rattle.rules.proofs.Pack.{pack-lawful}
+use Rattle.rules.proofs.Length.{length-lawful}
+use Rattle.rules.proofs.Read.{read-lawful}
+use Rattle.rules.proofs.Show.{show-lawful}
+use Rattle.rules.proofs.List.{list-lawful}
+
+pub lawful : (o : Operation) → Lawful (meaning o)
+lawful Audit = audit-lawful
+lawful (Put input) = put-lawful input
+lawful (Free s) = free-lawful s
+lawful (Dup s) = dup-lawful s
+lawful (Cut s off n) = cut-lawful s off n
+lawful (Append a b) = append-lawful a b
+lawful (Drop s n) = drop-lawful s n
+lawful (Keep s n) = keep-lawful s n
+lawful (Pullup s n) = pullup-lawful s n
+lawful (Pack s) = pack-lawful s
+lawful (Length s) = length-lawful s
+lawful (Read s off n out) = read-lawful s off n out
+lawful (Show s n scratch) = show-lawful s n scratch
+lawful (WireList s list) = list-lawful s list
+
+-- Each operation's refusals rise from 2 on.
+pub lowest-first : (o : Operation) (S : State) → Rising (refusalCode Torn) (rule o S .judged)
+unfolding rule
+lowest-first o S = lawful o .rises S
+
+-- none of them is "torn" or "full", nor is the one that is given
+pub judged-apart : (o : Operation) (S : State) → Apart (rule o S .judged)
+unfolding rule
+judged-apart o S = lawful o .apart S
+
+pub judged-early : (o : Operation) (S : State) → Other (firstCode (rule o S .judged))
+judged-early o S = apart-first (rule o S .judged) (judged-apart o S)
+
+-- tables and storage stay as long as they were
+pub rule-sizes : (o : Operation) (S : State) → Sizes (S .tables) (rule o S .after .tables)
+unfolding rule
+rule-sizes o S = lawful o .sizes S
+
+pub rule-storage : (o : Operation) (S : State) → length (S .storage) ≡ storageLength (bufferTotal (S .tables)) → length (rule o S .after .storage) ≡ length (S .storage)
+unfolding rule
+rule-storage o S f = lawful o .stays S f .as-long
+
+-- every byte of a buffer that was held at entry stays
+pub held-stays : (S : State) → Fit (bufferTotal (S .tables)) (S .storage) → (b : ℕ) → b < bufferTotal (S .tables) → 0 < bufferCount (S .tables) b
+    → (o : Operation) → bytesOf (rule o S .after .storage) (wholeOf b) ≡ bytesOf (S .storage) (wholeOf b)
+unfolding rule
+held-stays S f b l h o = lawful o .stays S f .held b l h
+
+-- an operation that is done keeps the tables sound
+pub rule-sound : (o : Operation) (S : State) → SoundNow (S .tables) → Allowed (rule o S) (S .tables) → SoundNow (rule o S .after .tables)
+unfolding rule
+rule-sound o S h a = lawful o .sound S h a
+
+-- what every slip then reads, and which slips are vacant
+pub reads-ok : (o : Operation) (S : State) → SoundNow (S .tables) → Fit (bufferTotal (S .tables)) (S .storage) → Allowed (rule o S) (S .tables) → ReadsOk o S
+unfolding rule readsAfter vacantAfter
+reads-ok o S h f a = (let r = lawful o .leaves S h f a (rule-sound o S h a) in record { bytes = r .bytes; vacancy = r .vacancy })
+
+-- it takes the lowest free, in chain order
+pub takes : (o : Operation) (S : State) → SoundNow (S .tables) → Allowed (rule o S) (S .tables) → TakesOk o S
+unfolding rule
+takes o S h a = lawful o .takes S h a (rule-sound o S h a)
+
+-- and it changes no held slip that it does not name
+pub others-same : (o : Operation) (S : State) → Allowed (rule o S) (S .tables) → (t : ℕ) → (Names o t → ⊥) → Is (not (isVacant (S .tables) t))
+    → (readsAfter o S t ≡ reads S t) × (vacantAfter o S t ≡ isVacant (S .tables) t)
+unfolding rule readsAfter vacantAfter
+others-same o S a t n v =
+    let m = meaning o in
+    let k = lawful o .known S a in (
+      others-stay (λ (c : Change). c .bytes) (reads S) (S .tables) (m .names) (m .changes S) t k n v,
+      others-stay (λ (c : Change). c .vacated) (isVacant (S .tables)) (S .tables) (m .names) (m .changes S) t k n v,
+    )

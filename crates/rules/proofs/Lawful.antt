@@ -1,0 +1,81 @@
+-- What is proved of every call: one record for each. Assumes nothing.
+use mathlib.Core.List.{List, [], _∷_}
+use mathlib.Core.Path.{_∙_, _≡_, ap, refl, subst, subst₂, sym}
+use mathlib.Core.Logic.{_⊎_, ⊎-elim}
+use mathlib.Core.Bool.{not}
+use Prim.Native.Nat.{_<_, ℕ}
+use lib.Dec.{T-not}
+use lib.ListN.{length}
+use Rattle.kinds.specs.declared.Refusal.the-variants.{Torn}
+use Rattle.kinds.specs.Refusal.{refusalCode}
+use Rattle.rules.specs.Basics.{Is}
+use Rattle.rules.specs.Tables.{Tables, bufferTotal, slip}
+use Rattle.rules.specs.Chain.{State}
+use Rattle.rules.specs.Room.{isVacant, newSlip, vacantSlips}
+use Rattle.rules.specs.Rule.{Change, Meaning, Rule, Wants, looks, want}
+use Rattle.rules.specs.Audit.{audit, auditCall}
+use Rattle.rules.specs.After.{Among, changed}
+use Rattle.rules.specs.Takes.{Took, firstSlip}
+use Rattle.rules.proofs.Logic.{eq→eqb}
+use Rattle.rules.proofs.Moves.{SoundNow}
+use Rattle.rules.proofs.Room.{new-slip-ok}
+use Rattle.rules.proofs.Contents.{Fit}
+use Rattle.rules.proofs.Codes.{Allowed, Apart, Rising}
+use Rattle.rules.proofs.Sizes.{Sizes, same-sizes}
+use Rattle.rules.proofs.After.{at-there, Reading, StorageStays, stays-as}
+use Rattle.rules.proofs.Takes.{nothing-taken}
+
+-- each change is of a slip that is named, or that was vacant
+abbrev pub Known : Tables → List ℕ → List Change → Type 0
+Known T ns [] = Unit {0}
+Known T ns (c ∷ cs) = (Among ns (c .slip) ⊎ Is (isVacant T (c .slip))) × Known T ns cs
+
+-- A call is lawful: what its meaning says of it fits what its rule does.
+pub record Lawful (m : Meaning) : Type 0 where
+  -- the codes that it judges before room rise from 2 on, and none is "torn" or "full"
+  pub rises : (S : State) → Rising (refusalCode Torn) (m .rule S .judged)
+  pub apart : (S : State) → Apart (m .rule S .judged)
+  -- tables and storage stay as long as they were, and so does every byte of a buffer that was held
+  pub sizes : (S : State) → Sizes (S .tables) (m .rule S .after .tables)
+  pub stays : (S : State) → Fit (bufferTotal (S .tables)) (S .storage) → StorageStays S (m .rule S .after)
+  -- once it is done: soundness is kept, and only slips that it names or takes change
+  pub sound : (S : State) → SoundNow (S .tables) → Allowed (m .rule S) (S .tables) → SoundNow (m .rule S .after .tables)
+  pub known : (S : State) → Allowed (m .rule S) (S .tables) → Known (S .tables) (m .names) (m .changes S)
+  -- these are left as it says, and what it wants is what it takes
+  pub leaves : (S : State) → SoundNow (S .tables) → Fit (bufferTotal (S .tables)) (S .storage) → Allowed (m .rule S) (S .tables)
+      → SoundNow (m .rule S .after .tables) → Reading S (m .rule S .after) (m .changes S)
+  pub takes : (S : State) → SoundNow (S .tables) → Allowed (m .rule S) (S .tables) → SoundNow (m .rule S .after .tables)
+      → Took (S .tables) (m .rule S .after .tables) (m .rule S .wants) (firstSlip (m .changes S) (m .names))
+
+-- a new slip was vacant
+pub new-vacant : (T : Tables) → 0 < length (vacantSlips T) → Is (isVacant T (newSlip T))
+new-vacant T h = eq→eqb (slip T (newSlip T)) 0 (new-slip-ok T h .1)
+
+-- what a held slip that is not named has, stays
+pub others-stay : {A : Type 0} (g : Change → A) (f : ℕ → A) (T : Tables) (ns : List ℕ) (cs : List Change) (t : ℕ) → Known T ns cs → (Among ns t → ⊥) → Is (not (isVacant T t))
+    → changed g cs f t ≡ f t
+others-stay g f T ns [] t k n v = refl
+others-stay g f T ns (c ∷ cs) t k n v =
+    at-there (c .slip) t (g c) (changed g cs f)
+    (λ q. ⊎-elim (λ a. n (subst (Among ns) (sym q) a)) (λ w. T-not (isVacant T t) v (subst (λ u. Is (isVacant T u)) (sym q) w)) (k .0))
+    ∙ others-stay g f T ns cs t (k .1) n v
+
+-- ---- the calls that only look
+
+-- a call that leaves everything as it is and wants nothing
+pub looks-lawful : (ns out : List ℕ) (r : State → Rule) → ((S : State) → Rising (refusalCode Torn) (r S .judged)) → ((S : State) → Apart (r S .judged))
+    → ((S : State) → (r S .after ≡ S) × (r S .wants ≡ want 0 0 0)) → Lawful (looks ns out r)
+looks-lawful ns out r c a e = record {
+  rises = c;
+  apart = a;
+  sizes = λ S. subst (λ (X : State). Sizes (S .tables) (X .tables)) (sym (e S .0)) (same-sizes (S .tables));
+  stays = λ S _. stays-as S (r S .after) (ap (λ (X : State). X .storage) (e S .0));
+  sound = λ S h _. subst (λ (X : State). SoundNow (X .tables)) (sym (e S .0)) h;
+  known = λ S _. tt;
+  leaves = λ S h f _ _. subst (λ (X : State). Reading S X []) (sym (e S .0)) (record { bytes = λ t. refl; vacancy = λ t. refl });
+  takes = λ S h _ _. subst₂ (λ (X : State) (w : Wants). Took (S .tables) (X .tables) w (firstSlip [] ns)) (sym (e S .0)) (sym (e S .1)) (nothing-taken (S .tables) (firstSlip [] ns) h);
+}
+
+-- audit judges nothing, and only looks
+pub audit-lawful : Lawful auditCall
+audit-lawful = looks-lawful [] [] audit (λ S. tt) (λ S. tt) (λ S. (refl, refl))
