@@ -1,4 +1,4 @@
--- append: soundness is kept, and what its slip then holds. Assumes nothing.
+-- append: soundness is kept, what its slip then holds, and that it is lawful. Assumes nothing.
 use mathlib.Core.Path.{_≡_, refl, sym, ap, subst, _∙_}
 use mathlib.Core.Logic.{_≢_, inl, inr, ⊎-elim}
 use mathlib.Core.List.{List, [], _∷_, _++_, append-assoc, append-nil, map-append}
@@ -15,7 +15,7 @@ use Rattle.rules.specs.Chain.{State, spans, Stretch, chain, stretches, w
 use Rattle.rules.specs.Room.{freePieces, isFree, isUnheld, isVacant}
 use Rattle.rules.specs.Build.{built, builtLink}
 use Rattle.rules.specs.Rule.{reading, vacating, want}
-use Rattle.rules.specs.Append.{ownOf, notOwn, joined, appendAfter, append, appendCall, oneEmpty}
+use Rattle.rules.specs.Append.{ownOf, notOwn, joined, appendAfter, appendCall, oneEmpty}
 use Rattle.rules.specs.Takes.{Took}
 use Rattle.rules.proofs.Logic.{if-either, if-F, or-cases}
 use Rattle.rules.proofs.Moves.{SoundNow, hit, reorder, slip-move, SoundWith}
@@ -26,11 +26,11 @@ use Rattle.rules.proofs.Chain.{spans-good, good-drop, built-own, AllUse
 use Rattle.rules.proofs.Meets.{chain-meets, agree-all, agree-stretches, slip-same, built-same, built-meets, built-agree, Same, same-trans}
 use Rattle.rules.proofs.Hang.{Run, Gives, gives-as, gives-from, behind-gives, own-run, ones-used, own-ones, run-still, own-front, gives-chain, gives-spans, moved-spans}
 use Rattle.rules.proofs.Contents.{contents-append}
-use Rattle.rules.proofs.Codes.{Allowed, both-named}
+use Rattle.rules.proofs.Codes.{both-named}
 use Rattle.rules.proofs.Sizes.{Sizes, behind-sizes, behind-storage, built-sizes, slip-set, then-sizes}
 use Rattle.rules.proofs.After.{Reading, at-by, at-there, empty-spans, gives-reading, gone-reading, held-false, same-reading, stays-as, then-reading}
 use Rattle.rules.proofs.Takes.{buffersOf, new-front, no-slips, old-as, old-none, spans-none, took, took-none, used-none}
-use Rattle.rules.proofs.Lawful.{Lawful}
+use Rattle.rules.proofs.Lawful.{Lawful, Leaving}
 
 -- ---- before the hanging
 
@@ -221,10 +221,9 @@ wanted-rest : (T : Tables) (a b : ℕ) → (if oneEmpty T a b then 0 else length
 wanted-rest T a b r na nb =
     omega (arith, if-F (oneEmpty T a b) 0 (length (notOwn T a)) (λ t. ⊎-elim na nb (or-cases (eqb (headOf T a) 0) (eqb (headOf T b) 0) t)))
 
-append-leaves : (a b : ℕ) (S : State) → SoundNow (S .tables) → Allowed (append a b S) (S .tables) → SoundNow (appendAfter a b S .tables)
-    → Reading S (appendAfter a b S) (reading a (reads S a ++ reads S b) ∷ vacating b ∷ [])
+append-leaves : (a b : ℕ) → Leaving (appendCall a b)
 unfolding appendAfter
-append-leaves a b S h al =
+append-leaves a b S h _ al =
     let T = S .tables in
     let ((la, za), (lb, zb), ne) = both-named T a b (al .early) in
     let first = first-reading a b S ne la lb za zb h in
@@ -318,12 +317,11 @@ module _ (a b : ℕ) (S : State) (la : a < slipTotal (S .tables)) (za : 0 < slip
 
 pub append-lawful : (a b : ℕ) → Lawful (appendCall a b)
 append-lawful a b = record {
-  rises = λ S. (omega arith, (omega arith, tt));
-  apart = λ S. (omega arith, (omega arith, tt));
+  codes = λ S. omega arith;
   sizes = append-sizes a b;
   stays = λ S _. stays-as S (appendAfter a b S) (append-storage a b S);
   sound = λ S h al. (let ((la, _), (lb, _), ne) = both-named (S .tables) a b (al .early) in append-sound a b S ne la lb h);
   known = λ S _. (inl (inl refl), (inl (inr refl), tt));
-  leaves = λ S h _ al h′. append-leaves a b S h al h′;
+  leaves = append-leaves a b;
   takes = λ S h al h′. (let ((la, za), (lb, zb), ne) = both-named (S .tables) a b (al .early) in append-takes a b S la za lb zb ne h h′ (al .pieces-room));
 }

@@ -53,12 +53,12 @@ lawful (WireList s list) = list-lawful s list
 -- Each operation's refusals rise from 2 on.
 pub lowest-first : (o : Operation) (S : State) → Rising (refusalCode Torn) (rule o S .judged)
 unfolding rule
-lowest-first o S = lawful o .rises S
+lowest-first o S = lawful o .codes S .0
 
 -- none of them is "torn" or "full", nor is the one that is given
 pub judged-apart : (o : Operation) (S : State) → Apart (rule o S .judged)
 unfolding rule
-judged-apart o S = lawful o .apart S
+judged-apart o S = lawful o .codes S .1
 
 pub judged-early : (o : Operation) (S : State) → Other (firstCode (rule o S .judged))
 judged-early o S = apart-first (rule o S .judged) (judged-apart o S)

@@ -178,6 +178,10 @@ abbrev pub Apart : List Judged → Type 0
 Apart [] = Unit {0}
 Apart (j ∷ js) = Other (refusalCode (j .refusal)) × Apart js
 
+-- the codes of a call's judged refusals rise from 2 on, and none is "torn" or "full"
+abbrev pub InOrder : List Judged → Type 0
+InOrder js = Rising (refusalCode Torn) js × Apart js
+
 -- nor is the one that is given
 pub apart-first : (js : List Judged) → Apart js → Other (firstCode js)
 unfolding firstCode

@@ -1,6 +1,6 @@
--- cut: soundness is kept, what its slip then holds, and how many bytes. Assumes nothing.
+-- cut: soundness is kept, what its slip then holds, how many bytes, and that it is lawful. Assumes nothing.
 use mathlib.Core.Path.{_≡_, refl}
-use mathlib.Core.List.{[], append-nil, _∷_}
+use mathlib.Core.List.{[], append-nil}
 use mathlib.Core.Logic.{inr}
 use Prim.Native.Nat.{ℕ, _<_, _≤_}
 use native.Mathlib.Omega.{arith}
@@ -9,10 +9,8 @@ use Rattle.rules.specs.Tables.{bufferTotal, pieceTotal}
 use Rattle.rules.specs.Chain.{State, spans, cutOut, stretches, reads}
 use Rattle.rules.specs.Room.{vacantSlips, freePieces, newSlip, isFree, isUnheld}
 use Rattle.rules.specs.Build.{plain}
-use Rattle.rules.specs.Rule.{reading}
-use Rattle.rules.specs.Cut.{cutAfter, cut, cutCall}
+use Rattle.rules.specs.Cut.{cutAfter, cutCall}
 use Rattle.rules.specs.Step.{Cut, rule}
-use Rattle.rules.specs.Takes.{Took}
 use Rattle.rules.proofs.Moves.{SoundNow}
 use Rattle.rules.proofs.Build.{plain-planned, new-sound}
 use Rattle.rules.proofs.Room.{free-pieces, new-slip-ok, passing-none}
@@ -22,9 +20,9 @@ use Rattle.rules.proofs.Hang.{Gives, gives-as, new-gives}
 use Rattle.rules.proofs.Contents.{Fit, contents-length, cutOut-contents}
 use Rattle.rules.proofs.Codes.{Allowed, no-cause}
 use Rattle.rules.proofs.Sizes.{new-sizes, same-sizes}
-use Rattle.rules.proofs.After.{Reading, gives-reading, stays-as}
+use Rattle.rules.proofs.After.{gives-reading, stays-as}
 use Rattle.rules.proofs.Takes.{buffersOf, cutOut-none, new-pass, roomy, spans-none, took-new}
-use Rattle.rules.proofs.Lawful.{Lawful, new-vacant}
+use Rattle.rules.proofs.Lawful.{Lawful, new-vacant, Leaving, Taking}
 
 pub cut-sound : (s off n : ℕ) (S : State) → 0 < length (vacantSlips (S .tables)) → SoundNow (S .tables) → SoundNow (cutAfter s off n S .tables)
 unfolding cutAfter
@@ -54,15 +52,13 @@ cut-exact s off n S h f a =
 
 -- ---- cut is lawful
 
-cut-leaves : (s off n : ℕ) (S : State) → SoundNow (S .tables) → Fit (bufferTotal (S .tables)) (S .storage) → Allowed (cut s off n S) (S .tables) → SoundNow (cutAfter s off n S .tables)
-    → Reading S (cutAfter s off n S) (reading (newSlip (S .tables)) (take n (drop off (reads S s))) ∷ [])
+cut-leaves : (s off n : ℕ) → Leaving (cutCall s off n)
 unfolding cutAfter
 cut-leaves s off n S h f a h′ =
     gives-reading S (cutAfter s off n S) (newSlip (S .tables)) _ _ _ (cut-gives s off n S h (a .slips-room) (a .pieces-room)) h h′ (λ u. refl)
     (cutOut-contents (bufferTotal (S .tables)) (S .storage) (spans (S .tables) s) off n f (spans-good (S .tables) s h))
 
-cut-takes : (s off n : ℕ) (S : State) → SoundNow (S .tables) → Allowed (cut s off n S) (S .tables) → SoundNow (cutAfter s off n S .tables)
-    → Took (S .tables) (cutAfter s off n S .tables) (cut s off n S .wants) (newSlip (S .tables))
+cut-takes : (s off n : ℕ) → Taking (cutCall s off n)
 cut-takes s off n S h a h′ =
     let T = S .tables in
     let xs = cutOut (spans T s) off n in
@@ -72,8 +68,7 @@ cut-takes s off n S h a h′ =
 pub cut-lawful : (s off n : ℕ) → Lawful (cutCall s off n)
 unfolding cutAfter
 cut-lawful s off n = record {
-  rises = λ S. (omega arith, (omega arith, tt));
-  apart = λ S. (omega arith, (omega arith, tt));
+  codes = λ S. omega arith;
   sizes = λ S. new-sizes (plain (S .tables) _) (freePieces (S .tables)) (newSlip (S .tables)) (same-sizes (S .tables));
   stays = λ S _. stays-as S (cutAfter s off n S) refl;
   sound = λ S h a. cut-sound s off n S (a .slips-room) h;

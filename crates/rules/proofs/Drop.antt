@@ -1,4 +1,4 @@
--- drop: soundness is kept, and what its slip then holds. Assumes nothing.
+-- drop: soundness is kept, what its slip then holds, and that it is lawful. Assumes nothing.
 use mathlib.Core.Path.{_≡_, refl, sym, ap, subst, subst₂, _∙_}
 use mathlib.Core.Bool.{Bool, true, _&&_}
 use mathlib.Core.List.{List, [], _∷_, _++_, List·Memᴰ}
@@ -17,7 +17,7 @@ use Rattle.rules.specs.Room.{freePieces, isUnheld}
 use Rattle.rules.specs.Release.{shared}
 use Rattle.rules.specs.Build.{Plan, underOld}
 use Rattle.rules.specs.Rule.{reading, want}
-use Rattle.rules.specs.Drop.{shorter, dropHere, dropPlan, dropped, dropAfter, ownAt, dropCall, dropFirst}
+use Rattle.rules.specs.Drop.{shorter, dropHere, dropPlan, dropped, dropAfter, ownAt, dropCall}
 use Rattle.rules.specs.Takes.{Took}
 use Rattle.rules.proofs.Logic.{if-either, not-most, and-0, and-1, if-T, if-F}
 use Rattle.rules.proofs.Moves.{SoundBy, SoundNow, used-in-range, in-range, buffer-pos, trim-move, reorder, slip-move}
@@ -28,12 +28,12 @@ use Rattle.rules.proofs.Room.{free-pieces, passing-none}
 use Rattle.rules.proofs.Chain.{AllUsed, chain-used, spans-good}
 use Rattle.rules.proofs.Meets.{Meets, stop, go, chain-meets, meets-low, Alike, alike, Agree, agree-but, agree-meets, agree-stretches, Same, same-by, same-refl, slip-same, shared-same, Safe, head-safe, own-apart}
 use Rattle.rules.proofs.Hang.{Gives, gives-as, old-gives}
-use Rattle.rules.proofs.Contents.{dropOut, Fit, dropOut-contents}
-use Rattle.rules.proofs.Codes.{Allowed, first-named}
+use Rattle.rules.proofs.Contents.{dropOut, dropOut-contents}
+use Rattle.rules.proofs.Codes.{first-named}
 use Rattle.rules.proofs.Sizes.{Sizes, old-sizes, old-storage, piece-set, shared-sizes, then-sizes, same-sizes}
 use Rattle.rules.proofs.After.{Reading, StorageStays, gives-reading, same-reading, stays-as}
 use Rattle.rules.proofs.Takes.{buffersOf, dropOut-none, new-front, nothing-taken, roomy, spans-none, took-held}
-use Rattle.rules.proofs.Lawful.{Lawful}
+use Rattle.rules.proofs.Lawful.{Lawful, Leaving, Taking}
 
 pub drop-here : (T : Tables) (own : Bool) (d n : ℕ) → n < piece T d .len → 0 < piece T d .count → SoundNow T → Planned T (dropHere T own d n)
 unfolding dropHere
@@ -212,8 +212,7 @@ plan-sizes T own (d ∷ ds) n =
     let own′ = ownAt T own d in
     if-either (λ (p : Plan). Sizes T (p .base)) (leb (piece T d .len) n) _ _ (λ _. plan-sizes T own′ ds (n - piece T d .len)) (λ _. here-sizes T own′ d n)
 
-drop-leaves : (s n : ℕ) (S : State) → SoundNow (S .tables) → Fit (bufferTotal (S .tables)) (S .storage) → Allowed (dropFirst s n S) (S .tables) → SoundNow (dropAfter s n S .tables)
-    → Reading S (dropAfter s n S) (reading s (drop n (reads S s)) ∷ [])
+drop-leaves : (s n : ℕ) → Leaving (dropCall s n)
 unfolding dropAfter
 drop-leaves s n S h f al =
     let T = S .tables in
@@ -226,8 +225,7 @@ drop-leaves s n S h f al =
     (λ u. ap (λ (q : List ℕ). contents q (spans T u)) st)
     (ap (λ (q : List ℕ). contents q (dropOut (spans T s) n)) st ∙ dropOut-contents (bufferTotal T) (S .storage) (spans T s) n f (spans-good T s h))))
 
-drop-takes : (s n : ℕ) (S : State) → SoundNow (S .tables) → Allowed (dropFirst s n S) (S .tables) → SoundNow (dropAfter s n S .tables)
-    → Took (S .tables) (dropAfter s n S .tables) (dropFirst s n S .wants) s
+drop-takes : (s n : ℕ) → Taking (dropCall s n)
 unfolding dropAfter
 drop-takes s n S h a =
     let T = S .tables in
@@ -242,8 +240,7 @@ drop-takes s n S h a =
 pub drop-lawful : (s n : ℕ) → Lawful (dropCall s n)
 unfolding dropAfter
 drop-lawful s n = record {
-  rises = λ S. (omega arith, (omega arith, tt));
-  apart = λ S. (omega arith, (omega arith, tt));
+  codes = λ S. omega arith;
   sizes = λ S. (
     let T = S .tables in
     if-either (λ (X : State). Sizes T (X .tables)) (eqb n 0) _ _ (λ _. same-sizes T) (λ _. old-sizes S (dropped T s n) (freePieces T) s (plan-sizes T true (chain T s) n)));

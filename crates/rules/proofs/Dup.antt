@@ -1,4 +1,4 @@
--- dup: soundness is kept, and what its slip then holds. Assumes nothing.
+-- dup: soundness is kept, what its slip then holds, and that it is lawful. Assumes nothing.
 use mathlib.Core.Path.{_≡_, refl, ap}
 use mathlib.Core.List.{[], _∷_, List, _++_}
 use mathlib.Core.Logic.{inr}
@@ -8,9 +8,7 @@ use lib.ListN.{length, take, drop}
 use Rattle.rules.specs.Tables.{Tables, piece, headOf}
 use Rattle.rules.specs.Chain.{State, stretches, Stretch, chain, stretch, spans, reads}
 use Rattle.rules.specs.Room.{vacantSlips, freePieces, newSlip, isUnheld}
-use Rattle.rules.specs.Rule.{reading}
-use Rattle.rules.specs.Dup.{dupPlan, dupAfter, dup, dupCall}
-use Rattle.rules.specs.Takes.{Took}
+use Rattle.rules.specs.Dup.{dupPlan, dupAfter, dupCall}
 use Rattle.rules.proofs.Moves.{SoundNow}
 use Rattle.rules.proofs.Rank.{next-pos, head-pos}
 use Rattle.rules.proofs.Build.{share-sound, still-shared, Planned, plain-planned, new-sound}
@@ -18,11 +16,10 @@ use Rattle.rules.proofs.Room.{free-pieces, new-slip-ok, passing-none}
 use Rattle.rules.proofs.Chain.{stretches-good, chain-used}
 use Rattle.rules.proofs.Meets.{Meets, stop, go, chain-meets, same-refl, shared-same}
 use Rattle.rules.proofs.Hang.{Gives, gives-as, new-gives}
-use Rattle.rules.proofs.Codes.{Allowed}
 use Rattle.rules.proofs.Sizes.{Sizes, new-sizes, same-sizes, shared-sizes}
-use Rattle.rules.proofs.After.{Reading, gives-reading, stays-as}
+use Rattle.rules.proofs.After.{gives-reading, stays-as}
 use Rattle.rules.proofs.Takes.{buffersOf, new-front, roomy, spans-none, took-new, used-drop}
-use Rattle.rules.proofs.Lawful.{Lawful, new-vacant}
+use Rattle.rules.proofs.Lawful.{Lawful, new-vacant, Leaving, Taking}
 
 pub dup-planned : (T : Tables) (n : ℕ) → ((d : ℕ) → n ≡ suc d → 0 < piece T d .count) → SoundNow T → Planned T (dupPlan T n)
 unfolding dupPlan stretches
@@ -74,13 +71,11 @@ unfolding dupPlan
 dup-sizes T zero = same-sizes T
 dup-sizes T (suc d) = shared-sizes T (piece T d .next)
 
-dup-leaves : (s : ℕ) (S : State) → SoundNow (S .tables) → Allowed (dup s S) (S .tables) → SoundNow (dupAfter s S .tables)
-    → Reading S (dupAfter s S) (reading (newSlip (S .tables)) (reads S s) ∷ [])
+dup-leaves : (s : ℕ) → Leaving (dupCall s)
 unfolding dupAfter
-dup-leaves s S h a h′ = gives-reading S (dupAfter s S) (newSlip (S .tables)) _ (spans (S .tables) s) (reads S s) (dup-gives s S h (a .slips-room) (a .pieces-room)) h h′ (λ u. refl) refl
+dup-leaves s S h _ a h′ = gives-reading S (dupAfter s S) (newSlip (S .tables)) _ (spans (S .tables) s) (reads S s) (dup-gives s S h (a .slips-room) (a .pieces-room)) h h′ (λ u. refl) refl
 
-dup-takes : (s : ℕ) (S : State) → SoundNow (S .tables) → Allowed (dup s S) (S .tables) → SoundNow (dupAfter s S .tables)
-    → Took (S .tables) (dupAfter s S .tables) (dup s S .wants) (newSlip (S .tables))
+dup-takes : (s : ℕ) → Taking (dupCall s)
 dup-takes s S h a h′ =
     let T = S .tables in
     let k = length (dupPlan T (headOf T s) .more) in
@@ -90,12 +85,11 @@ dup-takes s S h a h′ =
 pub dup-lawful : (s : ℕ) → Lawful (dupCall s)
 unfolding dupAfter
 dup-lawful s = record {
-  rises = λ S. (omega arith, tt);
-  apart = λ S. (omega arith, tt);
+  codes = λ S. omega arith;
   sizes = λ S. (let T = S .tables in new-sizes (dupPlan T (headOf T s)) (freePieces T) (newSlip T) (dup-sizes T (headOf T s)));
   stays = λ S _. stays-as S (dupAfter s S) refl;
   sound = λ S h a. dup-sound s S (a .slips-room) h;
   known = λ S a. (inr (new-vacant (S .tables) (a .slips-room)), tt);
-  leaves = λ S h _ a h′. dup-leaves s S h a h′;
+  leaves = dup-leaves s;
   takes = dup-takes s;
 }

@@ -1,4 +1,4 @@
--- free: soundness is kept, and it is lawful. Assumes nothing.
+-- free: soundness is kept, and that it is lawful. Assumes nothing.
 use mathlib.Core.List.{[], _∷_}
 use mathlib.Core.Path.{_∙_, ap, refl}
 use mathlib.Core.Logic.{inl}
@@ -43,8 +43,7 @@ free-takes s S b h h′ =
 
 pub free-lawful : (s : ℕ) → Lawful (freeCall s)
 free-lawful s = record {
-  rises = λ S. (omega arith, tt);
-  apart = λ S. (omega arith, tt);
+  codes = λ S. omega arith;
   sizes = λ S. turned-sizes S s vacant;
   stays = λ S _. stays-as S (freeAfter s S) (turned-storage S s vacant);
   sound = λ S h a. free-sound s S (first-named (S .tables) s [] (a .early) .0) h;

@@ -1,4 +1,4 @@
--- keep: soundness is kept, and what its slip then holds. Assumes nothing.
+-- keep: soundness is kept, what its slip then holds, and that it is lawful. Assumes nothing.
 use mathlib.Core.Path.{_≡_, refl, sym, ap, subst, _∙_}
 use mathlib.Core.List.{List, [], _∷_, _++_, append-nil}
 use mathlib.Core.Logic.{_≢_, inl}
@@ -13,7 +13,7 @@ use Rattle.rules.specs.Chain.{State, Stretch, spans, lengthOf, stretch, 
 use Rattle.rules.specs.Room.{freePieces, isFree, isUnheld}
 use Rattle.rules.specs.Build.{built, builtLink}
 use Rattle.rules.specs.Rule.{reading, want}
-use Rattle.rules.specs.Keep.{kept, keptOwn, keptNotOwn, shortened, keptBy, keepAfter, keep, keepCall}
+use Rattle.rules.specs.Keep.{kept, keptOwn, keptNotOwn, shortened, keptBy, keepAfter, keepCall}
 use Rattle.rules.specs.Takes.{Took}
 use Rattle.rules.proofs.Logic.{if-either, if-F, if-both}
 use Rattle.rules.proofs.Moves.{SoundBy, SoundNow, used-in-range, by-place, reorder, trim-move, slip-move}
@@ -23,12 +23,12 @@ use Rattle.rules.proofs.Room.{free-pieces, passing-front, passing-none}
 use Rattle.rules.proofs.Chain.{spans-good, cutOut-good, good-drop, good-last, built-own}
 use Rattle.rules.proofs.Meets.{stop, alike, agree-but, agree-stretches, Same, same-by, same-refl, slip-same, Safe, head-safe, own-apart, built-same, built-meets, built-agree}
 use Rattle.rules.proofs.Hang.{Gives, gives-as, gives-from, behind-gives, Run, run-low, own-run, own-short, Ones, ones-used, own-ones, run-still, own-front}
-use Rattle.rules.proofs.Contents.{Fit, cutOut-contents}
-use Rattle.rules.proofs.Codes.{Allowed, first-named}
+use Rattle.rules.proofs.Contents.{cutOut-contents}
+use Rattle.rules.proofs.Codes.{first-named}
 use Rattle.rules.proofs.Sizes.{Sizes, behind-sizes, behind-storage, built-sizes, piece-set, same-sizes, then-sizes}
 use Rattle.rules.proofs.After.{StorageStays, Reading, gives-reading, reads-length, same-reading, stays-as}
 use Rattle.rules.proofs.Takes.{Roomy, buffersOf, cutOut-none, new-pass, nothing-taken, roomy, spans-none, took-held, used-none}
-use Rattle.rules.proofs.Lawful.{Lawful}
+use Rattle.rules.proofs.Lawful.{Lawful, Leaving, Taking}
 
 own-last : (j : ℕ) (T : Tables) (n l : ℕ) → OwnTo j T n l → piece T l .count ≡ 1
 own-last zero T n l o = o .1
@@ -287,8 +287,7 @@ unfolding keptBy
 kept-storage S s own xs [] = behind-storage _ s own 0
 kept-storage S s own xs (y ∷ ys) = behind-storage _ s own _
 
-keep-leaves : (s n : ℕ) (S : State) → SoundNow (S .tables) → Fit (bufferTotal (S .tables)) (S .storage) → Allowed (keep s n S) (S .tables) → SoundNow (keepAfter s n S .tables)
-    → Reading S (keepAfter s n S) (reading s (take n (reads S s)) ∷ [])
+keep-leaves : (s n : ℕ) → Leaving (keepCall s n)
 unfolding keepAfter
 keep-leaves s n S h f al =
     let T = S .tables in
@@ -302,8 +301,7 @@ keep-leaves s n S h f al =
     (λ u. ap (λ (q : List ℕ). contents q (spans T u)) st)
     (ap (λ (q : List ℕ). contents q (kept T s n)) st ∙ cutOut-contents (bufferTotal T) (S .storage) (spans T s) 0 n f (spans-good T s h))))
 
-keep-takes : (s n : ℕ) (S : State) → SoundNow (S .tables) → Allowed (keep s n S) (S .tables) → SoundNow (keepAfter s n S .tables)
-    → Took (S .tables) (keepAfter s n S .tables) (keep s n S .wants) s
+keep-takes : (s n : ℕ) → Taking (keepCall s n)
 unfolding keepAfter
 keep-takes s n S h a h″ =
     let T = S .tables in
@@ -320,8 +318,7 @@ keep-takes s n S h a h″ =
 pub keep-lawful : (s n : ℕ) → Lawful (keepCall s n)
 unfolding keepAfter
 keep-lawful s n = record {
-  rises = λ S. (omega arith, (omega arith, tt));
-  apart = λ S. (omega arith, (omega arith, tt));
+  codes = λ S. omega arith;
   sizes = λ S. (
     let T = S .tables in
     if-either (λ (X : State). Sizes T (X .tables)) (eqb n (lengthOf T s)) _ _ (λ _. same-sizes T) (λ _. kept-sizes S s (keptOwn T s n) (kept T s n) (keptNotOwn T s n)));

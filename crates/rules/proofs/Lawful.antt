@@ -4,10 +4,9 @@ use mathlib.Core.Path.{_∙_, _≡_, ap, refl, subst, subst₂, sym}
 use mathlib.Core.Logic.{_⊎_, ⊎-elim}
 use mathlib.Core.Bool.{not}
 use Prim.Native.Nat.{_<_, ℕ}
+use native.Mathlib.Omega.{arith}
 use lib.Dec.{T-not}
 use lib.ListN.{length}
-use Rattle.kinds.specs.declared.Refusal.the-variants.{Torn}
-use Rattle.kinds.specs.Refusal.{refusalCode}
 use Rattle.rules.specs.Basics.{Is}
 use Rattle.rules.specs.Tables.{Tables, bufferTotal, slip}
 use Rattle.rules.specs.Chain.{State}
@@ -20,7 +19,7 @@ use Rattle.rules.proofs.Logic.{eq→eqb}
 use Rattle.rules.proofs.Moves.{SoundNow}
 use Rattle.rules.proofs.Room.{new-slip-ok}
 use Rattle.rules.proofs.Contents.{Fit}
-use Rattle.rules.proofs.Codes.{Allowed, Apart, Rising}
+use Rattle.rules.proofs.Codes.{Allowed, InOrder}
 use Rattle.rules.proofs.Sizes.{Sizes, same-sizes}
 use Rattle.rules.proofs.After.{at-there, Reading, StorageStays, stays-as}
 use Rattle.rules.proofs.Takes.{nothing-taken}
@@ -30,22 +29,27 @@ abbrev pub Known : Tables → List ℕ → List Change → Type 0
 Known T ns [] = Unit {0}
 Known T ns (c ∷ cs) = (Among ns (c .slip) ⊎ Is (isVacant T (c .slip))) × Known T ns cs
 
--- A call is lawful: what its meaning says of it fits what its rule does.
+-- Once it is done, the slips that it changes are left as it says; and what it wants is what it takes.
+abbrev pub Leaving : Meaning → Type 0
+Leaving m = (S : State) → SoundNow (S .tables) → Fit (bufferTotal (S .tables)) (S .storage) → Allowed (m .rule S) (S .tables)
+    → SoundNow (m .rule S .after .tables) → Reading S (m .rule S .after) (m .changes S)
+
+abbrev pub Taking : Meaning → Type 0
+Taking m = (S : State) → SoundNow (S .tables) → Allowed (m .rule S) (S .tables) → SoundNow (m .rule S .after .tables)
+    → Took (S .tables) (m .rule S .after .tables) (m .rule S .wants) (firstSlip (m .changes S) (m .names))
+
+-- A call is lawful: what its meaning says of it is what its rule does.
 pub record Lawful (m : Meaning) : Type 0 where
   -- the codes that it judges before room rise from 2 on, and none is "torn" or "full"
-  pub rises : (S : State) → Rising (refusalCode Torn) (m .rule S .judged)
-  pub apart : (S : State) → Apart (m .rule S .judged)
+  pub codes : (S : State) → InOrder (m .rule S .judged)
   -- tables and storage stay as long as they were, and so does every byte of a buffer that was held
   pub sizes : (S : State) → Sizes (S .tables) (m .rule S .after .tables)
   pub stays : (S : State) → Fit (bufferTotal (S .tables)) (S .storage) → StorageStays S (m .rule S .after)
-  -- once it is done: soundness is kept, and only slips that it names or takes change
+  -- once it is done: soundness is kept, and only slips that it names or takes are changed
   pub sound : (S : State) → SoundNow (S .tables) → Allowed (m .rule S) (S .tables) → SoundNow (m .rule S .after .tables)
   pub known : (S : State) → Allowed (m .rule S) (S .tables) → Known (S .tables) (m .names) (m .changes S)
-  -- these are left as it says, and what it wants is what it takes
-  pub leaves : (S : State) → SoundNow (S .tables) → Fit (bufferTotal (S .tables)) (S .storage) → Allowed (m .rule S) (S .tables)
-      → SoundNow (m .rule S .after .tables) → Reading S (m .rule S .after) (m .changes S)
-  pub takes : (S : State) → SoundNow (S .tables) → Allowed (m .rule S) (S .tables) → SoundNow (m .rule S .after .tables)
-      → Took (S .tables) (m .rule S .after .tables) (m .rule S .wants) (firstSlip (m .changes S) (m .names))
+  pub leaves : Leaving m
+  pub takes : Taking m
 
 -- a new slip was vacant
 pub new-vacant : (T : Tables) → 0 < length (vacantSlips T) → Is (isVacant T (newSlip T))
@@ -63,19 +67,20 @@ others-stay g f T ns (c ∷ cs) t k n v =
 -- ---- the calls that only look
 
 -- a call that leaves everything as it is and wants nothing
-pub looks-lawful : (ns out : List ℕ) (r : State → Rule) → ((S : State) → Rising (refusalCode Torn) (r S .judged)) → ((S : State) → Apart (r S .judged))
-    → ((S : State) → (r S .after ≡ S) × (r S .wants ≡ want 0 0 0)) → Lawful (looks ns out r)
-looks-lawful ns out r c a e = record {
-  rises = c;
-  apart = a;
-  sizes = λ S. subst (λ (X : State). Sizes (S .tables) (X .tables)) (sym (e S .0)) (same-sizes (S .tables));
-  stays = λ S _. stays-as S (r S .after) (ap (λ (X : State). X .storage) (e S .0));
-  sound = λ S h _. subst (λ (X : State). SoundNow (X .tables)) (sym (e S .0)) h;
-  known = λ S _. tt;
-  leaves = λ S h f _ _. subst (λ (X : State). Reading S X []) (sym (e S .0)) (record { bytes = λ t. refl; vacancy = λ t. refl });
-  takes = λ S h _ _. subst₂ (λ (X : State) (w : Wants). Took (S .tables) (X .tables) w (firstSlip [] ns)) (sym (e S .0)) (sym (e S .1)) (nothing-taken (S .tables) (firstSlip [] ns) h);
-}
+pub looks-lawful : (ns out : List ℕ) (r : State → Rule) → ((S : State) → InOrder (r S .judged)) → ((S : State) → (r S .after ≡ S) × (r S .wants ≡ want 0 0 0))
+    → Lawful (looks ns out r)
+looks-lawful ns out r c e =
+    let t = firstSlip [] ns in
+    record {
+      codes = c;
+      sizes = λ S. subst (λ (X : State). Sizes (S .tables) (X .tables)) (sym (e S .0)) (same-sizes (S .tables));
+      stays = λ S _. stays-as S (r S .after) (ap (λ (X : State). X .storage) (e S .0));
+      sound = λ S h _. subst (λ (X : State). SoundNow (X .tables)) (sym (e S .0)) h;
+      known = λ S _. tt;
+      leaves = λ S h f _ _. subst (λ (X : State). Reading S X []) (sym (e S .0)) (record { bytes = λ t. refl; vacancy = λ t. refl });
+      takes = λ S h _ _. subst₂ (λ (X : State) (w : Wants). Took (S .tables) (X .tables) w t) (sym (e S .0)) (sym (e S .1)) (nothing-taken (S .tables) t h);
+    }
 
 -- audit judges nothing, and only looks
 pub audit-lawful : Lawful auditCall
-audit-lawful = looks-lawful [] [] audit (λ S. tt) (λ S. tt) (λ S. (refl, refl))
+audit-lawful = looks-lawful [] [] audit (λ S. omega arith) (λ S. (refl, refl))

@@ -21,4 +21,4 @@ length-is s S h f = sym (reads-length S h f s)
 -- ---- length only looks
 
 pub length-lawful : (s : ℕ) → Lawful (lengthCall s)
-length-lawful s = looks-lawful (s ∷ []) [] (chainLength s) (λ S. (omega arith, tt)) (λ S. (omega arith, tt)) (λ S. (refl, refl))
+length-lawful s = looks-lawful (s ∷ []) [] (chainLength s) (λ S. omega arith) (λ S. (refl, refl))

@@ -42,4 +42,4 @@ list-exact s list S a =
 -- ---- list only looks
 
 pub list-lawful : (s : ℕ) (list : List ℕ) → Lawful (listCall s list)
-list-lawful s list = looks-lawful (s ∷ []) list (wireList s list) (λ S. (omega arith, (omega arith, tt))) (λ S. (omega arith, (omega arith, tt))) (λ S. (refl, refl))
+list-lawful s list = looks-lawful (s ∷ []) list (wireList s list) (λ S. omega arith) (λ S. (refl, refl))

@@ -1,4 +1,4 @@
--- pack: soundness is kept, and what its slip then holds. Assumes nothing.
+-- pack: soundness is kept, what its slip then holds, and that it is lawful. Assumes nothing.
 use mathlib.Core.List.{[], append-nil, _∷_, List}
 use mathlib.Core.Path.{ap, _∙_, refl, sym}
 use mathlib.Core.Logic.{inl}
@@ -6,12 +6,12 @@ use Prim.Native.Nat.{ℕ, _<_, _≤_}
 use native.Mathlib.Omega.{arith}
 use lib.ListN.{length, take}
 use lib.Dec.{leb}
-use Rattle.rules.specs.Tables.{slipTotal, bufferTotal, pieceTotal}
+use Rattle.rules.specs.Tables.{slipTotal, pieceTotal}
 use Rattle.rules.specs.Chain.{State, chain, lengthOf, stretches, contents, reads, spans, withStorage}
 use Rattle.rules.specs.Room.{freePieces, newBuffers, freeBuffers, isFree}
 use Rattle.rules.specs.Build.{plain, buffersFor, laid, underOld, stored}
 use Rattle.rules.specs.Rule.{Wants, reading, want}
-use Rattle.rules.specs.Pack.{packAfter, pack, packCall, packWants}
+use Rattle.rules.specs.Pack.{packAfter, packCall, packWants}
 use Rattle.rules.specs.Takes.{Took}
 use Rattle.rules.proofs.Logic.{if-either, if-F, if-both}
 use Rattle.rules.proofs.Moves.{SoundNow}
@@ -19,12 +19,11 @@ use Rattle.rules.proofs.Build.{plain-planned, old-sound}
 use Rattle.rules.proofs.Room.{free-pieces}
 use Rattle.rules.proofs.Meets.{stop, same-refl}
 use Rattle.rules.proofs.Hang.{Gives, gives-as, old-gives}
-use Rattle.rules.proofs.Contents.{Fit}
-use Rattle.rules.proofs.Codes.{Allowed, first-named}
+use Rattle.rules.proofs.Codes.{first-named}
 use Rattle.rules.proofs.Sizes.{Sizes, old-sizes, old-storage, same-sizes}
 use Rattle.rules.proofs.After.{Reading, StorageStays, gives-reading, new-here, new-others, reads-length, same-reading, stays-as, stays-new}
 use Rattle.rules.proofs.Takes.{Roomy, new-laid, new-pass, nothing-taken, roomy, took-held}
-use Rattle.rules.proofs.Lawful.{Lawful}
+use Rattle.rules.proofs.Lawful.{Lawful, Leaving, Taking}
 use Rattle.rules.proofs.Put.{new-good, new-count}
 
 pub pack-sound : (s : ℕ) (S : State) → s < slipTotal (S .tables) → SoundNow (S .tables) → SoundNow (packAfter s S .tables)
@@ -51,8 +50,7 @@ pack-gives s S S₁ b h rp rb =
 
 -- ---- pack is lawful
 
-pack-leaves : (s : ℕ) (S : State) → SoundNow (S .tables) → Fit (bufferTotal (S .tables)) (S .storage) → Allowed (pack s S) (S .tables) → SoundNow (packAfter s S .tables)
-    → Reading S (packAfter s S) (reading s (reads S s) ∷ [])
+pack-leaves : (s : ℕ) → Leaving (packCall s)
 unfolding packAfter packWants
 pack-leaves s S h f al =
     let T = S .tables in
@@ -73,8 +71,7 @@ pack-leaves s S h f al =
     (λ u. ap (λ (q : List ℕ). contents q (spans T u)) st ∙ new-others S h f k (reads S s) u)
     (ap (λ (q : List ℕ). contents q (laid bs n)) st ∙ ap (λ i. contents (S₁ .storage) (laid bs i)) (sym long) ∙ new-here S h f k (reads S s) rb (omega arith))))
 
-pack-takes : (s : ℕ) (S : State) → SoundNow (S .tables) → Allowed (pack s S) (S .tables) → SoundNow (packAfter s S .tables)
-    → Took (S .tables) (packAfter s S .tables) (pack s S .wants) s
+pack-takes : (s : ℕ) → Taking (packCall s)
 unfolding packAfter packWants
 pack-takes s S h a h″ =
     let T = S .tables in
@@ -89,8 +86,7 @@ pack-takes s S h a h″ =
 pub pack-lawful : (s : ℕ) → Lawful (packCall s)
 unfolding packAfter
 pack-lawful s = record {
-  rises = λ S. (omega arith, tt);
-  apart = λ S. (omega arith, tt);
+  codes = λ S. omega arith;
   sizes = λ S. (
     let T = S .tables in
     if-either (λ (X : State). Sizes T (X .tables)) (leb (length (chain T s)) 1) _ _ (λ _. same-sizes T) (λ _. old-sizes _ (plain T _) (freePieces T) s (same-sizes T)));

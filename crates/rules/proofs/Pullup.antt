@@ -1,4 +1,4 @@
--- pullup: soundness is kept, and what its slip then holds. Assumes nothing.
+-- pullup: soundness is kept, what its slip then holds, and that it is lawful. Assumes nothing.
 use mathlib.Core.List.{List, _++_, append-assoc, [], _∷_, map-append}
 use mathlib.Core.Path.{_≡_, refl, ap, _∙_, sym}
 use mathlib.Core.Logic.{inl}
@@ -14,7 +14,7 @@ use Rattle.rules.specs.Room.{isUnheld, freePieces, freeBuffers, newBuffe
 use Rattle.rules.specs.Build.{laid, underOld, stored}
 use Rattle.rules.specs.Rule.{Wants, reading, want}
 use Rattle.rules.specs.Drop.{dropped}
-use Rattle.rules.specs.Pullup.{pulled, pullupAfter, pullup, pullupCall, pullupWants}
+use Rattle.rules.specs.Pullup.{pulled, pullupAfter, pullupCall, pullupWants}
 use Rattle.rules.specs.Takes.{Took}
 use Rattle.rules.proofs.Logic.{if-either, not-most, if-F, if-both}
 use Rattle.rules.proofs.Moves.{SoundNow}
@@ -22,12 +22,12 @@ use Rattle.rules.proofs.Build.{Good, Planned, old-sound}
 use Rattle.rules.proofs.Room.{free-pieces, new-buffers-in, passing-back}
 use Rattle.rules.proofs.Chain.{laid-good, good-append, spans-good}
 use Rattle.rules.proofs.Hang.{Gives, gives-as, old-gives}
-use Rattle.rules.proofs.Contents.{stored-others, dropOut, Fit, Off, contents-append, dropOut-contents}
-use Rattle.rules.proofs.Codes.{Allowed, first-named, no-cause}
+use Rattle.rules.proofs.Contents.{stored-others, dropOut, Off, contents-append, dropOut-contents}
+use Rattle.rules.proofs.Codes.{first-named, no-cause}
 use Rattle.rules.proofs.Sizes.{Sizes, old-sizes, old-storage, same-sizes}
 use Rattle.rules.proofs.After.{Reading, StorageStays, gives-reading, new-here, new-others, reads-length, same-reading, spans-off, stays-as, stays-new}
 use Rattle.rules.proofs.Takes.{Roomy, buffersOf, dropOut-none, new-front, new-laid, nothing-taken, roomy, spans-none, took-held}
-use Rattle.rules.proofs.Lawful.{Lawful}
+use Rattle.rules.proofs.Lawful.{Lawful, Leaving, Taking}
 use Rattle.rules.proofs.Put.{new-count}
 use Rattle.rules.proofs.Drop.{dropped-planned, dropped-leaves, plan-sizes}
 
@@ -78,8 +78,7 @@ good-dropOut B (x ∷ xs) n g =
     (λ t. (let k = not-most (x .len) n t in (g .0, omega arith, omega (arith, g .2), g .3)))
 
 
-pullup-leaves : (s n : ℕ) (S : State) → SoundNow (S .tables) → Fit (bufferTotal (S .tables)) (S .storage) → Allowed (pullup s n S) (S .tables) → SoundNow (pullupAfter s n S .tables)
-    → Reading S (pullupAfter s n S) (reading s (reads S s) ∷ [])
+pullup-leaves : (s n : ℕ) → Leaving (pullupCall s n)
 unfolding pullupAfter pullupWants
 pullup-leaves s n S h f al =
     let T = S .tables in
@@ -104,8 +103,7 @@ pullup-leaves s n S h f al =
     (λ u. ap (λ (q : List ℕ). contents q (spans T u)) st ∙ new-others S h f 1 front u)
     (ap (λ (q : List ℕ). contents q (laid bs n ++ dropOut (spans T s) n)) st ∙ contents-append (S₁ .storage) (laid bs n) (dropOut (spans T s) n) ∙ (λ j. fst j ++ rst j) ∙ take-append-drop n (reads S s))))
 
-pullup-takes : (s n : ℕ) (S : State) → SoundNow (S .tables) → Allowed (pullup s n S) (S .tables) → SoundNow (pullupAfter s n S .tables)
-    → Took (S .tables) (pullupAfter s n S .tables) (pullup s n S .wants) s
+pullup-takes : (s n : ℕ) → Taking (pullupCall s n)
 unfolding pullupAfter pullupWants
 pullup-takes s n S h a h″ =
     let T = S .tables in
@@ -127,8 +125,7 @@ pullup-takes s n S h a h″ =
 pub pullup-lawful : (s n : ℕ) → Lawful (pullupCall s n)
 unfolding pullupAfter
 pullup-lawful s n = record {
-  rises = λ S. (omega arith, (omega arith, (omega arith, tt)));
-  apart = λ S. (omega arith, (omega arith, (omega arith, tt)));
+  codes = λ S. omega arith;
   sizes = λ S. (
     let T = S .tables in
     if-either (λ (X : State). Sizes T (X .tables)) (leb n (firstLength (spans T s))) _ _ (λ _. same-sizes T) (λ _. old-sizes _ (pulled T s n) (freePieces T) s (plan-sizes T true (chain T s) n)));

@@ -1,5 +1,5 @@
--- put: soundness is kept, and what its slip then holds. Assumes nothing.
-use mathlib.Core.List.{List, [], append-nil, _∷_}
+-- put: soundness is kept, what its slip then holds, and that it is lawful. Assumes nothing.
+use mathlib.Core.List.{List, [], append-nil}
 use mathlib.Core.Path.{_≡_, ap, _∙_, refl}
 use mathlib.Core.Logic.{inr}
 use Prim.Native.Nat.{ℕ, _≤_, _<_}
@@ -9,21 +9,18 @@ use Rattle.rules.specs.Tables.{Tables, bufferTotal, pieceTotal}
 use Rattle.rules.specs.Chain.{State, stretches}
 use Rattle.rules.specs.Room.{isUnheld, vacantSlips, freePieces, freeBuffers, newSlip, newBuffers, isFree}
 use Rattle.rules.specs.Build.{plain, buffersFor, laid}
-use Rattle.rules.specs.Rule.{reading}
-use Rattle.rules.specs.Put.{putAfter, put, putCall}
-use Rattle.rules.specs.Takes.{Took}
+use Rattle.rules.specs.Put.{putAfter, putCall}
 use Rattle.rules.proofs.Moves.{SoundNow}
 use Rattle.rules.proofs.Build.{Good, new-sound, plain-planned}
 use Rattle.rules.proofs.Room.{free-pieces, new-slip-ok, new-buffers-in}
 use Rattle.rules.proofs.Chain.{laid-good}
 use Rattle.rules.proofs.Meets.{stop, same-refl}
 use Rattle.rules.proofs.Hang.{Gives, gives-as, new-gives}
-use Rattle.rules.proofs.Contents.{laid-count, Fit}
-use Rattle.rules.proofs.Codes.{Allowed}
+use Rattle.rules.proofs.Contents.{laid-count}
 use Rattle.rules.proofs.Sizes.{new-sizes, same-sizes}
-use Rattle.rules.proofs.After.{Reading, gives-reading, new-here, new-others, stays-new}
+use Rattle.rules.proofs.After.{gives-reading, new-here, new-others, stays-new}
 use Rattle.rules.proofs.Takes.{new-laid, new-pass, roomy, took-new}
-use Rattle.rules.proofs.Lawful.{Lawful, new-vacant}
+use Rattle.rules.proofs.Lawful.{Lawful, new-vacant, Leaving, Taking}
 
 -- n bytes on the lowest free buffers
 pub new-good : (T : Tables) (n : ℕ) → Good (bufferTotal T) (laid (newBuffers T (buffersFor n)) n)
@@ -56,16 +53,14 @@ put-gives input S s v rp rb =
 
 -- ---- put is lawful
 
-put-leaves : (input : List ℕ) (S : State) → SoundNow (S .tables) → Fit (bufferTotal (S .tables)) (S .storage) → Allowed (put input S) (S .tables) → SoundNow (putAfter input S .tables)
-    → Reading S (putAfter input S) (reading (newSlip (S .tables)) input ∷ [])
+put-leaves : (input : List ℕ) → Leaving (putCall input)
 unfolding putAfter
 put-leaves input S h f a h′ =
     let k = buffersFor (length input) in
     gives-reading S (putAfter input S) (newSlip (S .tables)) _ _ input (put-gives input S h (a .slips-room) (a .pieces-room) (a .buffers-room)) h h′
     (new-others S h f k input) (new-here S h f k input (a .buffers-room) (omega arith))
 
-put-takes : (input : List ℕ) (S : State) → SoundNow (S .tables) → Allowed (put input S) (S .tables) → SoundNow (putAfter input S .tables)
-    → Took (S .tables) (putAfter input S .tables) (put input S .wants) (newSlip (S .tables))
+put-takes : (input : List ℕ) → Taking (putCall input)
 put-takes input S h a h′ =
     let T = S .tables in
     let k = buffersFor (length input) in
@@ -74,8 +69,7 @@ put-takes input S h a h′ =
 pub put-lawful : (input : List ℕ) → Lawful (putCall input)
 unfolding putAfter
 put-lawful input = record {
-  rises = λ S. tt;
-  apart = λ S. tt;
+  codes = λ S. omega arith;
   sizes = λ S. new-sizes (plain (S .tables) _) (freePieces (S .tables)) (newSlip (S .tables)) (same-sizes (S .tables));
   stays = λ S f. stays-new S _ (buffersFor (length input)) input f refl;
   sound = λ S h a. put-sound input S (a .slips-room) h;

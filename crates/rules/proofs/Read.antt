@@ -49,4 +49,4 @@ read-exact s off n out S h f a =
 -- ---- read only looks
 
 pub read-lawful : (s off n : ℕ) (out : List ℕ) → Lawful (readCall s off n out)
-read-lawful s off n out = looks-lawful (s ∷ []) out (read s off n out) (λ S. (omega arith, (omega arith, (omega arith, tt)))) (λ S. (omega arith, (omega arith, (omega arith, tt)))) (λ S. (refl, refl))
+read-lawful s off n out = looks-lawful (s ∷ []) out (read s off n out) (λ S. omega arith) (λ S. (refl, refl))

@@ -81,4 +81,4 @@ show-unchanged s n scratch S l = if-F (scattered (spans (S .tables) s) n) _ _ (�
 -- ---- show only looks
 
 pub show-lawful : (s n : ℕ) (scratch : List ℕ) → Lawful (showCall s n scratch)
-show-lawful s n scratch = looks-lawful (s ∷ []) scratch (show s n scratch) (λ S. (omega arith, (omega arith, (omega arith, (omega arith, tt))))) (λ S. (omega arith, (omega arith, (omega arith, (omega arith, tt))))) (λ S. (refl, refl))
+show-lawful s n scratch = looks-lawful (s ∷ []) scratch (show s n scratch) (λ S. omega arith) (λ S. (refl, refl))

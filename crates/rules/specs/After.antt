@@ -30,7 +30,7 @@ readsAfter o S = changed (λ (c : Change). c .bytes) (meaning o .changes S) (rea
 unfoldable pub vacantAfter : Operation → State → ℕ → Bool
 vacantAfter o S = changed (λ (c : Change). c .vacated) (meaning o .changes S) (isVacant (S .tables))
 
--- The claim about an operation that is done, proved in proofs/After.antt.
+-- The claim about an operation that is done, proved in proofs/Calls.antt.
 pub record ReadsOk (o : Operation) (S : State) : Type 0 where
   pub bytes : (t : ℕ) → reads (rule o S .after) t ≡ readsAfter o S t
   pub vacancy : (t : ℕ) → isVacant (rule o S .after .tables) t ≡ vacantAfter o S t

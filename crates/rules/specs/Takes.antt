@@ -43,6 +43,6 @@ pub record Took (T T′ : Tables) (w : Wants) (t : ℕ) : Type 0 where
   pub pieces-order : passing (isFree T) (chain T′ t) ≡ take (w .pieces) (freePieces T)
   pub buffers-order : passing (isUnheld T) (map (λ (x : Stretch). x .buffer) (spans T′ t)) ≡ take (w .buffers) (freeBuffers T)
 
--- The claim about an operation that is done, proved in proofs/Takes.antt.
+-- The claim about an operation that is done, proved in proofs/Calls.antt.
 abbrev pub TakesOk : Operation → State → Type 0
 TakesOk o S = Took (S .tables) (rule o S .after .tables) (rule o S .wants) (target o S)
