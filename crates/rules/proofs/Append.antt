@@ -164,75 +164,10 @@ append-sizes a b S =
     (λ _. then-sizes (slip-set T b vacant) (slip-set (setSlip T b vacant) a (slip T b)))
     (λ _. if-either (λ (X : State). Sizes T (X .tables)) (eqb (headOf T b) 0) _ _ (λ _. slip-set T b vacant) (λ _. joined-sizes a b S))
 
--- What slips read: b is vacated first, and then a reads both.
-module _ (a b : ℕ) (S : State) (ne : a ≢ b) (la : a < slipTotal (S .tables)) (lb : b < slipTotal (S .tables)) (za : 0 < slip (S .tables) a) (zb : 0 < slip (S .tables) b) (h : SoundNow (S .tables)) where
-  abbrev vacatedFirst : State
-  vacatedFirst = withTables S (setSlip (S .tables) b vacant)
-
-  -- b's head is held while b is vacant
-  first-sound : SoundWith (headOf (S .tables) b ∷ []) (vacatedFirst .tables)
-  first-sound = (h .0, slip-move {fl = []} b 0 lb (reorder (λ x. omega arith) (h .1)))
-
-  first-reading : Reading S vacatedFirst (vacating b ∷ [])
-  first-reading =
-      gone-reading S vacatedFirst b refl (getD-set-same (S .tables .slips) b 0 0 lb) (λ u n. getD-set-other (S .tables .slips) b u 0 0 n)
-      (λ u _. slip-same (S .tables) b 0 (headOf (S .tables) u)) h first-sound
-
-  first-same : slip (vacatedFirst .tables) a ≡ slip (S .tables) a
-  first-same = getD-set-other (S .tables .slips) b a 0 0 ne
-
-  -- a is empty: it takes b's head
-  taker-reading : headOf (S .tables) a ≡ 0 → SoundNow (setSlip (vacatedFirst .tables) a (slip (S .tables) b))
-      → Reading vacatedFirst (withTables S (setSlip (vacatedFirst .tables) a (slip (S .tables) b))) (reading a (reads S a ++ reads S b) ∷ [])
-  unfolding contents
-  taker-reading e h′ =
-      let T = S .tables in
-      let T₁ : Tables = vacatedFirst .tables in
-      let T₂ : Tables = setSlip T₁ a (slip T b) in
-      let S₂ : State = withTables S T₂ in
-      let mine : slip T₂ a ≡ slip T b = getD-set-same (T₁ .slips) a (slip T b) 0 (omega (arith, length-set (T .slips) b 0)) in
-      let other : (u : ℕ) → u ≢ a → slip T₂ u ≡ slip T₁ u = λ u n. getD-set-other (T₁ .slips) a u (slip T b) 0 n in
-      let none : reads S a ≡ [] = ap (contents (S .storage)) (empty-spans T a e) in
-      record {
-        bytes = at-by a (reads S a ++ reads S b) (reads vacatedFirst) (reads S₂)
-            (ap (contents (S .storage)) (moved-spans a b mine (same-trans (slip-same T b 0 (headOf T b)) (slip-same T₁ a (slip T b) (headOf T b))) h h′)
-            ∙ ap {B = List ℕ} (λ xs. xs ++ reads S b) (sym none))
-            (λ u n. ap (contents (S .storage)) (moved-spans u u (other u n) (slip-same T₁ a (slip T b) (headOf T₁ u)) first-sound h′));
-        vacancy = at-by a false (isVacant T₁) (isVacant T₂) (sym (held-false T₂ a (omega (arith, mine)))) (λ u n. ap (λ v. eqb v 0) (other u n));
-      }
-
-  -- b is empty: a stays
-  stayer-reading : headOf (S .tables) b ≡ 0 → Reading vacatedFirst vacatedFirst (reading a (reads S a ++ reads S b) ∷ [])
-  unfolding contents
-  stayer-reading e =
-      let none : reads S b ≡ [] = ap (contents (S .storage)) (empty-spans (S .tables) b e) in
-      same-reading vacatedFirst a (reads S a ++ reads S b) (omega (arith, first-same))
-      (ap {B = List ℕ} (λ xs. reads S a ++ xs) none ∙ append-nil (reads S a) ∙ sym (first-reading .bytes a ∙ at-there b a [] (reads S) ne))
-
-  joined-reading : SoundNow (joined a b S .tables) → length (notOwn (S .tables) a) ≤ length (freePieces (S .tables)) → Reading vacatedFirst (joined a b S) (reading a (reads S a ++ reads S b) ∷ [])
-  joined-reading h′ r =
-      let T = S .tables in
-      let st = joined-storage a b S in
-      gives-reading vacatedFirst (joined a b S) a _ _ (reads S a ++ reads S b) (joined-gives a b S ne la lb za h r) first-sound h′ (λ u. ap (λ (q : List ℕ). contents q (spans (vacatedFirst .tables) u)) st)
-      (ap (λ (q : List ℕ). contents q (spans T a ++ spans T b)) st ∙ contents-append (S .storage) (spans T a) (spans T b))
-
 -- where neither chain is empty append wants a piece for each that is not own
 wanted-rest : (T : Tables) (a b : ℕ) → (if oneEmpty T a b then 0 else length (notOwn T a)) ≤ length (freePieces T) → (Is (eqb (headOf T a) 0) → ⊥) → (Is (eqb (headOf T b) 0) → ⊥) → length (notOwn T a) ≤ length (freePieces T)
 wanted-rest T a b r na nb =
     omega (arith, if-F (oneEmpty T a b) 0 (length (notOwn T a)) (λ t. ⊎-elim na nb (or-cases (eqb (headOf T a) 0) (eqb (headOf T b) 0) t)))
-
-append-leaves : (a b : ℕ) → Leaving (appendCall a b)
-unfolding appendAfter
-append-leaves a b S h _ al =
-    let T = S .tables in
-    let ((la, za), (lb, zb), ne) = both-named T a b (al .early) in
-    let first = first-reading a b S ne la lb za zb h in
-    let P : State → Type 0 = λ X. SoundNow (X .tables) → Reading S X (reading a (reads S a ++ reads S b) ∷ vacating b ∷ []) in
-    if-either P (eqb (headOf T a) 0) _ _
-    (λ e h′. then-reading first (taker-reading a b S ne la lb za zb h (eqb→eq (headOf T a) 0 e) h′))
-    (λ na. if-either P (eqb (headOf T b) 0) _ _
-    (λ e _. then-reading first (stayer-reading a b S ne la lb za zb h (eqb→eq (headOf T b) 0 e)))
-    (λ nb h′. then-reading first (joined-reading a b S ne la lb za zb h h′ (wanted-rest T a b (al .pieces-room) na nb))))
 
 -- what holds of every branch of two choices by the same tests
 if-three : {A B : Type 0} (P : A → B → Type 0) (b c : Bool) (k m n : A) (x y : B) → P k x → P m x → P n y → P (if b then k else if c then m else n) (if b || c then x else y)
@@ -241,13 +176,74 @@ if-three P true c k m n x y p q r = p
 if-three P false true k m n x y p q r = q
 if-three P false false k m n x y p q r = r
 
--- What is taken: where either chain is empty, and where neither is.
-module _ (a b : ℕ) (S : State) (la : a < slipTotal (S .tables)) (za : 0 < slip (S .tables) a) (lb : b < slipTotal (S .tables)) (zb : 0 < slip (S .tables) b) (ne : a ≢ b) (h : SoundNow (S .tables)) where
-  gone : slip (setSlip (S .tables) b vacant) b ≡ 0
+-- Both slips are held, and b is vacated first.
+module _ (a b : ℕ) (S : State) (la : a < slipTotal (S .tables)) (za : 0 < slip (S .tables) a) (lb : b < slipTotal (S .tables)) (zb : 0 < slip (S .tables) b) (ne : a ≢ b)
+  (h : SoundNow (S .tables)) where
+  abbrev first : State
+  first = withTables S (setSlip (S .tables) b vacant)
+
+  gone : slip (first .tables) b ≡ 0
   gone = getD-set-same (S .tables .slips) b 0 0 lb
 
-  stay : (u : ℕ) → u ≢ b → slip (setSlip (S .tables) b vacant) u ≡ slip (S .tables) u
+  stay : (u : ℕ) → u ≢ b → slip (first .tables) u ≡ slip (S .tables) u
   stay u n = getD-set-other (S .tables .slips) b u 0 0 n
+
+  -- the link that it held is the operation's own then
+  first-sound : SoundWith (headOf (S .tables) b ∷ []) (first .tables)
+  first-sound = (h .0, slip-move {fl = []} b 0 lb (reorder (λ x. omega arith) (h .1)))
+
+  first-reading : Reading S first (vacating b ∷ [])
+  first-reading = gone-reading S first b refl gone stay (λ u _. slip-same (S .tables) b 0 (headOf (S .tables) u)) h first-sound
+
+  -- an empty a takes b's head
+  abbrev taker : Tables
+  taker = setSlip (first .tables) a (slip (S .tables) b)
+
+  taker-mine : slip taker a ≡ slip (S .tables) b
+  taker-mine = getD-set-same (first .tables .slips) a (slip (S .tables) b) 0 (omega (arith, length-set (S .tables .slips) b 0))
+
+  taker-other : (u : ℕ) → u ≢ a → slip taker u ≡ slip (first .tables) u
+  taker-other u n = getD-set-other (first .tables .slips) a u (slip (S .tables) b) 0 n
+
+  taker-same : (n : ℕ) → Same (S .tables) taker n
+  taker-same n = same-trans (slip-same (S .tables) b 0 n) (slip-same (first .tables) a (slip (S .tables) b) n)
+
+  -- ---- what slips read
+
+  -- a reads both where it is empty
+  taker-reading : headOf (S .tables) a ≡ 0 → SoundNow taker → Reading first (withTables S taker) (reading a (reads S a ++ reads S b) ∷ [])
+  unfolding contents
+  taker-reading e h′ =
+      let T = S .tables in
+      let st = S .storage in
+      let T₁ : Tables = first .tables in
+      let none : reads S a ≡ [] = ap (contents st) (empty-spans T a e) in
+      record {
+        bytes = at-by a (reads S a ++ reads S b) (reads first) (reads (withTables S taker))
+            (ap (contents st) (moved-spans a b taker-mine (taker-same (headOf T b)) h h′) ∙ ap {B = List ℕ} (λ xs. xs ++ reads S b) (sym none))
+            (λ u n. ap (contents st) (moved-spans u u (taker-other u n) (slip-same T₁ a (slip T b) (headOf T₁ u)) first-sound h′));
+        vacancy = at-by a false (isVacant T₁) (isVacant taker) (sym (held-false taker a (omega (arith, taker-mine)))) (λ u n. ap (λ v. eqb v 0) (taker-other u n));
+      }
+
+  -- where b is
+  stayer-reading : headOf (S .tables) b ≡ 0 → Reading first first (reading a (reads S a ++ reads S b) ∷ [])
+  unfolding contents
+  stayer-reading e =
+      let none : reads S b ≡ [] = ap (contents (S .storage)) (empty-spans (S .tables) b e) in
+      same-reading first a (reads S a ++ reads S b) (omega (arith, stay a ne))
+      (ap {B = List ℕ} (λ xs. reads S a ++ xs) none ∙ append-nil (reads S a) ∙ sym (first-reading .bytes a ∙ at-there b a [] (reads S) ne))
+
+  -- and where neither is
+  joined-reading : SoundNow (joined a b S .tables) → length (notOwn (S .tables) a) ≤ length (freePieces (S .tables))
+      → Reading first (joined a b S) (reading a (reads S a ++ reads S b) ∷ [])
+  joined-reading h′ r =
+      let T = S .tables in
+      let st = joined-storage a b S in
+      gives-reading first (joined a b S) a _ _ (reads S a ++ reads S b) (joined-gives a b S ne la lb za h r) first-sound h′
+      (λ u. ap (λ (q : List ℕ). contents q (spans (first .tables) u)) st)
+      (ap (λ (q : List ℕ). contents q (spans T a ++ spans T b)) st ∙ contents-append (S .storage) (spans T a) (spans T b))
+
+  -- ---- what is taken
 
   -- a vacant slip is neither
   not-a : (u : ℕ) → slip (S .tables) u ≡ 0 → u ≢ a
@@ -256,29 +252,24 @@ module _ (a b : ℕ) (S : State) (la : a < slipTotal (S .tables)) (za : 0 < slip
   not-b : (u : ℕ) → slip (S .tables) u ≡ 0 → u ≢ b
   not-b u z e = omega (arith, ap (slip (S .tables)) e)
 
-  none-a : SoundNow (setSlip (setSlip (S .tables) b vacant) a (slip (S .tables) b)) → Took (S .tables) (setSlip (setSlip (S .tables) b vacant) a (slip (S .tables) b)) (want 0 0 0) a
+  none-a : SoundNow taker → Took (S .tables) taker (want 0 0 0) a
   none-a h′ =
       let T = S .tables in
-      let T₁ : Tables = setSlip T b vacant in
-      let T′ : Tables = setSlip T₁ a (slip T b) in
-      let other : (u : ℕ) → u ≢ a → slip T′ u ≡ slip T₁ u = λ u n. getD-set-other (T₁ .slips) a u (slip T b) 0 n in
-      let same : (n : ℕ) → Same T T′ n = λ n. same-trans (slip-same T b 0 n) (slip-same T₁ a (slip T b) n) in
-      let mine : slip T′ a ≡ slip T b = getD-set-same (T₁ .slips) a (slip T b) 0 (omega (arith, length-set (T .slips) b 0)) in
-      took-none T T′ a h′
+      took-none T taker a h′
       (λ u. elim (ℕ-discrete u a) [
-        | yes e ↦ old-as T T′ u b h h′ (ap (slip T′) e ∙ mine) (same (headOf T b))
+        | yes e ↦ old-as T taker u b h h′ (ap (slip taker) e ∙ taker-mine) (taker-same (headOf T b))
         | no e ↦
             elim (ℕ-discrete u b) [
-              | yes k ↦ old-none T T′ u h′ (other u e ∙ ap (slip T₁) k ∙ gone)
-              | no k ↦ old-as T T′ u u h h′ (other u e ∙ stay u k) (same (headOf T u))
+              | yes k ↦ old-none T taker u h′ (taker-other u e ∙ ap (slip (first .tables)) k ∙ gone)
+              | no k ↦ old-as T taker u u h h′ (taker-other u e ∙ stay u k) (taker-same (headOf T u))
             ]
       ])
-      (λ u z. other u (not-a u z) ∙ stay u (not-b u z) ∙ z)
+      (λ u z. taker-other u (not-a u z) ∙ stay u (not-b u z) ∙ z)
 
-  none-b : SoundNow (setSlip (S .tables) b vacant) → Took (S .tables) (setSlip (S .tables) b vacant) (want 0 0 0) a
+  none-b : SoundNow (first .tables) → Took (S .tables) (first .tables) (want 0 0 0) a
   none-b h′ =
       let T = S .tables in
-      let T′ : Tables = setSlip T b vacant in
+      let T′ : Tables = first .tables in
       took-none T T′ a h′
       (λ u. elim (ℕ-discrete u b) [ yes e ↦ old-none T T′ u h′ (ap (slip T′) e ∙ gone) | no e ↦ old-as T T′ u u h h′ (stay u e) (slip-same T b 0 (headOf T u)) ])
       (λ u z. stay u (not-b u z) ∙ z)
@@ -286,7 +277,7 @@ module _ (a b : ℕ) (S : State) (la : a < slipTotal (S .tables)) (za : 0 < slip
   joined-takes : SoundNow (joined a b S .tables) → length (notOwn (S .tables) a) ≤ length (freePieces (S .tables)) → Took (S .tables) (joined a b S .tables) (want 0 (length (notOwn (S .tables) a)) 0) a
   joined-takes h′ r =
       let T = S .tables in
-      let T₁ : Tables = setSlip T b vacant in
+      let T₁ : Tables = first .tables in
       let T′ = joined a b S .tables in
       let g = joined-gives a b S ne la lb za h r in
       let own = ownOf T a in
@@ -314,6 +305,19 @@ module _ (a b : ℕ) (S : State) (la : a < slipTotal (S .tables)) (za : 0 < slip
       let T = S .tables in
       if-three (λ (X : State) (k : ℕ). SoundNow (X .tables) → k ≤ length (freePieces T) → Took T (X .tables) (want 0 k 0) a)
       (eqb (headOf T a) 0) (eqb (headOf T b) 0) _ _ _ 0 (length (notOwn T a)) (λ h′ _. none-a h′) (λ h′ _. none-b h′) joined-takes
+
+append-leaves : (a b : ℕ) → Leaving (appendCall a b)
+unfolding appendAfter
+append-leaves a b S h _ al =
+    let T = S .tables in
+    let ((la, za), (lb, zb), ne) = both-named T a b (al .early) in
+    let r = first-reading a b S la za lb zb ne h in
+    let P : State → Type 0 = λ X. SoundNow (X .tables) → Reading S X (reading a (reads S a ++ reads S b) ∷ vacating b ∷ []) in
+    if-either P (eqb (headOf T a) 0) _ _
+    (λ e h′. then-reading r (taker-reading a b S la za lb zb ne h (eqb→eq (headOf T a) 0 e) h′))
+    (λ na. if-either P (eqb (headOf T b) 0) _ _
+    (λ e _. then-reading r (stayer-reading a b S la za lb zb ne h (eqb→eq (headOf T b) 0 e)))
+    (λ nb h′. then-reading r (joined-reading a b S la za lb zb ne h h′ (wanted-rest T a b (al .pieces-room) na nb))))
 
 pub append-lawful : (a b : ℕ) → Lawful (appendCall a b)
 append-lawful a b = record {
