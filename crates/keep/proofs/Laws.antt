@@ -27,9 +27,8 @@ use Rattle.rules.proofs.Build.{Good, OwnList, own-pieces, own-list-still, built
 use Rattle.rules.proofs.Chain.{spans-good, good-drop, built-own}
 use Rattle.rules.proofs.Codes.{first-yes, first-no, first-none}
 use Rattle.rules.proofs.Hang.{own-front, own-short}
-use Rattle.rules.proofs.Keep.{shortened-ok, kept-good}
+use Rattle.rules.proofs.Keep.{shortened-ok, kept-good, kept-storage}
 use Rattle.rules.proofs.Room.{free-pieces}
-use Rattle.rules.proofs.Sizes.{kept-storage}
 use Rattle.layout.specs.declared.Shape.{Shape}
 use Rattle.tables.specs.Shape.{Holds}
 use Rattle.tables.proofs.Laws.{whole, total-pieces}

@@ -1,7 +1,7 @@
 -- What slips read and what of storage stays where slips come to hold others: laws that the calls share. Assumes nothing.
 use mathlib.Core.Path.{_≡_, refl, sym, ap, _∙_}
 use mathlib.Core.Logic.{_≢_, ⊎-elim}
-use mathlib.Core.Bool.{true, false}
+use mathlib.Core.Bool.{true, false, Bool}
 use mathlib.Core.List.{List, [], _∷_, List·Memᴰ, List·Memᴰ·not-nil, List·Memᴰ·cases-cons}
 use Prim.Native.Nat.{ℕ, zero, suc, _*_, _≤_, _<_, pred}
 use native.Mathlib.Decide.{ℕ-discrete}
@@ -16,7 +16,7 @@ use Rattle.rules.specs.Room.{isVacant, isUnheld, freeBuffers, newBuffers
 use Rattle.rules.specs.Build.{laid, stored}
 use Rattle.rules.specs.Rule.{Change, reading, vacating}
 use Rattle.rules.specs.After.{at, changed}
-use Rattle.rules.proofs.Logic.{if-T, if-F, is-true, is-false, eq→eqb}
+use Rattle.rules.proofs.Logic.{if-T, if-F, is-true, is-false, eq→eqb, if-either}
 use Rattle.rules.proofs.Moves.{SoundBy, SoundWith, SoundNow, buffer-pos}
 use Rattle.rules.proofs.Room.{AllIn, new-buffers-in}
 use Rattle.rules.proofs.Chain.{AllUsed, chain-used, spans-good}
@@ -104,7 +104,8 @@ pub gives-reading : {fl : List ℕ} (S S′ : State) (s : ℕ) (l : List ℕ) (x
 gives-reading S S′ s l xs ys g h h′ o e = record {
   bytes = at-by s ys (reads S) (reads S′) (ap (contents (S′ .storage)) (gives-spans g h′) ∙ e)
       (λ u n. ap (contents (S′ .storage)) (moved-spans u u (g .entries u n) (g .others u n) h h′) ∙ o u);
-  vacancy = at-by s false (isVacant (S .tables)) (isVacant (S′ .tables)) (sym (held-false (S′ .tables) s (g .held))) (λ u n. ap (λ v. eqb v 0) (g .entries u n));
+  vacancy = at-by s false (isVacant (S .tables)) (isVacant (S′ .tables)) (sym (held-false (S′ .tables) s (g .held)))
+      (λ u n. ap (λ v. eqb v 0) (g .entries u n));
 }
 
 -- slip s, which is held, reads ys already
@@ -131,10 +132,12 @@ at-under s t x f g e = ap (λ y. if eqb t s then x else y) e
 
 -- a change after others counts before them
 pub then-reading : {S S₁ S′ : State} {c : Change} {cs : List Change} → Reading S S₁ cs → Reading S₁ S′ (c ∷ []) → Reading S S′ (c ∷ cs)
-then-reading {S} {S₁} {c = c} {cs = cs} r q = record {
-  bytes = λ t. q .bytes t ∙ at-under (c .slip) t (c .bytes) (reads S₁) (changed (λ (x : Change). x .bytes) cs (reads S)) (r .bytes t);
-  vacancy = λ t. q .vacancy t ∙ at-under (c .slip) t (c .vacated) (isVacant (S₁ .tables)) (changed (λ (x : Change). x .vacated) cs (isVacant (S .tables))) (r .vacancy t);
-}
+then-reading {S} {S₁} {c = c} {cs = cs} r q =
+    let was = isVacant (S .tables) in
+    record {
+      bytes = λ t. q .bytes t ∙ at-under (c .slip) t (c .bytes) (reads S₁) (changed (λ (x : Change). x .bytes) cs (reads S)) (r .bytes t);
+      vacancy = λ t. q .vacancy t ∙ at-under (c .slip) t (c .vacated) (isVacant (S₁ .tables)) (changed (λ (x : Change). x .vacated) cs was) (r .vacancy t);
+    }
 
 -- ---- what of storage stays
 
@@ -152,7 +155,8 @@ pub stays-as : (S S′ : State) → S′ .storage ≡ S .storage → StorageStay
 stays-as S S′ e = record { as-long = ap length e; held = λ b _ _. ap (λ (q : List ℕ). bytesOf q (wholeOf b)) e }
 
 -- new buffers are written
-pub stays-new : (S S′ : State) (k : ℕ) (xs : List ℕ) → Fit (bufferTotal (S .tables)) (S .storage) → S′ .storage ≡ stored (S .storage) (newBuffers (S .tables) k) xs → StorageStays S S′
+pub stays-new : (S S′ : State) (k : ℕ) (xs : List ℕ) → Fit (bufferTotal (S .tables)) (S .storage)
+    → S′ .storage ≡ stored (S .storage) (newBuffers (S .tables) k) xs → StorageStays S S′
 stays-new S S′ k xs f e =
     let T = S .tables in
     let B = bufferTotal T in
@@ -160,5 +164,10 @@ stays-new S S′ k xs f e =
     let a = new-buffers-in T k in
     record {
       as-long = ap length e ∙ new-length S k xs f;
-      held = λ b l h. ap (λ (q : List ℕ). bytesOf q (wholeOf b)) e ∙ stored-other (isUnheld T) 0 B bs (S .storage) xs (wholeOf b) a f l (omega arith) (not-free T 0 B b bs a h);
+      held = λ b l h. ap (λ (q : List ℕ). bytesOf q (wholeOf b)) e
+          ∙ stored-other (isUnheld T) 0 B bs (S .storage) xs (wholeOf b) a f l (omega arith) (not-free T 0 B b bs a h);
     }
+
+-- where nothing may change
+pub maybe-stays : (S X : State) (b : Bool) → StorageStays S X → StorageStays S (if b then S else X)
+maybe-stays S X b h = if-either (StorageStays S) b S X (λ _. stays-as S S refl) (λ _. h)

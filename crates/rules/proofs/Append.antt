@@ -1,8 +1,8 @@
 -- append: soundness is kept, what its slip then holds, and that it is lawful. Assumes nothing.
 use mathlib.Core.Path.{_≡_, refl, sym, ap, subst, _∙_}
 use mathlib.Core.Logic.{_≢_, inl, inr, ⊎-elim}
-use mathlib.Core.List.{List, [], _∷_, _++_, append-assoc, append-nil, map-append}
 use mathlib.Core.Bool.{Bool, false, true, _||_}
+use mathlib.Core.List.{List, [], _∷_, _++_, append-assoc, append-nil, map-append}
 use Prim.Native.Nat.{ℕ, _<_, pred, _≤_}
 use native.Mathlib.Omega.{arith}
 use native.Mathlib.Decide.{ℕ-discrete}
@@ -177,8 +177,8 @@ if-three P false true k m n x y p q r = q
 if-three P false false k m n x y p q r = r
 
 -- Both slips are held, and b is vacated first.
-module _ (a b : ℕ) (S : State) (la : a < slipTotal (S .tables)) (za : 0 < slip (S .tables) a) (lb : b < slipTotal (S .tables)) (zb : 0 < slip (S .tables) b) (ne : a ≢ b)
-  (h : SoundNow (S .tables)) where
+module _ (a b : ℕ) (S : State) (la : a < slipTotal (S .tables)) (za : 0 < slip (S .tables) a) (lb : b < slipTotal (S .tables)) (zb : 0 < slip (S .tables) b)
+    (ne : a ≢ b) (h : SoundNow (S .tables)) where
   abbrev first : State
   first = withTables S (setSlip (S .tables) b vacant)
 
@@ -222,7 +222,8 @@ module _ (a b : ℕ) (S : State) (la : a < slipTotal (S .tables)) (za : 0 < slip
         bytes = at-by a (reads S a ++ reads S b) (reads first) (reads (withTables S taker))
             (ap (contents st) (moved-spans a b taker-mine (taker-same (headOf T b)) h h′) ∙ ap {B = List ℕ} (λ xs. xs ++ reads S b) (sym none))
             (λ u n. ap (contents st) (moved-spans u u (taker-other u n) (slip-same T₁ a (slip T b) (headOf T₁ u)) first-sound h′));
-        vacancy = at-by a false (isVacant T₁) (isVacant taker) (sym (held-false taker a (omega (arith, taker-mine)))) (λ u n. ap (λ v. eqb v 0) (taker-other u n));
+        vacancy = at-by a false (isVacant T₁) (isVacant taker) (sym (held-false taker a (omega (arith, taker-mine))))
+            (λ u n. ap (λ v. eqb v 0) (taker-other u n));
       }
 
   -- where b is

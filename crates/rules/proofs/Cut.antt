@@ -1,7 +1,7 @@
 -- cut: soundness is kept, what its slip then holds, how many bytes, and that it is lawful. Assumes nothing.
 use mathlib.Core.Path.{_≡_, refl}
-use mathlib.Core.List.{[], append-nil}
 use mathlib.Core.Logic.{inr}
+use mathlib.Core.List.{[], append-nil}
 use Prim.Native.Nat.{ℕ, _<_, _≤_}
 use native.Mathlib.Omega.{arith}
 use lib.ListN.{length, take, drop, length-take, length-drop}

@@ -1,8 +1,8 @@
 -- drop: soundness is kept, what its slip then holds, and that it is lawful. Assumes nothing.
 use mathlib.Core.Path.{_≡_, refl, sym, ap, subst, subst₂, _∙_}
+use mathlib.Core.Logic.{_≢_, inl}
 use mathlib.Core.Bool.{Bool, true, _&&_}
 use mathlib.Core.List.{List, [], _∷_, _++_, List·Memᴰ}
-use mathlib.Core.Logic.{_≢_, inl}
 use Prim.Native.Nat.{ℕ, zero, suc, _+_, _-_, _<_, _≤_, pred}
 use native.Mathlib.Nat.{suc-inj}
 use native.Mathlib.Decide.{decLe}
@@ -30,8 +30,8 @@ use Rattle.rules.proofs.Meets.{Meets, stop, go, chain-meets, meets-low,
 use Rattle.rules.proofs.Hang.{Gives, gives-as, old-gives}
 use Rattle.rules.proofs.Contents.{dropOut, dropOut-contents}
 use Rattle.rules.proofs.Codes.{first-named}
-use Rattle.rules.proofs.Sizes.{Sizes, old-sizes, old-storage, piece-set, shared-sizes, then-sizes, same-sizes}
-use Rattle.rules.proofs.After.{Reading, StorageStays, gives-reading, same-reading, stays-as}
+use Rattle.rules.proofs.Sizes.{Sizes, old-sizes, old-storage, piece-set, shared-sizes, then-sizes, same-sizes, maybe-sizes}
+use Rattle.rules.proofs.After.{Reading, gives-reading, same-reading, stays-as, maybe-stays}
 use Rattle.rules.proofs.Takes.{buffersOf, dropOut-none, new-front, nothing-taken, roomy, spans-none, took-held}
 use Rattle.rules.proofs.Lawful.{Lawful, Leaving, Taking}
 
@@ -203,7 +203,8 @@ here-sizes : (T : Tables) (own : Bool) (d n : ℕ) → Sizes T (dropHere T own d
 unfolding dropHere
 here-sizes T own d zero = shared-sizes T (suc d)
 here-sizes T own d (suc r) =
-    if-either (λ (p : Plan). Sizes T (p .base)) own _ _ (λ _. then-sizes (shared-sizes T (suc d)) (piece-set (shared T (suc d)) d _)) (λ _. shared-sizes T (piece T d .next))
+    if-either (λ (p : Plan). Sizes T (p .base)) own _ _
+    (λ _. then-sizes (shared-sizes T (suc d)) (piece-set (shared T (suc d)) d _)) (λ _. shared-sizes T (piece T d .next))
 
 pub plan-sizes : (T : Tables) (own : Bool) (ds : List ℕ) (n : ℕ) → Sizes T (dropPlan T own ds n .base)
 unfolding dropPlan
@@ -241,12 +242,8 @@ pub drop-lawful : (s n : ℕ) → Lawful (dropCall s n)
 unfolding dropAfter
 drop-lawful s n = record {
   codes = λ S. omega arith;
-  sizes = λ S. (
-    let T = S .tables in
-    if-either (λ (X : State). Sizes T (X .tables)) (eqb n 0) _ _ (λ _. same-sizes T) (λ _. old-sizes S (dropped T s n) (freePieces T) s (plan-sizes T true (chain T s) n)));
-  stays = λ S _. (
-    let T = S .tables in
-    if-either (StorageStays S) (eqb n 0) _ _ (λ _. stays-as S S refl) (λ _. stays-as S _ (old-storage S (dropped T s n) (freePieces T) s)));
+  sizes = λ S. (let T = S .tables in maybe-sizes S _ (eqb n 0) (old-sizes S (dropped T s n) (freePieces T) s (plan-sizes T true (chain T s) n)));
+  stays = λ S _. (let T = S .tables in maybe-stays S _ (eqb n 0) (stays-as S _ (old-storage S (dropped T s n) (freePieces T) s)));
   sound = λ S h a. drop-sound s n S (first-named (S .tables) s _ (a .early) .0) h;
   known = λ S _. (inl refl, tt);
   leaves = drop-leaves s n;

@@ -1,7 +1,7 @@
 -- dup: soundness is kept, what its slip then holds, and that it is lawful. Assumes nothing.
 use mathlib.Core.Path.{_≡_, refl, ap}
-use mathlib.Core.List.{[], _∷_, List, _++_}
 use mathlib.Core.Logic.{inr}
+use mathlib.Core.List.{[], _∷_, List, _++_}
 use Prim.Native.Nat.{ℕ, zero, suc, _<_, _≤_}
 use native.Mathlib.Omega.{arith}
 use lib.ListN.{length, take, drop}
@@ -73,7 +73,9 @@ dup-sizes T (suc d) = shared-sizes T (piece T d .next)
 
 dup-leaves : (s : ℕ) → Leaving (dupCall s)
 unfolding dupAfter
-dup-leaves s S h _ a h′ = gives-reading S (dupAfter s S) (newSlip (S .tables)) _ (spans (S .tables) s) (reads S s) (dup-gives s S h (a .slips-room) (a .pieces-room)) h h′ (λ u. refl) refl
+dup-leaves s S h _ a h′ =
+    let T = S .tables in
+    gives-reading S (dupAfter s S) (newSlip T) _ (spans T s) (reads S s) (dup-gives s S h (a .slips-room) (a .pieces-room)) h h′ (λ u. refl) refl
 
 dup-takes : (s : ℕ) → Taking (dupCall s)
 dup-takes s S h a h′ =

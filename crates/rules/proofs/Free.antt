@@ -1,7 +1,7 @@
 -- free: soundness is kept, and that it is lawful. Assumes nothing.
-use mathlib.Core.List.{[], _∷_}
 use mathlib.Core.Path.{_∙_, ap, refl}
 use mathlib.Core.Logic.{inl}
+use mathlib.Core.List.{[], _∷_}
 use Prim.Native.Nat.{ℕ, _<_, pred}
 use native.Mathlib.Omega.{arith}
 use native.Mathlib.Decide.{ℕ-discrete}
@@ -24,13 +24,15 @@ free-sound s S l (rank, h) = turned-sound S s _ l (rank, reorder (λ d. omega ar
 
 -- ---- free is lawful
 
-free-leaves : (s : ℕ) (S : State) → s < slipTotal (S .tables) → SoundNow (S .tables) → SoundNow (freeAfter s S .tables) → Reading S (freeAfter s S) (vacating s ∷ [])
+free-leaves : (s : ℕ) (S : State) → s < slipTotal (S .tables) → SoundNow (S .tables) → SoundNow (freeAfter s S .tables)
+    → Reading S (freeAfter s S) (vacating s ∷ [])
 free-leaves s S b h h′ =
     let k : SoundWith (pred 0 ∷ []) (S .tables) = (h .0, reorder (λ d. omega arith) (h .1)) in
     gone-reading S (freeAfter s S) s (turned-storage S s 0) (turned-entry S s 0 b k) (turned-entries S s 0 b k) (turned-others S s 0 b k) h h′
 
 -- it takes nothing
-free-takes : (s : ℕ) (S : State) → s < slipTotal (S .tables) → SoundNow (S .tables) → SoundNow (freeAfter s S .tables) → Took (S .tables) (freeAfter s S .tables) (want 0 0 0) s
+free-takes : (s : ℕ) (S : State) → s < slipTotal (S .tables) → SoundNow (S .tables) → SoundNow (freeAfter s S .tables)
+    → Took (S .tables) (freeAfter s S .tables) (want 0 0 0) s
 free-takes s S b h h′ =
     let T = S .tables in
     let T′ = freeAfter s S .tables in

@@ -1,12 +1,12 @@
 -- keep: soundness is kept, what its slip then holds, and that it is lawful. Assumes nothing.
 use mathlib.Core.Path.{_≡_, refl, sym, ap, subst, _∙_}
-use mathlib.Core.List.{List, [], _∷_, _++_, append-nil}
 use mathlib.Core.Logic.{_≢_, inl}
+use mathlib.Core.List.{List, [], _∷_, _++_, append-nil}
 use Prim.Native.Nat.{ℕ, zero, suc, _+_, _≤_, _<_, pred, _-_, min}
 use native.Mathlib.Omega.{arith}
 use lib.ListN.{length, getD, drop, take, take-append-drop, length-drop}
-use lib.Dec.{eqb, leb, leb→le, eqb→eq}
 use lib.Seq.{getD-set-same, getD-set-other, take-all}
+use lib.Dec.{eqb, leb, leb→le, eqb→eq}
 use Rattle.rules.specs.Basics.{lastOf}
 use Rattle.rules.specs.Tables.{Piece, Tables, blank, piece, headOf, slipTotal, bufferTotal, setPiece, withPlace, slip, setSlip, pieceTotal}
 use Rattle.rules.specs.Chain.{State, Stretch, spans, lengthOf, stretch, stretches, cutOut, withTables, contents, reads}
@@ -25,8 +25,8 @@ use Rattle.rules.proofs.Meets.{stop, alike, agree-but, agree-stretches,
 use Rattle.rules.proofs.Hang.{Gives, gives-as, gives-from, behind-gives, Run, run-low, own-run, own-short, Ones, ones-used, own-ones, run-still, own-front}
 use Rattle.rules.proofs.Contents.{cutOut-contents}
 use Rattle.rules.proofs.Codes.{first-named}
-use Rattle.rules.proofs.Sizes.{Sizes, behind-sizes, behind-storage, built-sizes, piece-set, same-sizes, then-sizes}
-use Rattle.rules.proofs.After.{StorageStays, Reading, gives-reading, reads-length, same-reading, stays-as}
+use Rattle.rules.proofs.Sizes.{Sizes, behind-sizes, behind-storage, built-sizes, piece-set, same-sizes, then-sizes, maybe-sizes}
+use Rattle.rules.proofs.After.{Reading, gives-reading, reads-length, same-reading, stays-as, maybe-stays}
 use Rattle.rules.proofs.Takes.{Roomy, buffersOf, cutOut-none, new-pass, nothing-taken, roomy, spans-none, took-held, used-none}
 use Rattle.rules.proofs.Lawful.{Lawful, Leaving, Taking}
 
@@ -319,12 +319,8 @@ pub keep-lawful : (s n : ℕ) → Lawful (keepCall s n)
 unfolding keepAfter
 keep-lawful s n = record {
   codes = λ S. omega arith;
-  sizes = λ S. (
-    let T = S .tables in
-    if-either (λ (X : State). Sizes T (X .tables)) (eqb n (lengthOf T s)) _ _ (λ _. same-sizes T) (λ _. kept-sizes S s (keptOwn T s n) (kept T s n) (keptNotOwn T s n)));
-  stays = λ S _. (
-    let T = S .tables in
-    if-either (StorageStays S) (eqb n (lengthOf T s)) _ _ (λ _. stays-as S S refl) (λ _. stays-as S _ (kept-storage S s (keptOwn T s n) (kept T s n) (keptNotOwn T s n))));
+  sizes = λ S. (let T = S .tables in maybe-sizes S _ (eqb n (lengthOf T s)) (kept-sizes S s (keptOwn T s n) (kept T s n) (keptNotOwn T s n)));
+  stays = λ S _. (let T = S .tables in maybe-stays S _ (eqb n (lengthOf T s)) (stays-as S _ (kept-storage S s (keptOwn T s n) (kept T s n) (keptNotOwn T s n))));
   sound = λ S h a. keep-sound s n S (first-named (S .tables) s _ (a .early) .0) h;
   known = λ S _. (inl refl, tt);
   leaves = keep-leaves s n;

@@ -1,12 +1,12 @@
 -- What is proved of every call: one record for each. Assumes nothing.
-use mathlib.Core.List.{List, [], _∷_}
 use mathlib.Core.Path.{_∙_, _≡_, ap, refl, subst, subst₂, sym}
 use mathlib.Core.Logic.{_⊎_, ⊎-elim}
 use mathlib.Core.Bool.{not}
+use mathlib.Core.List.{List, [], _∷_}
 use Prim.Native.Nat.{_<_, ℕ}
 use native.Mathlib.Omega.{arith}
-use lib.Dec.{T-not}
 use lib.ListN.{length}
+use lib.Dec.{T-not}
 use Rattle.rules.specs.Basics.{Is}
 use Rattle.rules.specs.Tables.{Tables, bufferTotal, slip}
 use Rattle.rules.specs.Chain.{State}
@@ -56,8 +56,8 @@ pub new-vacant : (T : Tables) → 0 < length (vacantSlips T) → Is (isVacant T 
 new-vacant T h = eq→eqb (slip T (newSlip T)) 0 (new-slip-ok T h .1)
 
 -- what a held slip that is not named has, stays
-pub others-stay : {A : Type 0} (g : Change → A) (f : ℕ → A) (T : Tables) (ns : List ℕ) (cs : List Change) (t : ℕ) → Known T ns cs → (Among ns t → ⊥) → Is (not (isVacant T t))
-    → changed g cs f t ≡ f t
+pub others-stay : {A : Type 0} (g : Change → A) (f : ℕ → A) (T : Tables) (ns : List ℕ) (cs : List Change) (t : ℕ)
+    → Known T ns cs → (Among ns t → ⊥) → Is (not (isVacant T t)) → changed g cs f t ≡ f t
 others-stay g f T ns [] t k n v = refl
 others-stay g f T ns (c ∷ cs) t k n v =
     at-there (c .slip) t (g c) (changed g cs f)

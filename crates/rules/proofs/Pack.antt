@@ -1,7 +1,7 @@
 -- pack: soundness is kept, what its slip then holds, and that it is lawful. Assumes nothing.
-use mathlib.Core.List.{[], append-nil, _∷_, List}
 use mathlib.Core.Path.{ap, _∙_, refl, sym}
 use mathlib.Core.Logic.{inl}
+use mathlib.Core.List.{[], append-nil, _∷_, List}
 use Prim.Native.Nat.{ℕ, _<_, _≤_}
 use native.Mathlib.Omega.{arith}
 use lib.ListN.{length, take}
@@ -20,8 +20,8 @@ use Rattle.rules.proofs.Room.{free-pieces}
 use Rattle.rules.proofs.Meets.{stop, same-refl}
 use Rattle.rules.proofs.Hang.{Gives, gives-as, old-gives}
 use Rattle.rules.proofs.Codes.{first-named}
-use Rattle.rules.proofs.Sizes.{Sizes, old-sizes, old-storage, same-sizes}
-use Rattle.rules.proofs.After.{Reading, StorageStays, gives-reading, new-here, new-others, reads-length, same-reading, stays-as, stays-new}
+use Rattle.rules.proofs.Sizes.{old-sizes, old-storage, same-sizes, maybe-sizes}
+use Rattle.rules.proofs.After.{Reading, gives-reading, new-here, new-others, reads-length, same-reading, stays-new, maybe-stays}
 use Rattle.rules.proofs.Takes.{Roomy, new-laid, new-pass, nothing-taken, roomy, took-held}
 use Rattle.rules.proofs.Lawful.{Lawful, Leaving, Taking}
 use Rattle.rules.proofs.Put.{new-good, new-count}
@@ -87,14 +87,14 @@ pub pack-lawful : (s : ℕ) → Lawful (packCall s)
 unfolding packAfter
 pack-lawful s = record {
   codes = λ S. omega arith;
-  sizes = λ S. (
-    let T = S .tables in
-    if-either (λ (X : State). Sizes T (X .tables)) (leb (length (chain T s)) 1) _ _ (λ _. same-sizes T) (λ _. old-sizes _ (plain T _) (freePieces T) s (same-sizes T)));
+  sizes = λ S. (let T = S .tables in maybe-sizes S _ (leb (length (chain T s)) 1) (old-sizes _ (plain T _) (freePieces T) s (same-sizes T)));
   stays = λ S f. (
-    let T = S .tables in
-    let k = buffersFor (lengthOf T s) in
-    if-either (StorageStays S) (leb (length (chain T s)) 1) _ _ (λ _. stays-as S S refl)
-    (λ _. stays-new S _ k (reads S s) f (old-storage (withStorage S (stored (S .storage) (newBuffers T k) (reads S s))) (plain T (laid (newBuffers T k) (lengthOf T s))) (freePieces T) s)));
+      let T = S .tables in
+      let n = lengthOf T s in
+      let k = buffersFor n in
+      let bs = newBuffers T k in
+      let S₁ = withStorage S (stored (S .storage) bs (reads S s)) in
+      maybe-stays S _ (leb (length (chain T s)) 1) (stays-new S _ k (reads S s) f (old-storage S₁ (plain T (laid bs n)) (freePieces T) s)));
   sound = λ S h a. pack-sound s S (first-named (S .tables) s _ (a .early) .0) h;
   known = λ S _. (inl refl, tt);
   leaves = pack-leaves s;

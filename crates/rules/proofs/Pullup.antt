@@ -1,8 +1,8 @@
 -- pullup: soundness is kept, what its slip then holds, and that it is lawful. Assumes nothing.
-use mathlib.Core.List.{List, _++_, append-assoc, [], _∷_, map-append}
 use mathlib.Core.Path.{_≡_, refl, ap, _∙_, sym}
 use mathlib.Core.Logic.{inl}
 use mathlib.Core.Bool.{true}
+use mathlib.Core.List.{List, _++_, append-assoc, [], _∷_, map-append}
 use Prim.Native.Nat.{ℕ, _+_, _≤_, _<_, _-_, suc}
 use native.Mathlib.Omega.{arith}
 use lib.ListN.{length, length-take, take, length-append, drop, take-append-drop}
@@ -24,8 +24,8 @@ use Rattle.rules.proofs.Chain.{laid-good, good-append, spans-good}
 use Rattle.rules.proofs.Hang.{Gives, gives-as, old-gives}
 use Rattle.rules.proofs.Contents.{stored-others, dropOut, Off, contents-append, dropOut-contents}
 use Rattle.rules.proofs.Codes.{first-named, no-cause}
-use Rattle.rules.proofs.Sizes.{Sizes, old-sizes, old-storage, same-sizes}
-use Rattle.rules.proofs.After.{Reading, StorageStays, gives-reading, new-here, new-others, reads-length, same-reading, spans-off, stays-as, stays-new}
+use Rattle.rules.proofs.Sizes.{old-sizes, old-storage, maybe-sizes}
+use Rattle.rules.proofs.After.{Reading, gives-reading, new-here, new-others, reads-length, same-reading, spans-off, stays-new, maybe-stays}
 use Rattle.rules.proofs.Takes.{Roomy, buffersOf, dropOut-none, new-front, new-laid, nothing-taken, roomy, spans-none, took-held}
 use Rattle.rules.proofs.Lawful.{Lawful, Leaving, Taking}
 use Rattle.rules.proofs.Put.{new-count}
@@ -77,7 +77,6 @@ good-dropOut B (x ∷ xs) n g =
     if-either (Good B) (leb (x .len) n) _ _ (λ _. good-dropOut B xs (n - x .len) (g .3))
     (λ t. (let k = not-most (x .len) n t in (g .0, omega arith, omega (arith, g .2), g .3)))
 
-
 pullup-leaves : (s n : ℕ) → Leaving (pullupCall s n)
 unfolding pullupAfter pullupWants
 pullup-leaves s n S h f al =
@@ -99,9 +98,11 @@ pullup-leaves s n S h f al =
     let rst : contents (S₁ .storage) (dropOut (spans T s) n) ≡ drop n (reads S s) =
     stored-others (isUnheld T) 0 (bufferTotal T) bs (S .storage) front (dropOut (spans T s) n) (new-buffers-in T 1) f (good-dropOut (bufferTotal T) (spans T s) n (spans-good T s h)) (off-drop bs (spans T s) n (spans-off T 1 s h))
     ∙ dropOut-contents (bufferTotal T) (S .storage) (spans T s) n f (spans-good T s h) in
-    gives-reading S _ s _ _ (reads S s) (pullup-gives s n S S₁ b h (omega (arith, not-most n (firstLength (spans T s)) ne)) (omega (arith, pulled-count T s n rb))) h h′
+    let g = pullup-gives s n S S₁ b h (omega (arith, not-most n (firstLength (spans T s)) ne)) (omega (arith, pulled-count T s n rb)) in
+    gives-reading S _ s _ _ (reads S s) g h h′
     (λ u. ap (λ (q : List ℕ). contents q (spans T u)) st ∙ new-others S h f 1 front u)
-    (ap (λ (q : List ℕ). contents q (laid bs n ++ dropOut (spans T s) n)) st ∙ contents-append (S₁ .storage) (laid bs n) (dropOut (spans T s) n) ∙ (λ j. fst j ++ rst j) ∙ take-append-drop n (reads S s))))
+    (ap (λ (q : List ℕ). contents q (laid bs n ++ dropOut (spans T s) n)) st ∙ contents-append (S₁ .storage) (laid bs n) (dropOut (spans T s) n)
+    ∙ (λ j. fst j ++ rst j) ∙ take-append-drop n (reads S s))))
 
 pullup-takes : (s n : ℕ) → Taking (pullupCall s n)
 unfolding pullupAfter pullupWants
@@ -127,12 +128,12 @@ unfolding pullupAfter
 pullup-lawful s n = record {
   codes = λ S. omega arith;
   sizes = λ S. (
-    let T = S .tables in
-    if-either (λ (X : State). Sizes T (X .tables)) (leb n (firstLength (spans T s))) _ _ (λ _. same-sizes T) (λ _. old-sizes _ (pulled T s n) (freePieces T) s (plan-sizes T true (chain T s) n)));
+      let T = S .tables in
+      maybe-sizes S _ (leb n (firstLength (spans T s))) (old-sizes _ (pulled T s n) (freePieces T) s (plan-sizes T true (chain T s) n)));
   stays = λ S f. (
-    let T = S .tables in
-    if-either (StorageStays S) (leb n (firstLength (spans T s))) _ _ (λ _. stays-as S S refl)
-    (λ _. stays-new S _ 1 (take n (reads S s)) f (old-storage (withStorage S (stored (S .storage) (newBuffers T 1) (take n (reads S s)))) (pulled T s n) (freePieces T) s)));
+      let T = S .tables in
+      let S₁ = withStorage S (stored (S .storage) (newBuffers T 1) (take n (reads S s))) in
+      maybe-stays S _ (leb n (firstLength (spans T s))) (stays-new S _ 1 (take n (reads S s)) f (old-storage S₁ (pulled T s n) (freePieces T) s)));
   sound = λ S h a. pullup-sound s n S (first-named (S .tables) s _ (a .early) .0) h;
   known = λ S _. (inl refl, tt);
   leaves = pullup-leaves s n;

@@ -1,7 +1,7 @@
 -- put: soundness is kept, what its slip then holds, and that it is lawful. Assumes nothing.
-use mathlib.Core.List.{List, [], append-nil}
 use mathlib.Core.Path.{_≡_, ap, _∙_, refl}
 use mathlib.Core.Logic.{inr}
+use mathlib.Core.List.{List, [], append-nil}
 use Prim.Native.Nat.{ℕ, _≤_, _<_}
 use native.Mathlib.Omega.{arith}
 use lib.ListN.{length, length-take, take}
@@ -64,7 +64,8 @@ put-takes : (input : List ℕ) → Taking (putCall input)
 put-takes input S h a h′ =
     let T = S .tables in
     let k = buffersFor (length input) in
-    took-new T _ _ _ h h′ (put-gives input S h (a .slips-room) (a .pieces-room) (a .buffers-room)) k k (roomy a) (new-pass (isFree T) (pieceTotal T) k) (new-laid T k (length input))
+    took-new T _ _ _ h h′ (put-gives input S h (a .slips-room) (a .pieces-room) (a .buffers-room)) k k (roomy a)
+    (new-pass (isFree T) (pieceTotal T) k) (new-laid T k (length input))
 
 pub put-lawful : (input : List ℕ) → Lawful (putCall input)
 unfolding putAfter

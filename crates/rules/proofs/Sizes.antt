@@ -1,9 +1,10 @@
 -- The steps that the operations share leave the tables and storage as long as they were. Assumes nothing.
 use mathlib.Core.Path.{_≡_, refl, ap, _∙_}
+use mathlib.Core.Bool.{Bool}
 use mathlib.Core.List.{List, [], _∷_}
 use Prim.Native.Nat.{ℕ, zero, suc}
 use lib.ListN.{length, length-set}
-use Rattle.rules.specs.Basics.{lastOf}
+use Rattle.rules.specs.Basics.{lastOf, if_then_else_}
 use Rattle.rules.specs.Layout.{storageLength}
 use Rattle.rules.specs.Tables.{Piece, Tables, blank, piece, headOf, holding, bufferTotal, pieceTotal, setSlip, setPiece, setPieceCount}
 use Rattle.rules.specs.Chain.{State, Stretch, withTables}
@@ -27,7 +28,15 @@ pub same-sizes : (T : Tables) → Sizes T T
 same-sizes T = record { slips-size = refl; pieces-size = refl; counts-size = refl }
 
 pub then-sizes : {A B C : Tables} → Sizes A B → Sizes B C → Sizes A C
-then-sizes s t = record { slips-size = t .slips-size ∙ s .slips-size; pieces-size = t .pieces-size ∙ s .pieces-size; counts-size = t .counts-size ∙ s .counts-size }
+then-sizes s t = record {
+  slips-size = t .slips-size ∙ s .slips-size;
+  pieces-size = t .pieces-size ∙ s .pieces-size;
+  counts-size = t .counts-size ∙ s .counts-size;
+}
+
+-- where nothing may change
+pub maybe-sizes : (S X : State) (b : Bool) → Sizes (S .tables) (X .tables) → Sizes (S .tables) ((if b then S else X) .tables)
+maybe-sizes S X b h = if-either (λ (Y : State). Sizes (S .tables) (Y .tables)) b S X (λ _. same-sizes (S .tables)) (λ _. h)
 
 -- the stores
 
@@ -71,7 +80,8 @@ new-sizes p fs t h = then-sizes h (then-sizes (built-sizes (p .base) fs (p .more
 
 pub old-sizes : {T : Tables} (S : State) (p : Plan) (fs : List ℕ) (s : ℕ) → Sizes T (p .base) → Sizes T (underOld S p fs s .tables)
 unfolding underOld
-old-sizes S p fs s h = then-sizes h (then-sizes (built-sizes (p .base) fs (p .more) (p .tail)) (turned-sizes (withTables S (made p fs)) s (holding (madeLink p fs))))
+old-sizes S p fs s h =
+    then-sizes h (then-sizes (built-sizes (p .base) fs (p .more) (p .tail)) (turned-sizes (withTables S (made p fs)) s (holding (madeLink p fs))))
 
 pub behind-sizes : (S : State) (s : ℕ) (own : List ℕ) (n : ℕ) → Sizes (S .tables) (behindOwn S s own n .tables)
 unfolding behindOwn relinked
