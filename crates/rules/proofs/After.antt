@@ -35,7 +35,7 @@ pub at-there : {A : Type 0} (s t : ℕ) (x : A) (f : ℕ → A) → t ≢ s → 
 at-there s t x f n = if-F (eqb t s) x (f t) (λ e. n (eqb→eq t s e))
 
 -- the value of f itself changes nothing
-pub at-same : {A : Type 0} (s t : ℕ) (x : A) (f : ℕ → A) → x ≡ f s → at s x f t ≡ f t
+at-same : {A : Type 0} (s t : ℕ) (x : A) (f : ℕ → A) → x ≡ f s → at s x f t ≡ f t
 at-same s t x f e = elim (ℕ-discrete t s) [ yes q ↦ at-here s t x f q ∙ e ∙ ap f (sym q) | no q ↦ at-there s t x f q ]
 
 -- what holds at s and everywhere else
@@ -59,7 +59,7 @@ held-false T s h = sym (is-false (isVacant T s) (λ z. (let q = eqb→eq (slip T
 
 -- ---- new buffers
 
-pub not-free : (T : Tables) (i n b : ℕ) (bs : List ℕ) → AllIn (isUnheld T) i n bs → 0 < bufferCount T b → List·Memᴰ b bs → ⊥
+not-free : (T : Tables) (i n b : ℕ) (bs : List ℕ) → AllIn (isUnheld T) i n bs → 0 < bufferCount T b → List·Memᴰ b bs → ⊥
 not-free T i n b [] a h m = List·Memᴰ·not-nil m
 not-free T i n b (x ∷ bs) a h m =
     ⊎-elim (λ e. (let q = eqb→eq (bufferCount T x) 0 (a .2) in let w = ap (bufferCount T) e in omega arith)) (not-free T (suc x) n b bs (a .3) h) (List·Memᴰ·cases-cons m)

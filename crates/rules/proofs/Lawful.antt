@@ -29,7 +29,7 @@ abbrev pub Known : Tables → List ℕ → List Change → Type 0
 Known T ns [] = Unit {0}
 Known T ns (c ∷ cs) = (Among ns (c .slip) ⊎ Is (isVacant T (c .slip))) × Known T ns cs
 
--- Once it is done, the slips that it changes are left as it says; and what it wants is what it takes.
+-- Once it is done and has left sound tables, the slips that it changes are as it says; and what it wants is what it takes.
 abbrev pub Leaving : Meaning → Type 0
 Leaving m = (S : State) → SoundNow (S .tables) → Fit (bufferTotal (S .tables)) (S .storage) → Allowed (m .rule S) (S .tables)
     → SoundNow (m .rule S .after .tables) → Reading S (m .rule S .after) (m .changes S)

@@ -46,7 +46,7 @@ slip-set T s v = record { slips-size = length-set (T .slips) s v; pieces-size = 
 pub piece-set : (T : Tables) (d : ℕ) (p : Piece) → Sizes T (setPiece T d p)
 piece-set T d p = record { slips-size = refl; pieces-size = length-set (T .pieces) d p; counts-size = refl }
 
-pub both-set : (T : Tables) (d : ℕ) (p : Piece) (b n : ℕ) → Sizes T (setPieceCount T d p b n)
+both-set : (T : Tables) (d : ℕ) (p : Piece) (b n : ℕ) → Sizes T (setPieceCount T d p b n)
 both-set T d p b n = record { slips-size = refl; pieces-size = length-set (T .pieces) d p; counts-size = length-set (T .counts) b n }
 
 -- the steps that the operations share
