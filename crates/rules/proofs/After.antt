@@ -59,6 +59,7 @@ held-false T s h = sym (is-false (isVacant T s) (λ z. (let q = eqb→eq (slip T
 
 -- ---- new buffers
 
+-- a buffer that is held is not new
 not-free : (T : Tables) (i n b : ℕ) (bs : List ℕ) → AllIn (isUnheld T) i n bs → 0 < bufferCount T b → List·Memᴰ b bs → ⊥
 not-free T i n b [] a h m = List·Memᴰ·not-nil m
 not-free T i n b (x ∷ bs) a h m =
@@ -168,6 +169,6 @@ stays-new S S′ k xs f e =
           ∙ stored-other (isUnheld T) 0 B bs (S .storage) xs (wholeOf b) a f l (omega arith) (not-free T 0 B b bs a h);
     }
 
--- where nothing may change
+-- where it may be that nothing changes
 pub maybe-stays : (S X : State) (b : Bool) → StorageStays S X → StorageStays S (if b then S else X)
 maybe-stays S X b h = if-either (StorageStays S) b S X (λ _. stays-as S S refl) (λ _. h)

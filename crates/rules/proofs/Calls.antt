@@ -68,7 +68,8 @@ pub rule-sizes : (o : Operation) (S : State) → Sizes (S .tables) (rule o S .af
 unfolding rule
 rule-sizes o S = lawful o .sizes S
 
-pub rule-storage : (o : Operation) (S : State) → length (S .storage) ≡ storageLength (bufferTotal (S .tables)) → length (rule o S .after .storage) ≡ length (S .storage)
+pub rule-storage : (o : Operation) (S : State) → length (S .storage) ≡ storageLength (bufferTotal (S .tables))
+    → length (rule o S .after .storage) ≡ length (S .storage)
 unfolding rule
 rule-storage o S f = lawful o .stays S f .as-long
 

@@ -34,7 +34,7 @@ then-sizes s t = record {
   counts-size = t .counts-size ∙ s .counts-size;
 }
 
--- where nothing may change
+-- where it may be that nothing changes
 pub maybe-sizes : (S X : State) (b : Bool) → Sizes (S .tables) (X .tables) → Sizes (S .tables) ((if b then S else X) .tables)
 maybe-sizes S X b h = if-either (λ (Y : State). Sizes (S .tables) (Y .tables)) b S X (λ _. same-sizes (S .tables)) (λ _. h)
 
