@@ -51,9 +51,13 @@ fn ideas() -> Vec<String> {
         let owner = folder.file_name().to_str().unwrap_or_default().to_string();
         let edits = fs::read_dir(folder.path().join("must-fail")).ok();
         let texts = edits.into_iter().flatten().flatten();
-        let text: String = texts.map(|edit| fs::read_to_string(edit.path()).unwrap_or_default()).collect();
+        let text: String = texts
+            .map(|edit| fs::read_to_string(edit.path()).unwrap_or_default())
+            .collect();
         let named = text.lines().filter_map(|line| line.strip_prefix("idea: "));
-        named.map(|idea| format!("{owner}/{idea}")).collect::<Vec<_>>()
+        named
+            .map(|idea| format!("{owner}/{idea}"))
+            .collect::<Vec<_>>()
     };
     crates.flatten().flat_map(of_crate).collect()
 }
@@ -64,7 +68,9 @@ fn cited_by_call(row: &str) -> Vec<String> {
     let of_crate = |part: &'_ str| {
         let (owner, ideas) = part.split_once(": ").unwrap_or(("", part));
         let owner = owner.trim().to_string();
-        quoted(ideas).map(|idea| format!("{owner}/{idea}")).collect::<Vec<_>>()
+        quoted(ideas)
+            .map(|idea| format!("{owner}/{idea}"))
+            .collect::<Vec<_>>()
     };
     cell.split(';').flat_map(of_crate).collect()
 }
@@ -110,7 +116,11 @@ fn ideas_stand_in_the_edits_of_their_crates() {
     for idea in &cited {
         assert!(ideas.contains(idea), "no idea {idea}");
     }
-    assert!(cited.len() > 80, "only {} ideas were found to check", cited.len());
+    assert!(
+        cited.len() > 80,
+        "only {} ideas were found to check",
+        cited.len()
+    );
 }
 
 /// The names of the functions that the C header declares.
@@ -128,7 +138,9 @@ fn declared() -> Vec<String> {
 #[test]
 fn every_call_has_two_ideas() {
     let (promises, mut declared) = (promises(), declared());
-    let mut named: Vec<&str> = rows_by_call(&promises).filter_map(|row| quoted(row).next()).collect();
+    let mut named: Vec<&str> = rows_by_call(&promises)
+        .filter_map(|row| quoted(row).next())
+        .collect();
     declared.sort_unstable();
     named.sort_unstable();
     assert_eq!(named, declared);
