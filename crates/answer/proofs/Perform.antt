@@ -15,13 +15,13 @@ use Rattle.kinds.specs.Refusal.{refusalCode}
 use Rattle.rules.specs.Basics.{Is}
 use Rattle.rules.specs.Tables.{Tables}
 use Rattle.rules.specs.Bytes.{decode, encode}
-use Rattle.rules.specs.Sound.{Lent}
 use Rattle.rules.specs.Chain.{State}
+use Rattle.rules.specs.Sound.{Lent}
 use Rattle.rules.specs.Rule.{Judged, _⇐_, firstCode, unnamed, Wants, want, room, full, alters, codeIn, noView}
 use Rattle.rules.specs.Step.{Operation, rule, lentOut, refused, stateIn, done, perform}
 use Rattle.rules.proofs.Logic.{if-T, if-F, eq→eqb}
-use Rattle.rules.proofs.Bytes.{AllBytes}
 use Rattle.rules.proofs.Codes.{refusal-pos, first-append, first-no, first-none, none-full, named, full-facts}
+use Rattle.rules.proofs.Bytes.{AllBytes}
 use Rattle.rules.proofs.Step.{perform-done, perform-no}
 use Rattle.layout.specs.declared.Shape.{Shape}
 use Rattle.tables.specs.Shape.{Shaped, Holds}

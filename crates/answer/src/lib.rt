@@ -6,9 +6,9 @@ use layout::Shape;
 ghost use mathlib.Core.Path.{_≡_};
 ghost use Prim.Native.Nat.{_<_};
 ghost use Rattle.kinds.specs.SlipState.{stateOf};
-ghost use Rattle.rules.specs.Tables.{slip, holding, setSlip};
+ghost use Rattle.rules.specs.Tables.{slip};
 ghost use Rattle.rules.specs.Bytes.{decode};
-ghost use Rattle.tables.specs.Shape.{Shaped, Holds};
+ghost use Rattle.tables.specs.Shape.{Shaped};
 
 // The answer of a step on slip `s` that is done: the slip's state, and a number.
 pub fn done(pool: &[u8], shape: Shape, s: SlipNumber, number: u32) -> Outcome
@@ -19,14 +19,4 @@ pub fn done(pool: &[u8], shape: Shape, s: SlipNumber, number: u32) -> Outcome
         state: tables::slip_state(pool, shape, s),
         number,
     })
-}
-
-// The vacant slip `t` takes the chain that starts at `link`, and its number is the answer: a new handle.
-pub fn under_new(pool: &mut [u8], shape: Shape, t: SlipNumber, link: u16) -> Outcome
-    requires { ⌜ Shaped (now pool) shape × (t .0 < shape .slips) × (link < 65535) ⌝ }
-    ensures { λ _. ⌜ Holds (now (pool .exit)) shape (setSlip (decode (now (pool .entry))) (t .0) (holding link)) ⌝ }
-    ensures { λ r. ⌜ r ≡ Outcome.Done (record { state = stateOf (slip (decode (now (pool .exit))) (t .0)); number = t .0 }) ⌝ }
-{
-    tables::set_slip(pool, shape, t, link + 1);
-    done(pool, shape, t, t.0 as u32)
 }

@@ -13,24 +13,24 @@ use Rattle.rules.specs.Room.{freePieces}
 use Rattle.rules.specs.Build.{built, builtLink}
 use Rattle.rules.specs.Append.{ownOf, notOwn, joined}
 use Rattle.rules.specs.Step.{stateIn}
-use Rattle.rules.proofs.Append.{ready, readyLink, join-ready}
 use Rattle.rules.proofs.Audit.{tables-now}
 use Rattle.rules.proofs.Codes.{named}
+use Rattle.rules.proofs.Append.{ready, readyLink, join-ready}
 use Rattle.layout.specs.declared.Shape.{Shape}
 use Rattle.tables.specs.Shape.{Holds}
 use Rattle.tables.proofs.Laws.{whole, total-pieces}
-use Rattle.own.specs.declared.OwnRun.{OwnRun}
 use Rattle.chain.specs.Opened.{Opened}
 use Rattle.chain.specs.Length.{stretchesFrom}
-use Rattle.own.specs.Own.{lastLink, ownRun}
 use Rattle.chain.proofs.Links.{link-leads, link-below, stretches-none}
-use Rattle.own.proofs.Own.{OwnLaws, own-laws}
 use Rattle.chain.proofs.Parts.{part-all}
+use Rattle.own.specs.declared.OwnRun.{OwnRun}
+use Rattle.own.specs.Own.{lastLink, ownRun}
+use Rattle.own.proofs.Own.{OwnLaws, own-laws}
+use Rattle.answer.proofs.New.{new-link}
 use Rattle.release.specs.Hang.{Hangable, hungTo}
 use Rattle.release.proofs.Behind.{behind-tables, hangable}
-use Rattle.answer.proofs.New.{new-link}
-use Rattle.append.specs.Join.{Joinable}
 use Rattle.build.proofs.Forward.{built-slip}
+use Rattle.append.specs.Join.{Joinable}
 
 -- the tables of r are those before the hanging, and first is the link held there
 pub record IsReady (T : Tables) (a b : ℕ) (r : List ℕ) (first : ℕ) : Type 0 where

@@ -11,8 +11,8 @@ use Rattle.rules.specs.Sound.{sound, Sound, SoundTables, lent}
 use Rattle.rules.proofs.Audit.{sound-is}
 use Rattle.rules.proofs.Bytes.{Header, header-facts}
 use Rattle.tables.specs.Shape.{Shaped}
-use Rattle.audit.specs.declared.Audited.{Audited}
 use Rattle.counts.specs.Counters.{Limited, zeros}
+use Rattle.audit.specs.declared.Audited.{Audited}
 use Rattle.audit.specs.Verdict.{Verdict}
 
 module _ {p : List ℕ} {n : ℕ} {r : Audited} (v : Verdict p n r) where

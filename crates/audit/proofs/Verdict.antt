@@ -6,6 +6,7 @@ use Prim.Native.Nat.{ℕ, _≤_, _<_}
 use native.Mathlib.Omega.{arith}
 use lib.ListN.{length, length-replicate}
 use Rattle.rules.specs.Basics.{Is}
+use Rattle.rules.specs.Layout.{headerLength}
 use Rattle.rules.specs.Tables.{pieceTotal}
 use Rattle.rules.specs.Bytes.{buffersIn, piecesIn, slipsIn, decode}
 use Rattle.rules.specs.Sound.{headerOk, soundTables, sound, lent, headed}
@@ -15,7 +16,6 @@ use Rattle.layout.specs.declared.Shape.{Shape}
 use Rattle.counts.specs.Counters.{Limited, zeros}
 use Rattle.audit.specs.Follows.{tablesFollows, auditFollows}
 use Rattle.audit.specs.Verdict.{tornAnswer, Verdict}
-use Rattle.rules.specs.Layout.{headerLength}
 
 -- the shape h is the header's
 pub record Of (p : List ℕ) (h : Shape) : Type 0 where

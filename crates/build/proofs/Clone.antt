@@ -8,9 +8,9 @@ use lib.ListN.{length}
 use lib.Dec.{leb, leb→le, eqb→eq}
 use Rattle.rules.specs.Basics.{Is}
 use Rattle.rules.specs.Tables.{Piece, Tables, piece, pieceTotal, bufferTotal}
+use Rattle.rules.specs.Bytes.{decode}
 use Rattle.rules.specs.Chain.{Stretch, stretches, cutOut}
 use Rattle.rules.specs.Sound.{linkOk, SoundTables}
-use Rattle.rules.specs.Bytes.{decode}
 use Rattle.rules.specs.Room.{isFree, freePieces}
 use Rattle.rules.specs.Build.{fresh, taken, built}
 use Rattle.rules.proofs.Logic.{if-F}
@@ -23,7 +23,7 @@ use Rattle.room.specs.Free.{firstFrom}
 use Rattle.build.specs.declared.Cloning.{Cloning}
 use Rattle.build.specs.declared.InLine.{InLine}
 use Rattle.build.specs.Line.{linkInLine, inLine}
-use Rattle.build.specs.Clone.{stretchAt, partOf, cloned, Clonable}
+use Rattle.build.specs.Clone.{stretchAt, nextPart, cloned, Clonable}
 use Rattle.build.proofs.Forward.{piece-other}
 use Rattle.build.proofs.Line.{Line, line-opened, line-step}
 
@@ -33,7 +33,7 @@ use Rattle.build.proofs.Line.{Line, line-opened, line-step}
 pub clone-done : (T : Tables) (c : Cloning) (k tail : ℕ) {h : Shape} {q : List ℕ} {len n b o next : ℕ} {l : InLine} → l ≡ inLine T (c .free) k tail → len ≡ piece T (c .at - 1) .len
     → n ≡ min (c .left) (len - c .skip) → b ≡ piece T (c .at - 1) .buffer → o ≡ piece T (c .at - 1) .offset → next ≡ piece T (c .at - 1) .next
     → Holds q h (taken T (c .free) (fresh (record { buffer = b; offset = o + c .skip; len = n }) (l .link)))
-    → Holds q h (taken T (c .free) (fresh (partOf (stretchAt T (c .at)) c) (linkInLine T (c .free) k tail)))
+    → Holds q h (taken T (c .free) (fresh (nextPart (stretchAt T (c .at)) c) (linkInLine T (c .free) k tail)))
     × (_≡_ {A = Cloning} (record { free = l .free; at = next; skip = 0; left = c .left - n }) (cloned T c k))
 clone-done T c k tail es el en eb eo ex w =
     (record { shaped = w .shaped; is = w .is ∙ rw (es, en, el, eb, eo) }, rw (es, ex, en, el))
@@ -91,15 +91,15 @@ module _ {O goal : Tables} {tail : ℕ} {T : Tables} {c : Cloning} {k : ℕ} (so
   as-was = w .used (c .at - 1) (piece-used .used)
 
   -- what comes first, and what comes after it
-  split : toCome O c ≡ partOf (stretchAt O (c .at)) c ∷ cutOut (stretchesFrom O (piece O (c .at - 1) .next)) 0 (c .left - partOf (stretchAt O (c .at)) c .len)
+  split : toCome O c ≡ nextPart (stretchAt O (c .at)) c ∷ cutOut (stretchesFrom O (piece O (c .at - 1) .next)) 0 (c .left - nextPart (stretchAt O (c .at)) c .len)
   unfolding stretches
   split =
       let x = stretchAt O (c .at) in
       let xs = stretchesFrom O (piece O (c .at - 1) .next) in
-      let e : c .left - (x .len - c .skip) ≡ c .left - partOf x c .len = omega arith in
+      let e : c .left - (x .len - c .skip) ≡ c .left - nextPart x c .len = omega arith in
       ap (λ (l : List ℕ). cutOut (stretches O l) (c .skip) (c .left)) (walk-on O (c .at) sound (w .good) at-some)
       ∙ cut-first x xs (c .skip) (c .left) left-some (w .inside at-some)
-      ∙ ap (λ (n : ℕ). partOf x c ∷ cutOut xs 0 n) e
+      ∙ ap (λ (n : ℕ). nextPart x c ∷ cutOut xs 0 n) e
 
   module _ (pieces : pieceTotal T ≡ pieceTotal O) (buffers : bufferTotal T ≡ bufferTotal O) where
     -- so it can be copied
@@ -120,10 +120,10 @@ module _ {O goal : Tables} {tail : ℕ} {T : Tables} {c : Cloning} {k : ℕ} (so
         }
 
     -- and copying goes on
-    pub copies-on : Copies O goal tail (taken T (c .free) (fresh (partOf (stretchAt T (c .at)) c) (linkInLine T (c .free) (k - 1) tail))) (cloned T c (k - 1)) (k - 1)
+    pub copies-on : Copies O goal tail (taken T (c .free) (fresh (nextPart (stretchAt T (c .at)) c) (linkInLine T (c .free) (k - 1) tail))) (cloned T c (k - 1)) (k - 1)
     copies-on =
         let u = piece-used in
-        let x = partOf (stretchAt O (c .at)) c in
+        let x = nextPart (stretchAt O (c .at)) c in
         let e : k - 1 ≡ length (cutOut (stretchesFrom O (piece O (c .at - 1) .next)) 0 (c .left - x .len)) = omega (arith, w .more, ap length split) in
         let free = w .line .first (omega (arith, w .more)) .1 in
         rw as-was (record {

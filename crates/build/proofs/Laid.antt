@@ -10,8 +10,8 @@ use lib.Dec.{eqb→eq}
 use Rattle.kinds.specs.Limits.{bufferSize, sizeOf}
 use Rattle.rules.specs.Basics.{places}
 use Rattle.rules.specs.Tables.{Tables, bufferCount, pieceTotal, bufferTotal}
-use Rattle.rules.specs.Chain.{Stretch}
 use Rattle.rules.specs.Bytes.{decode}
+use Rattle.rules.specs.Chain.{Stretch}
 use Rattle.rules.specs.Room.{isFree, isUnheld, freePieces, freeBuffers, newBuffers}
 use Rattle.rules.specs.Build.{fresh, taken, built, laid}
 use Rattle.rules.proofs.Contents.{laid-count}

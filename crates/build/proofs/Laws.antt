@@ -6,16 +6,16 @@ use Prim.Native.Nat.{ℕ, zero, suc, _+_, _-_, _≤_, _<_}
 use native.Mathlib.Omega.{arith}
 use lib.ListN.{length}
 use lib.Dec.{eqb}
-use Rattle.rules.specs.Tables.{Piece, Tables, piece, bufferCount, headOf, slipTotal, pieceTotal, setPiece, setPieceCount, withCount, setCount}
 use Rattle.rules.specs.Basics.{Is}
-use Rattle.rules.specs.Sound.{inUse, leads, heads, lying, linkOk}
+use Rattle.rules.specs.Tables.{Piece, Tables, piece, bufferCount, headOf, slipTotal, pieceTotal, setPiece, setPieceCount, withCount, setCount}
 use Rattle.rules.specs.Bytes.{decode}
+use Rattle.rules.specs.Sound.{inUse, leads, heads, lying, linkOk}
 use Rattle.rules.specs.Release.{shared}
 use Rattle.rules.specs.Build.{taken}
 use Rattle.rules.proofs.Logic.{bit-one}
 use Rattle.rules.proofs.Sums.{sumTo-ones}
-use Rattle.rules.proofs.Audit.{tables-now}
 use Rattle.rules.proofs.Moves.{SoundWith, hit, lies, links, occ, used-in-range}
+use Rattle.rules.proofs.Audit.{tables-now}
 use Rattle.layout.specs.declared.Shape.{Shape}
 use Rattle.tables.specs.Shape.{Shaped, Holds}
 use Rattle.tables.proofs.Laws.{whole, total-slips, total-pieces, onward}

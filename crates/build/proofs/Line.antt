@@ -10,14 +10,14 @@ use lib.ListN.{length, length-set}
 use lib.Dec.{ltb, ltb→lt, lt→ltb}
 use Rattle.rules.specs.Basics.{Is, places}
 use Rattle.rules.specs.Tables.{Tables, bufferCount, pieceTotal, bufferTotal}
+use Rattle.rules.specs.Bytes.{decode}
 use Rattle.rules.specs.Chain.{Stretch}
 use Rattle.rules.specs.Room.{isFree, freePieces}
 use Rattle.rules.specs.Build.{fresh, taken, built, builtLink}
-use Rattle.rules.specs.Bytes.{decode}
 use Rattle.rules.proofs.Logic.{if-T, if-F}
-use Rattle.rules.proofs.Audit.{tables-now}
 use Rattle.rules.proofs.Moves.{by-place}
 use Rattle.rules.proofs.Room.{places-in, above-not}
+use Rattle.rules.proofs.Audit.{tables-now}
 use Rattle.layout.specs.declared.Shape.{Shape}
 use Rattle.tables.proofs.Laws.{whole, total-pieces}
 use Rattle.chain.specs.Opened.{Opened}

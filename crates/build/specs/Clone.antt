@@ -11,8 +11,8 @@ abbrev pub stretchAt : Tables → ℕ → Stretch
 stretchAt T n = stretch (piece T (n - 1))
 
 -- what the range has of the stretch x
-abbrev pub partOf : Stretch → Cloning → Stretch
-partOf x c = record { buffer = x .buffer; offset = x .offset + c .skip; len = min (c .left) (x .len - c .skip) }
+abbrev pub nextPart : Stretch → Cloning → Stretch
+nextPart x c = record { buffer = x .buffer; offset = x .offset + c .skip; len = min (c .left) (x .len - c .skip) }
 
 -- how far copying is once a new piece for that part is taken, where k more are to come
 abbrev pub cloned : Tables → Cloning → ℕ → Cloning
@@ -20,7 +20,7 @@ cloned T c k = record {
   free = nextInLine T (c .free) k;
   at = piece T (c .at - 1) .next;
   skip = 0;
-  left = c .left - partOf (stretchAt T (c .at)) c .len;
+  left = c .left - nextPart (stretchAt T (c .at)) c .len;
 }
 
 -- A new piece can be taken for what piece d has from its byte n on: d is below P, the place lies inside it, and the count of its

@@ -1,12 +1,15 @@
 // The making of chains: a new piece, one reference more, new pieces for a range or on free buffers.
 use kinds::BufferNumber;
+use kinds::Outcome;
 use kinds::PieceNumber;
+use kinds::SlipNumber;
 use layout::Shape;
 ghost use mathlib.Core.Path.{_≡_};
 ghost use Prim.Native.Nat.{_-_, _≤_, _<_};
 ghost use lib.ListN.{length};
+ghost use Rattle.kinds.specs.SlipState.{stateOf};
 ghost use Rattle.rules.specs.Basics.{Is};
-ghost use Rattle.rules.specs.Tables.{piece, bufferCount, pieceTotal, bufferTotal};
+ghost use Rattle.rules.specs.Tables.{piece, bufferCount, pieceTotal, bufferTotal, slip, holding, setSlip};
 ghost use Rattle.rules.specs.Bytes.{decode};
 ghost use Rattle.rules.specs.Chain.{cutOut};
 ghost use Rattle.rules.specs.Sound.{linkOk};
@@ -19,7 +22,7 @@ ghost use Rattle.chain.specs.Length.{stretchesFrom};
 ghost use Rattle.room.specs.Free.{lowestFor};
 ghost use Rattle.build.specs.Share.{Sharable};
 ghost use Rattle.build.specs.Line.{linkInLine, inLine};
-ghost use Rattle.build.specs.Clone.{stretchAt, partOf, cloned, Clonable};
+ghost use Rattle.build.specs.Clone.{stretchAt, nextPart, cloned, Clonable};
 ghost use Rattle.build.specs.Laid.{laidAt, laidOn, Layable};
 
 // How far copying is: the free piece to take, the link to the piece to copy, the bytes of it to skip, and the bytes still to come (a cursor).
@@ -98,7 +101,7 @@ fn clone_piece(pool: &mut [u8], shape: Shape, c: Cloning, more: u16, tail: u16) 
     requires { ⌜ Shaped (now pool) shape × (shape .pieces < 65535) × Clonable (decode (now pool)) c ⌝ }
     ensures { λ r. ⌜ Holds (now (pool .exit)) shape
         (taken (decode (now (pool .entry))) (c .free)
-        (fresh (partOf (stretchAt (decode (now (pool .entry))) (c .at)) c) (linkInLine (decode (now (pool .entry))) (c .free) more tail)))
+        (fresh (nextPart (stretchAt (decode (now (pool .entry))) (c .at)) c) (linkInLine (decode (now (pool .entry))) (c .free) more tail)))
         × (r ≡ cloned (decode (now (pool .entry))) c more) ⌝ }
 {
     let d = PieceNumber(c.at - 1);
@@ -202,4 +205,14 @@ pub fn lay(pool: &mut [u8], shape: Shape, n: u32, count: u16, first: u16, buffer
         c = lay_piece(pool, shape, c, more);
     }
     first + 1
+}
+
+// The vacant slip `t` takes the chain that starts at `link`, and its number is the answer: a new handle.
+pub fn under_new(pool: &mut [u8], shape: Shape, t: SlipNumber, link: u16) -> Outcome
+    requires { ⌜ Shaped (now pool) shape × (t .0 < shape .slips) × (link < 65535) ⌝ }
+    ensures { λ _. ⌜ Holds (now (pool .exit)) shape (setSlip (decode (now (pool .entry))) (t .0) (holding link)) ⌝ }
+    ensures { λ r. ⌜ r ≡ Outcome.Done (record { state = stateOf (slip (decode (now (pool .exit))) (t .0)); number = t .0 }) ⌝ }
+{
+    tables::set_slip(pool, shape, t, link + 1);
+    answer::done(pool, shape, t, t.0 as u32)
 }

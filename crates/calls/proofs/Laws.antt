@@ -11,6 +11,7 @@ use Rattle.kinds.specs.Refusal.{refusalCode}
 use Rattle.kinds.specs.Outcome.{answerOf}
 use Rattle.rules.specs.Basics.{Is}
 use Rattle.rules.specs.Layout.{storageLength}
+use Rattle.rules.specs.Sound.{lent}
 use Rattle.rules.specs.Rule.{noView}
 use Rattle.rules.specs.Step.{Operation, Do, lentOut, refused, perform, step}
 use Rattle.rules.proofs.Step.{step-sound-pool, step-torn}
@@ -18,7 +19,6 @@ use Rattle.audit.specs.declared.Audited.{Audited}
 use Rattle.audit.specs.Verdict.{Verdict}
 use Rattle.audit.proofs.Laws.{verdict-torn, verdict-is, verdict-sound, verdict-header, verdict-shaped, verdict-limited}
 use Rattle.chain.specs.Opened.{Opened}
-use Rattle.rules.specs.Sound.{lent}
 use Rattle.answer.specs.Result as seen
 use Rattle.calls.specs.Result.{resultOf}
 

@@ -4,10 +4,10 @@ use kinds::Refusal;
 use kinds::SlipNumber;
 ghost use mathlib.Core.Path.{_≡_};
 ghost use mathlib.Core.List.{[]};
+ghost use Rattle.rules.specs.Sound.{lent};
 ghost use Rattle.rules.specs.Rule.{noView};
 ghost use Rattle.rules.specs.Step.{Free, Append, Drop, Keep, Do, step};
 ghost use Rattle.calls.specs.Result.{resultOf};
-ghost use Rattle.rules.specs.Sound.{lent};
 
 // free: a slip gives up its chain.
 pub fn free(pool: &mut [u8], storage: &[u8], slip: u16) -> Answer

@@ -12,6 +12,7 @@ use Rattle.kinds.specs.declared.Answer.{Answer}
 use Rattle.kinds.specs.Refusal.{refusalCode}
 use Rattle.kinds.specs.Outcome.{answerOf}
 use Rattle.rules.specs.Bytes.{decode}
+use Rattle.rules.specs.Sound.{lent}
 use Rattle.rules.specs.Rule.{noView}
 use Rattle.rules.specs.Read.{copied}
 use Rattle.rules.specs.List.{records}
@@ -23,12 +24,12 @@ use Rattle.audit.specs.Verdict.{Verdict}
 use Rattle.audit.proofs.Laws.{verdict-header}
 use Rattle.chain.specs.Length.{stretchesFrom}
 use Rattle.chain.proofs.Links.{stretches-none}
+use Rattle.answer.proofs.Perform.{named-below}
 use Rattle.look.specs.declared.Place.{Place}
 use Rattle.look.specs.declared.Place.the-variants.{Storage, Scratch}
 use Rattle.look.specs.declared.Shown as look
 use Rattle.look.specs.Place.{viewAt, Lies}
 use Rattle.look.specs.Show.{Seen}
-use Rattle.answer.proofs.Perform.{named-below}
 use Rattle.list.specs.declared.Begun as list
 use Rattle.list.specs.Begin.{begun}
 use Rattle.list.proofs.Laws.{begun-fits, list-performs}
@@ -37,7 +38,6 @@ use Rattle.calls.proofs.Laws.{torn-step, torn-answer, opened, sound-step, answe
 use Rattle.calls_look.specs.declared.Shown.{Shown}
 use Rattle.calls_look.specs.Shown.{shownAs, shownOf}
 use Rattle.calls_look.specs.Begin.{Begins}
-use Rattle.rules.specs.Sound.{lent}
 
 -- ---- show's answer
 

@@ -7,13 +7,13 @@ use look::Place;
 ghost use mathlib.Core.Path.{_≡_};
 ghost use mathlib.Core.List.{[]};
 ghost use Prim.Native.Nat.{_<_, _^_};
+ghost use Rattle.rules.specs.Sound.{lent};
 ghost use Rattle.rules.specs.Rule.{noView};
 ghost use Rattle.rules.specs.Step.{Length, Read, Show, WireList, Do, step};
 ghost use Rattle.look.specs.Place.{viewAt};
 ghost use Rattle.calls.specs.Result.{resultOf};
 ghost use Rattle.calls_look.specs.Shown.{shownAs, shownOf};
 ghost use Rattle.calls_look.specs.Begin.{Begins};
-ghost use Rattle.rules.specs.Sound.{lent};
 
 // What show answers to C: the view is `number` bytes from `start` on, of the scratch if `in_scratch` is 1, else of storage.
 #[repr(C)]

@@ -4,10 +4,10 @@ use kinds::Refusal;
 use kinds::SlipNumber;
 ghost use mathlib.Core.Path.{_≡_};
 ghost use mathlib.Core.List.{[]};
+ghost use Rattle.rules.specs.Sound.{lent};
 ghost use Rattle.rules.specs.Rule.{noView};
 ghost use Rattle.rules.specs.Step.{Put, Dup, Cut, Do, step};
 ghost use Rattle.calls.specs.Result.{resultOf};
-ghost use Rattle.rules.specs.Sound.{lent};
 
 // put: bytes into fresh buffers, under a new slip.
 pub fn put(pool: &mut [u8], storage: &mut [u8], input: &[u8]) -> Answer

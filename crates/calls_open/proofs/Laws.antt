@@ -4,6 +4,7 @@ use mathlib.Core.Bool.{Bool, true, false, _&&_}
 use mathlib.Core.List.{List, []}
 use Prim.Native.Nat.{ℕ}
 use lib.ListN.{length}
+use lib.Dec.{eqb, eqb→eq}
 use Rattle.kinds.specs.declared.Refusal.the-variants.{Counts}
 use Rattle.kinds.specs.declared.Answer.{Answer}
 use Rattle.kinds.specs.Refusal.{refusalCode}
@@ -11,20 +12,19 @@ use Rattle.rules.specs.Basics.{Is}
 use Rattle.rules.specs.Layout.{poolLength, storageLength}
 use Rattle.rules.specs.Tables.{freshTables}
 use Rattle.rules.specs.Bytes.{encode}
+use Rattle.rules.specs.Sound.{lent, countsOk, lengthsOk}
 use Rattle.rules.specs.Rule.{noView}
 use Rattle.rules.specs.Open.{openable}
 use Rattle.rules.specs.Step.{Audit, Open, Do, rule, done, step}
 use Rattle.rules.proofs.Logic.{if-T, if-F, and-0, and-parts}
-use Rattle.rules.proofs.Bytes.{AllBytes, and-is, eqb-is, leb-is}
 use Rattle.rules.proofs.Codes.{first-none}
+use Rattle.rules.proofs.Bytes.{AllBytes, and-is, eqb-is, leb-is}
 use Rattle.tables.proofs.Laws.{fits-decode}
 use Rattle.audit.specs.declared.Audited.{Audited}
 use Rattle.audit.specs.Verdict.{Verdict}
 use Rattle.answer.proofs.Perform.{perform-none}
 use Rattle.calls.specs.Result.{resultOf}
 use Rattle.calls.proofs.Laws.{opened, sound-step}
-use Rattle.rules.specs.Sound.{lent, countsOk, lengthsOk}
-use lib.Dec.{eqb, eqb→eq}
 
 -- ---- open
 

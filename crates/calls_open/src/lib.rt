@@ -4,10 +4,10 @@ use kinds::Refusal;
 use layout::Shape;
 ghost use mathlib.Core.Path.{_≡_};
 ghost use mathlib.Core.List.{[]};
+ghost use Rattle.rules.specs.Sound.{lent};
 ghost use Rattle.rules.specs.Rule.{noView};
 ghost use Rattle.rules.specs.Step.{Audit, Open, Do, step};
 ghost use Rattle.calls.specs.Result.{resultOf};
-ghost use Rattle.rules.specs.Sound.{lent};
 
 // open: writes the fresh pool.
 pub fn open(pool: &mut [u8], storage: &[u8], buffers: u16, pieces: u16, slips: u16) -> Answer

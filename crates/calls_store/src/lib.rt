@@ -4,10 +4,10 @@ use kinds::Refusal;
 use kinds::SlipNumber;
 ghost use mathlib.Core.Path.{_≡_};
 ghost use mathlib.Core.List.{[]};
+ghost use Rattle.rules.specs.Sound.{lent};
 ghost use Rattle.rules.specs.Rule.{noView};
 ghost use Rattle.rules.specs.Step.{Pullup, Pack, Do, step};
 ghost use Rattle.calls.specs.Result.{resultOf};
-ghost use Rattle.rules.specs.Sound.{lent};
 
 // pullup: the first bytes of a chain in one piece.
 pub fn pullup(pool: &mut [u8], storage: &mut [u8], slip: u16, n: u32) -> Answer

@@ -11,14 +11,12 @@ use Rattle.rules.specs.Basics.{Is, if_then_else_}
 use Rattle.rules.specs.Tables.{Tables, piece, headOf, slipTotal, pieceTotal, bufferTotal}
 use Rattle.rules.specs.Chain.{Stretch, walk, stretch, total, lengthOf, cutOut, contents}
 use Rattle.rules.specs.Sound.{linkOk, SoundTables}
-use Rattle.rules.specs.Build.{Plan}
-use Rattle.rules.specs.Drop.{ownAt, dropPlan, dropped}
+use Rattle.rules.specs.Drop.{ownAt}
 use Rattle.rules.proofs.Logic.{if-T, if-F, not-less, same-test, and-intro, and-parts, eq→eqb}
 use Rattle.rules.proofs.Contents.{Fit, dropOut, dropOut-contents}
 use Rattle.chain.specs.declared.Spot.{Spot}
 use Rattle.chain.specs.Length.{stretchesFrom}
 use Rattle.chain.specs.Find.{spotOf, pastEnd}
-use Rattle.chain.specs.Rest.{restFrom}
 use Rattle.chain.proofs.Links.{link-leads, walk-none, walk-on, walk-less, stretches-on, stretches-in, length-empty}
 
 -- ---- whether one piece is own
@@ -189,37 +187,9 @@ found-bytes T S n off s t f st w =
     sym (dropOut-contents B st (stretchesFrom T (s .link)) (s .into) w (stretches-in T (s .link) S (f .good))) ∙ ap (contents st) (sym (f .stays))
     ∙ dropOut-contents B st (stretchesFrom T n) off w (stretches-in T n S t)
 
--- ---- what drop leaves, from the place found
-
--- what stays from a place
-abbrev restAt : Tables → Spot → Plan
-restAt T s = restFrom T (s .own) (s .link) (s .into)
-
--- it goes by the test that chose the place
-rest-choice : (T : Tables) (b : Bool) (x y : Plan) (s r : Spot) → x ≡ restAt T s → y ≡ restAt T r → (if b then x else y) ≡ restAt T (if b then s else r)
-unfolding if_then_else_
-rest-choice T true x y s r e f = e
-rest-choice T false x y s r e f = f
-
--- the plan of drop over the pieces met is that from the place found
-pub drop-plan-at : (k : ℕ) (T : Tables) (own : Bool) (n off : ℕ)
-    → dropPlan T own (walk k T n) off ≡ restFrom T (spotOf k T own n off .own) (spotOf k T own n off .link) (spotOf k T own n off .into)
-unfolding dropPlan walk spotOf restFrom
-drop-plan-at zero T own n off = refl
-drop-plan-at (suc k) T own zero off = refl
-drop-plan-at (suc k) T own (suc d) off =
-    let p = piece T d in
-    rest-choice T _ _ _ _ (record { link = suc d; into = off; own = ownAt T own d }) (drop-plan-at k T (ownAt T own d) (p .next) (off - p .len)) refl
-
 -- ---- the place in a slip's chain, from what the code has: the head link and the place found from there
 
 module _ (T : Tables) (s off : ℕ) {head : ℕ} {at : Spot} (from : head ≡ headOf T s) (is : at ≡ spotOf (pieceTotal T) T true head off) where
-  -- what drop leaves of the chain is what stays from there
-  pub dropped-at : dropped T s off ≡ restFrom T (at .own) (at .link) (at .into)
-  dropped-at =
-      let e : spotOf (pieceTotal T) T true (headOf T s) off ≡ at = ap (λ (n : ℕ). spotOf (pieceTotal T) T true n off) (sym from) ∙ sym is in
-      drop-plan-at (pieceTotal T) T true (headOf T s) off ∙ ap (λ (x : Spot). restFrom T (x .own) (x .link) (x .into)) e
-
   module _ (S : SoundTables T) (l : s < slipTotal T) where
     -- it has the laws of a place found
     pub found-at : Found T (headOf T s) off at

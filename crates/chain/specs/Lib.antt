@@ -2,5 +2,4 @@
 pub mod Opened
 pub mod Length
 pub mod Find
-pub mod Rest
 pub mod Part

@@ -21,7 +21,7 @@ use Rattle.rules.proofs.Moves.{hit, hit-same, hit-other, lies-used}
 use Rattle.rules.proofs.Bytes.{decode-slips, decode-pieces, decode-counts}
 use Rattle.layout.specs.declared.Shape.{Shape}
 use Rattle.counts.specs.Ranges.{linkInRange, pieceInRange, slipsInRange, piecesInRange}
-use Rattle.counts.specs.Counters.{Limited, zeros, tallied, lieOf, Room, Hold, headsTo, nextsTo, lyingTo, SlipsCounted, PiecesCounted}
+use Rattle.counts.specs.Counters.{Limited, zeros, tallied, lieOf, Countable, Hold, headsTo, nextsTo, lyingTo, SlipsCounted, PiecesCounted}
 use Rattle.counts.proofs.Ranges.{free-next, next-in-range, buffer-in-range}
 
 -- ---- the tables of a pool within the limits
@@ -68,7 +68,7 @@ module _ {most : ℕ} {c : List ℕ} {f : ℕ → ℕ} (h : Hold most c f) where
     each = λ d m. omega (arith, tallied-at c n d (omega (arith, h .long)), h .each d m, e d);
   }
 
-  hold-room : ((d : ℕ) → f d < 65535) → Room c
+  hold-room : ((d : ℕ) → f d < 65535) → Countable c
   hold-room k d =
       elim (decLt d most) [
         | yes l ↦ omega (arith, h .each d l, k d)
@@ -107,7 +107,7 @@ module _ (T : Tables) where
   slips-start e = rw e (record { ranged = tt; held = hold-zeros mostPieces (headsTo T 0) (λ d. refl) })
 
   module _ {n : ℕ} {refs : List ℕ} (v : SlipsTo T n refs) where
-    pub slips-room : n < 65535 → Room refs
+    pub slips-room : n < 65535 → Countable refs
     slips-room l = hold-room (v .held) (λ d. omega (arith, headsTo-most n d))
 
     pub slips-on : {m : ℕ} {refs′ : List ℕ} → m ≡ headOf T n → m ≤ pieceTotal T → pieceTotal T ≤ mostPieces → refs′ ≡ tallied refs m → SlipsTo T (n + 1) refs′
@@ -210,7 +210,7 @@ module _ (T : Tables) where
       fits = entry-fits (bufferTotal T) (pieceTotal T) (piece T n) (rw (ranged x) tt) (k .few-buffers) (k .few-pieces)
 
       -- there are counters for what it refers to, and room in them
-      pub pieces-fit : (p .next ≤ mostPieces) × (lieOf p ≤ mostBuffers) × Room refs × Room lies
+      pub pieces-fit : (p .next ≤ mostPieces) × (lieOf p ≤ mostBuffers) × Countable refs × Countable lies
       pieces-fit = (
         rw e (fits .0),
         rw e (fits .1),

@@ -36,8 +36,8 @@ abbrev pub lieOf : Piece → ℕ
 lieOf p = if eqb (p .count) 0 then 0 else suc (p .buffer)
 
 -- each counter can take one more
-abbrev pub Room : List ℕ → Type 0
-Room c = (d : ℕ) → getD c d 0 < 65535
+abbrev pub Countable : List ℕ → Type 0
+Countable c = (d : ℕ) → getD c d 0 < 65535
 
 -- the counters c, of which there are `most`, hold f
 pub record Hold (most : ℕ) (c : List ℕ) (f : ℕ → ℕ) : Type 0 where

@@ -12,7 +12,7 @@ ghost use Rattle.rules.specs.Bytes.{decode};
 ghost use Rattle.rules.specs.Sound.{heads, nexts, lying};
 ghost use Rattle.tables.specs.Entry.{pieceOf};
 ghost use Rattle.counts.specs.Ranges.{usedInRange, pieceInRange, countsAgree, buffersAgree, referencesOk};
-ghost use Rattle.counts.specs.Counters.{Limited, zeros, tallied, lieOf, Room, Hold, SlipsCounted, PiecesCounted};
+ghost use Rattle.counts.specs.Counters.{Limited, zeros, tallied, lieOf, Countable, Hold, SlipsCounted, PiecesCounted};
 
 // One counter for each piece that a pool may have.
 const PIECES: usize = PieceNumber::MOST as usize;
@@ -22,7 +22,7 @@ const BUFFERS: usize = BufferNumber::MOST as usize;
 
 // Counts one reference more to the piece that the link `n` leads to.
 fn count_link(refs: &mut [u16; PIECES], n: u16)
-    requires { ⌜ (n ≤ mostPieces) × Room (now refs) ⌝ }
+    requires { ⌜ (n ≤ mostPieces) × Countable (now refs) ⌝ }
     ensures { λ _. ⌜ now (refs .exit) ≡ tallied (now (refs .entry)) n ⌝ }
 {
     if n == 0 {
@@ -96,7 +96,7 @@ fn entry_ok(e: Entry, shape: Shape) -> bool
 
 // Counts what a piece in use refers to: its next and its buffer.
 fn count_entry(e: Entry, refs: &mut [u16; PIECES], lies: &mut [u16; BUFFERS])
-    requires { ⌜ (e .next ≤ mostPieces) × (lieOf (pieceOf e) ≤ mostBuffers) × Room (now refs) × Room (now lies) ⌝ }
+    requires { ⌜ (e .next ≤ mostPieces) × (lieOf (pieceOf e) ≤ mostBuffers) × Countable (now refs) × Countable (now lies) ⌝ }
     ensures { λ _. ⌜ (now (refs .exit) ≡ tallied (now (refs .entry)) (e .next)) × (now (lies .exit) ≡ tallied (now (lies .entry)) (lieOf (pieceOf e))) ⌝ }
 {
     count_link(refs, e.next);

@@ -21,8 +21,8 @@ use Rattle.rules.specs.Build.{plain, underNew}
 use Rattle.rules.specs.Rule.{_⇐_, firstCode, unnamed, want, noView}
 use Rattle.rules.specs.Cut.{cutAfter}
 use Rattle.rules.specs.Step.{Cut, rule, stateIn, perform}
-use Rattle.rules.proofs.Bytes.{AllBytes}
 use Rattle.rules.proofs.Codes.{first-yes, first-no, first-none}
+use Rattle.rules.proofs.Bytes.{AllBytes}
 use Rattle.layout.specs.declared.Shape.{Shape}
 use Rattle.tables.specs.Shape.{Holds}
 use Rattle.chain.specs.declared.Spot.{Spot}

@@ -10,10 +10,10 @@ ghost use Rattle.kinds.specs.SlipState.{stateOf};
 ghost use Rattle.kinds.specs.Outcome.{numberOf};
 ghost use Rattle.rules.specs.Tables.{slip};
 ghost use Rattle.rules.specs.Bytes.{decode};
+ghost use Rattle.rules.specs.Sound.{lent};
 ghost use Rattle.rules.specs.Rule.{noView};
 ghost use Rattle.rules.specs.Step.{Cut, perform};
 ghost use Rattle.chain.specs.Opened.{Opened};
-ghost use Rattle.rules.specs.Sound.{lent};
 ghost use Rattle.answer.specs.Result.{resultOf, Leaves};
 
 // How many pieces a range of `n` bytes overlaps, from those that its bytes and the bytes before it overlap: none where it is empty.
@@ -50,5 +50,5 @@ pub fn cut(pool: &mut [u8], shape: Shape, s: SlipNumber, off: u32, n: u32) -> Ou
         return Outcome::Refused(Refusal::Pieces);
     }
     let first = build::copy_pieces(pool, shape, link, into, n, pieces, room.lowest, 0);
-    answer::under_new(pool, shape, SlipNumber(t), first)
+    build::under_new(pool, shape, SlipNumber(t), first)
 }

@@ -9,8 +9,10 @@ use lib.Dec.{eqb→eq, leb, leb→le}
 use borrow.Author.Tests.{not-true, not-false}
 use lib.ListN.{length}
 use Rattle.rules.specs.Basics.{Is, bit, places}
+use Rattle.rules.specs.Layout.{headerLength}
 use Rattle.rules.specs.Tables.{Tables, piece}
 use Rattle.rules.specs.Bytes.{decode, buffersIn, piecesIn, slipsIn}
+use Rattle.rules.specs.Sound.{marked}
 use Rattle.rules.specs.Room.{isFree}
 use Rattle.rules.proofs.Logic.{if-T, if-F, is-true, eq→eqb, bit-T, bit-F, and-parts}
 use Rattle.rules.proofs.Room.{places-count-0}
@@ -20,8 +22,6 @@ use Rattle.tables.specs.Shape.{Shaped}
 use Rattle.page.specs.Page.{ascii}
 use Rattle.page.specs.Digits.{tagged}
 use Rattle.draw.specs.Text.{holdText, tablesText, fitsTest, poolText}
-use Rattle.rules.specs.Layout.{headerLength}
-use Rattle.rules.specs.Sound.{marked}
 
 -- ---- a count
 

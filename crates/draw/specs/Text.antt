@@ -14,11 +14,11 @@ use Rattle.rules.specs.Basics.{if_then_else_}
 use Rattle.rules.specs.Layout.{poolLength, headerLength}
 use Rattle.rules.specs.Tables.{Tables, bufferCount, pieceTotal, bufferTotal}
 use Rattle.rules.specs.Bytes.{decode, buffersIn, piecesIn, slipsIn}
+use Rattle.rules.specs.Sound.{marked}
 use Rattle.rules.specs.Room.{freePieces}
 use Rattle.page.specs.Page.{ascii}
 use Rattle.page.specs.Digits.{tagged}
 use Rattle.draw_slips.specs.Text.{upTo, slipsText}
-use Rattle.rules.specs.Sound.{marked}
 
 -- ---- buffers and pieces
 

@@ -11,9 +11,9 @@ ghost use Rattle.rules.specs.Tables.{piece, pieceTotal};
 ghost use Rattle.rules.specs.Bytes.{decode};
 ghost use Rattle.rules.specs.Chain.{walk, stretches, total, lengthOf};
 ghost use Rattle.tables.specs.Shape.{Shaped};
+ghost use Rattle.tables.specs.Entry.{pieceOf};
 ghost use Rattle.page.specs.Page.{page, Wrote};
 ghost use Rattle.draw_chain.specs.Text.{timesText, pieceText, joinedText, restText, chainText};
-ghost use Rattle.tables.specs.Entry.{pieceOf};
 
 // The entry of piece `d`, or zeros past the last: a bounded descriptor load.
 fn entry(pool: &[u8], shape: Shape, d: PieceNumber) -> Entry

@@ -14,19 +14,19 @@ use Rattle.rules.specs.Basics.{Is}
 use Rattle.rules.specs.Tables.{Tables}
 use Rattle.rules.specs.Bytes.{decode}
 use Rattle.rules.specs.Chain.{State, chain, lengthOf}
+use Rattle.rules.specs.Sound.{lent}
 use Rattle.rules.specs.Room.{freePieces}
 use Rattle.rules.specs.Build.{Plan, made, madeLink, underOld}
 use Rattle.rules.specs.Rule.{_⇐_, firstCode, unnamed, want, noView}
 use Rattle.rules.specs.Drop.{dropped, dropAfter}
 use Rattle.rules.specs.Step.{Drop, rule, stateIn, perform}
 use Rattle.rules.proofs.Logic.{if-T, if-F, eq→eqb}
-use Rattle.rules.proofs.Bytes.{AllBytes}
 use Rattle.rules.proofs.Codes.{first-yes, first-no, first-none}
-use Rattle.rules.proofs.Drop.{drop-none}
 use Rattle.rules.proofs.Sizes.{old-storage}
+use Rattle.rules.proofs.Drop.{drop-none}
+use Rattle.rules.proofs.Bytes.{AllBytes}
 use Rattle.layout.specs.declared.Shape.{Shape}
 use Rattle.tables.specs.Shape.{Shaped, Holds}
-use Rattle.rules.specs.Sound.{lent}
 use Rattle.answer.specs.Result.{resultOf}
 use Rattle.answer.proofs.Perform.{perform-first, perform-pieces, perform-all, changed}
 

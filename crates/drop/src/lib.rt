@@ -9,10 +9,10 @@ ghost use Prim.Native.Nat.{ℕ};
 ghost use Rattle.kinds.specs.SlipState.{stateOf};
 ghost use Rattle.rules.specs.Tables.{slip};
 ghost use Rattle.rules.specs.Bytes.{decode};
+ghost use Rattle.rules.specs.Sound.{lent};
 ghost use Rattle.rules.specs.Rule.{noView};
 ghost use Rattle.rules.specs.Step.{Drop, perform};
 ghost use Rattle.chain.specs.Opened.{Opened};
-ghost use Rattle.rules.specs.Sound.{lent};
 ghost use Rattle.answer.specs.Result.{resultOf, Leaves};
 
 // Takes the first `n` bytes from the chain of slip `s`: a chain trimmed at its front.

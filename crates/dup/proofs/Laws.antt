@@ -13,18 +13,18 @@ use Rattle.rules.specs.Basics.{Is}
 use Rattle.rules.specs.Tables.{Tables, piece, headOf, holding, setSlip}
 use Rattle.rules.specs.Bytes.{decode}
 use Rattle.rules.specs.Chain.{stretch}
+use Rattle.rules.specs.Sound.{lent}
 use Rattle.rules.specs.Room.{vacantSlips, freePieces, newSlip}
 use Rattle.rules.specs.Release.{shared}
 use Rattle.rules.specs.Build.{fresh, taken, built, builtLink, made, underNew}
 use Rattle.rules.specs.Rule.{_⇐_, firstCode, unnamed, want, noView}
-use Rattle.rules.specs.Drop.{shorter}
 use Rattle.rules.specs.Dup.{dupPlan, dupAfter}
+use Rattle.rules.specs.Drop.{shorter}
 use Rattle.rules.specs.Step.{Dup, rule, stateIn, perform}
-use Rattle.rules.proofs.Bytes.{AllBytes}
 use Rattle.rules.proofs.Codes.{first-yes, first-no, first-none}
+use Rattle.rules.proofs.Bytes.{AllBytes}
 use Rattle.layout.specs.declared.Shape.{Shape}
 use Rattle.tables.specs.Shape.{Holds}
-use Rattle.rules.specs.Sound.{lent}
 use Rattle.answer.specs.Result.{resultOf}
 use Rattle.answer.proofs.Perform.{perform-first, perform-slips, perform-pieces, perform-all, changed}
 

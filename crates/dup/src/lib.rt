@@ -11,10 +11,10 @@ ghost use Rattle.kinds.specs.SlipState.{stateOf};
 ghost use Rattle.kinds.specs.Outcome.{numberOf};
 ghost use Rattle.rules.specs.Tables.{slip};
 ghost use Rattle.rules.specs.Bytes.{decode};
+ghost use Rattle.rules.specs.Sound.{lent};
 ghost use Rattle.rules.specs.Rule.{noView};
 ghost use Rattle.rules.specs.Step.{Dup, perform};
 ghost use Rattle.chain.specs.Opened.{Opened};
-ghost use Rattle.rules.specs.Sound.{lent};
 ghost use Rattle.answer.specs.Result.{resultOf, Leaves};
 
 // Gives a new slip the chain of slip `s`; an empty chain needs no piece: a handle duplicated.
@@ -32,12 +32,12 @@ pub fn dup(pool: &mut [u8], shape: Shape, s: SlipNumber) -> Outcome
     }
     let head = chain::head_link(pool, shape, s);
     if head == 0 {
-        return answer::under_new(pool, shape, SlipNumber(t), 0);
+        return build::under_new(pool, shape, SlipNumber(t), 0);
     }
     let f = room::next_free_piece(pool, shape, 0);
     if f == shape.pieces {
         return Outcome::Refused(Refusal::Pieces);
     }
     rest::clone_rest(pool, shape, PieceNumber(head - 1), 0, PieceNumber(f));
-    answer::under_new(pool, shape, SlipNumber(t), f + 1)
+    build::under_new(pool, shape, SlipNumber(t), f + 1)
 }

@@ -7,14 +7,14 @@ use Prim.Native.Nat.{ℕ}
 use Rattle.kinds.specs.declared.Refusal.the-variants.{Torn}
 use Rattle.kinds.specs.Refusal.{refusalCode}
 use Rattle.rules.specs.Basics.{Is}
+use Rattle.rules.specs.Sound.{lent}
 use Rattle.rules.specs.Step.{Result, Audit, Do, rule, done, step}
 use Rattle.rules.proofs.Codes.{first-none}
 use Rattle.rules.proofs.Step.{step-torn, step-sound-pool}
-use Rattle.answer.proofs.Perform.{perform-none}
 use Rattle.audit.specs.declared.Audited.{Audited}
 use Rattle.audit.specs.Verdict.{Verdict}
 use Rattle.audit.proofs.Laws.{verdict-torn, verdict-is}
-use Rattle.rules.specs.Sound.{lent}
+use Rattle.answer.proofs.Perform.{perform-none}
 
 module _ {p : List ℕ} (st : List ℕ) {r : Audited} (v : Verdict p (length st) r) where
   pub code-torn : r .sound ≡ false → refusalCode Torn ≡ step (Do Audit) (lent p st) .code

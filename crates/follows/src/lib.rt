@@ -3,9 +3,9 @@ use kinds::Refusal;
 ghost use mathlib.Core.Path.{_≡_};
 ghost use Prim.Native.Nat.{_≤_};
 ghost use Rattle.rules.specs.Bytes.{piecesIn};
+ghost use Rattle.rules.specs.Sound.{lent};
 ghost use Rattle.rules.specs.Step.{Audit, Do, step};
 ghost use Rattle.audit.specs.Follows.{auditFollows};
-ghost use Rattle.rules.specs.Sound.{lent};
 
 // An audit's code, and how often it followed next: also where the pool is torn.
 #[repr(C)]

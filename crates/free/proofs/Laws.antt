@@ -9,19 +9,19 @@ use Rattle.kinds.specs.declared.Outcome.the-variants.{Done, Refused}
 use Rattle.rules.specs.Basics.{Is}
 use Rattle.rules.specs.Tables.{vacant}
 use Rattle.rules.specs.Bytes.{decode}
+use Rattle.rules.specs.Sound.{lent}
 use Rattle.rules.specs.Rule.{_⇐_, unnamed, want, noView}
 use Rattle.rules.specs.Free.{freeAfter}
 use Rattle.rules.specs.Step.{Free, rule, stateIn, perform}
-use Rattle.rules.proofs.Bytes.{AllBytes}
-use Rattle.rules.proofs.Codes.{first-yes, first-no, first-none}
 use Rattle.rules.proofs.Release.{turned-storage}
+use Rattle.rules.proofs.Codes.{first-yes, first-no, first-none}
+use Rattle.rules.proofs.Bytes.{AllBytes}
 use Rattle.layout.specs.declared.Shape.{Shape}
 use Rattle.tables.specs.Shape.{Holds}
-use Rattle.release.specs.Release.{turnedTo}
-use Rattle.release.proofs.Laws.{turned-tables}
-use Rattle.rules.specs.Sound.{lent}
 use Rattle.answer.specs.Result.{resultOf}
 use Rattle.answer.proofs.Perform.{perform-first, perform-none, changed}
+use Rattle.release.specs.Release.{turnedTo}
+use Rattle.release.proofs.Laws.{turned-tables}
 
 module _ (p st : List ℕ) (s : ℕ) where
   -- a slip past the last, or vacant

@@ -16,35 +16,35 @@ use Rattle.rules.specs.Chain.{State, Stretch, follow, spans, lengthOf, stretche
 use Rattle.rules.specs.Sound.{linkOk, lent}
 use Rattle.rules.specs.Room.{freePieces}
 use Rattle.rules.specs.Build.{built, builtLink, behindOwn}
-use Rattle.rules.specs.Keep.{kept, keptOwn, keptNotOwn, shortened, keptBy, keepAfter}
 use Rattle.rules.specs.Rule.{_⇐_, firstCode, unnamed, want, noView}
+use Rattle.rules.specs.Keep.{kept, keptOwn, keptNotOwn, shortened, keptBy, keepAfter}
 use Rattle.rules.specs.Step.{Keep, rule, stateIn, perform}
 use Rattle.rules.proofs.Logic.{if-T, if-F, eq→eqb}
 use Rattle.rules.proofs.Moves.{SoundNow, reorder}
-use Rattle.rules.proofs.Audit.{tables-now}
-use Rattle.rules.proofs.Bytes.{AllBytes}
 use Rattle.rules.proofs.Build.{Good, OwnList, own-pieces, own-list-still, built-kept, built-sound}
-use Rattle.rules.proofs.Chain.{spans-good, good-drop, built-own}
-use Rattle.rules.proofs.Codes.{first-yes, first-no, first-none}
-use Rattle.rules.proofs.Hang.{own-front, own-short}
-use Rattle.rules.proofs.Keep.{shortened-ok, kept-good, kept-storage}
 use Rattle.rules.proofs.Room.{free-pieces}
+use Rattle.rules.proofs.Chain.{spans-good, good-drop, built-own}
+use Rattle.rules.proofs.Hang.{own-front, own-short}
+use Rattle.rules.proofs.Audit.{tables-now}
+use Rattle.rules.proofs.Codes.{first-yes, first-no, first-none}
+use Rattle.rules.proofs.Keep.{shortened-ok, kept-good, kept-storage}
+use Rattle.rules.proofs.Bytes.{AllBytes}
 use Rattle.layout.specs.declared.Shape.{Shape}
 use Rattle.tables.specs.Shape.{Holds}
 use Rattle.tables.proofs.Laws.{whole, total-pieces}
-use Rattle.own.specs.declared.OwnPart.{OwnPart}
 use Rattle.chain.specs.declared.Part.{Part}
 use Rattle.chain.specs.Opened.{Opened}
 use Rattle.chain.specs.Length.{stretchesFrom}
-use Rattle.own.specs.Own.{lastLink, ownPart}
 use Rattle.chain.specs.Part.{partOf}
 use Rattle.chain.proofs.Links.{link-leads, link-below}
+use Rattle.own.specs.declared.OwnPart.{OwnPart}
+use Rattle.own.specs.Own.{lastLink, ownPart}
 use Rattle.own.proofs.Own.{OwnLaws, own-laws}
-use Rattle.release.specs.Hang.{Hangable, hungTo}
-use Rattle.release.proofs.Behind.{behind-tables, hangable}
 use Rattle.answer.specs.Result.{resultOf}
 use Rattle.answer.proofs.New.{new-link}
 use Rattle.answer.proofs.Perform.{perform-first, perform-none, perform-pieces, perform-all, changed}
+use Rattle.release.specs.Hang.{Hangable, hungTo}
+use Rattle.release.proofs.Behind.{behind-tables, hangable}
 use Rattle.keep.specs.Shorten.{shortenedBy}
 use Rattle.keep.proofs.Stays.{cut-behind, cut-enough, own-reach, shortened-is}
 

@@ -7,12 +7,12 @@ use native.Mathlib.Omega.{arith}
 use lib.ListN.{length, take, drop}
 use Rattle.rules.specs.Basics.{lastOf}
 use Rattle.rules.specs.Tables.{Tables, piece, setPiece, withPlace}
+use Rattle.rules.specs.Bytes.{decode}
 use Rattle.rules.specs.Chain.{Stretch, stretch, stretches, total, cutOut}
 use Rattle.rules.specs.Keep.{shortened}
 use Rattle.rules.proofs.Build.{Good}
 use Rattle.rules.proofs.Contents.{total-cutOut}
 use Rattle.rules.proofs.Keep.{cut-cons, cut-some}
-use Rattle.rules.specs.Bytes.{decode}
 use Rattle.layout.specs.declared.Shape.{Shape}
 use Rattle.tables.specs.Shape.{Shaped, Holds}
 use Rattle.tables.proofs.Laws.{whole}

@@ -10,11 +10,11 @@ ghost use Prim.Native.Nat.{ℕ, _-_, _≤_};
 ghost use Rattle.kinds.specs.SlipState.{stateOf};
 ghost use Rattle.rules.specs.Tables.{slip, piece};
 ghost use Rattle.rules.specs.Bytes.{decode};
+ghost use Rattle.rules.specs.Sound.{lent};
 ghost use Rattle.rules.specs.Rule.{noView};
 ghost use Rattle.rules.specs.Step.{Keep, perform};
 ghost use Rattle.tables.specs.Shape.{Shaped, Holds};
 ghost use Rattle.chain.specs.Opened.{Opened};
-ghost use Rattle.rules.specs.Sound.{lent};
 ghost use Rattle.answer.specs.Result.{resultOf, Leaves};
 ghost use Rattle.keep.specs.Shorten.{shortenedBy};
 

@@ -7,15 +7,15 @@ use native.Mathlib.Omega.{arith}
 use lib.ListN.{length, getD, take, drop, set, length-append, length-take, length-drop}
 use lib.Seq.{sets-eq, take-at, take-length, drop-append-add, drop-drop}
 use lib.Dec.{ltb, ltb→lt, lt→ltb}
-use Rattle.kinds.specs.SlipState.{stateOf}
 use Rattle.kinds.specs.declared.Refusal.the-variants.{Slip, Narrow}
 use Rattle.kinds.specs.declared.Outcome.{Outcome}
 use Rattle.kinds.specs.declared.Outcome.the-variants.{Done}
+use Rattle.kinds.specs.SlipState.{stateOf}
 use Rattle.rules.specs.Basics.{Is}
 use Rattle.rules.specs.Tables.{Tables, slip, piece, headOf}
+use Rattle.rules.specs.Bytes.{decode, encode}
 use Rattle.rules.specs.Chain.{Stretch, follow, stretch, positionOf, spans}
 use Rattle.rules.specs.Sound.{linkOk, SoundTables, lent}
-use Rattle.rules.specs.Bytes.{decode, encode}
 use Rattle.rules.specs.Rule.{_⇐_, unnamed, noView}
 use Rattle.rules.specs.Read.{copied}
 use Rattle.rules.specs.List.{records}
@@ -23,13 +23,13 @@ use Rattle.rules.specs.Step.{WireList, rule, done, perform}
 use Rattle.rules.proofs.Logic.{if-T, if-F, if-either, not-less}
 use Rattle.rules.proofs.Codes.{first-yes, first-no, first-none}
 use Rattle.rules.proofs.List.{records-length}
-use Rattle.answer.proofs.Perform.{perform-first, perform-none}
 use Rattle.chain.specs.Length.{stretchesFrom}
+use Rattle.chain.proofs.Links.{InUse, link-leads, stretches-none, stretches-on}
+use Rattle.answer.specs.Result.{resultOf, Leaves}
+use Rattle.answer.proofs.Perform.{perform-first, perform-none}
 use Rattle.list.specs.declared.Begun.{Begun}
 use Rattle.list.specs.Begin.{nothing, begun}
 use Rattle.list.specs.Record.{recordOf}
-use Rattle.answer.specs.Result.{resultOf, Leaves}
-use Rattle.chain.proofs.Links.{InUse, link-leads, stretches-none, stretches-on}
 use Rattle.list.proofs.Reached.{follow-start, follow-more, reached, reached-good, reached-piece, reached-next}
 
 -- ---- one record more

@@ -12,11 +12,11 @@ use Rattle.kinds.specs.declared.Outcome.the-variants.{Done, Refused}
 use Rattle.rules.specs.Basics.{Is}
 use Rattle.rules.specs.Bytes.{decode, encode}
 use Rattle.rules.specs.Chain.{lengthOf, reads}
+use Rattle.rules.specs.Sound.{lent}
 use Rattle.rules.specs.Rule.{_⇐_, unnamed, noView}
 use Rattle.rules.specs.Read.{copied}
 use Rattle.rules.specs.Step.{Length, Read, rule, stateIn, done, perform}
 use Rattle.rules.proofs.Codes.{first-yes, first-no, first-none}
-use Rattle.rules.specs.Sound.{lent}
 use Rattle.answer.specs.Result.{resultOf}
 use Rattle.answer.proofs.Perform.{perform-first, perform-none}
 

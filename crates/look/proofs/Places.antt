@@ -7,40 +7,40 @@ use native.Mathlib.Decide.{ℕ-discrete}
 use native.Mathlib.Omega.{arith}
 use lib.ListN.{length, take}
 use lib.Dec.{T-not, not-T, eqb, eqb→eq, ltb, ltb→lt, lt→ltb, leb, leb→le, le→leb}
-use Rattle.kinds.specs.Limits.{bufferSize}
-use Rattle.kinds.specs.SlipState.{stateOf}
-use Rattle.kinds.specs.Outcome.{codeOf}
 use Rattle.kinds.specs.declared.Refusal.{Refusal}
 use Rattle.kinds.specs.declared.Refusal.the-variants.{Slip, Long, Range, Narrow}
 use Rattle.kinds.specs.declared.Outcome.{Outcome}
 use Rattle.kinds.specs.declared.Outcome.the-variants.{Done, Refused}
-use Rattle.rules.specs.Layout.{storageLength}
+use Rattle.kinds.specs.Limits.{bufferSize}
+use Rattle.kinds.specs.SlipState.{stateOf}
+use Rattle.kinds.specs.Outcome.{codeOf}
 use Rattle.rules.specs.Basics.{Is, if_then_else_}
+use Rattle.rules.specs.Layout.{storageLength}
 use Rattle.rules.specs.Tables.{Tables, slip, piece, bufferTotal}
 use Rattle.rules.specs.Bytes.{decode, encode}
 use Rattle.rules.specs.Chain.{Stretch, stretch, spans, total, firstLength, lengthOf, positionOf, reads}
+use Rattle.rules.specs.Sound.{linkOk, SoundTables, Lent, lent}
 use Rattle.rules.specs.Rule.{_⇐_, unnamed, View, noView, codeIn}
 use Rattle.rules.specs.Read.{copied}
 use Rattle.rules.specs.Show.{scattered, viewOf}
 use Rattle.rules.specs.Step.{Operation, Show, rule, Result, stateIn, done, perform}
 use Rattle.rules.specs.After.{seen}
-use Rattle.rules.specs.Sound.{linkOk, SoundTables, Lent, lent}
 use Rattle.rules.proofs.Logic.{if-T, if-F, if-either, and-intro, and-0, and-1, eq→eqb}
 use Rattle.rules.proofs.Build.{Good}
 use Rattle.rules.proofs.Contents.{Fit}
-use Rattle.rules.proofs.Codes.{first-yes, first-no, first-none, allowed}
 use Rattle.rules.proofs.Audit.{tables-now}
-use Rattle.rules.proofs.Step.{perform-done, perform-no}
+use Rattle.rules.proofs.Codes.{first-yes, first-no, first-none, allowed}
 use Rattle.rules.proofs.Show.{show-seen}
+use Rattle.rules.proofs.Step.{perform-done, perform-no}
+use Rattle.chain.specs.Length.{stretchesFrom}
 use Rattle.chain.proofs.Links.{stretches-none, stretches-on}
+use Rattle.answer.specs.Result.{resultOf}
+use Rattle.answer.proofs.Perform.{perform-first, perform-none}
 use Rattle.look.specs.declared.Place.{Place}
 use Rattle.look.specs.declared.Place.the-variants.{Storage, Scratch}
-use Rattle.look.specs.Place.{viewAt, partAt, Lies}
-use Rattle.chain.specs.Length.{stretchesFrom}
-use Rattle.answer.specs.Result.{resultOf}
 use Rattle.look.specs.declared.Shown.{Shown}
+use Rattle.look.specs.Place.{viewAt, partAt, Lies}
 use Rattle.look.specs.Show.{Seen}
-use Rattle.answer.proofs.Perform.{perform-first, perform-none}
 
 -- ---- whether the first piece has the bytes
 

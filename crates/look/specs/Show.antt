@@ -6,11 +6,11 @@ use Rattle.kinds.specs.SlipState.{stateOf}
 use Rattle.kinds.specs.Outcome.{numberOf}
 use Rattle.rules.specs.Tables.{slip}
 use Rattle.rules.specs.Bytes.{decode}
+use Rattle.rules.specs.Sound.{lent}
 use Rattle.rules.specs.Step.{Show, perform}
+use Rattle.answer.specs.Result.{resultOf, Leaves}
 use Rattle.look.specs.declared.Shown.{Shown}
 use Rattle.look.specs.Place.{viewAt, Lies}
-use Rattle.rules.specs.Sound.{lent}
-use Rattle.answer.specs.Result.{resultOf, Leaves}
 
 -- the answer r of show s, n in a pool and storage, with the scratch before and after: it is the
 -- rule's, the bytes that it shows are there, and the slip keeps its state

@@ -7,11 +7,11 @@ use native.Mathlib.Omega.{arith}
 use lib.ListN.{length, take}
 use lib.Dec.{eqb, leb}
 use borrow.Author.Tests.{eq-eqb, ne-eqb, le-leb, lt-leb}
-use Rattle.kinds.specs.Limits.{mostPieces}
 use Rattle.kinds.specs.declared.SlipState.{SlipState}
 use Rattle.kinds.specs.declared.Refusal.the-variants.{Slip, Pieces, Buffers}
 use Rattle.kinds.specs.declared.Outcome.{Outcome}
 use Rattle.kinds.specs.declared.Outcome.the-variants.{Done, Refused}
+use Rattle.kinds.specs.Limits.{mostPieces}
 use Rattle.rules.specs.Basics.{Is}
 use Rattle.rules.specs.Layout.{storageLength}
 use Rattle.rules.specs.Tables.{Tables, piece, headOf, holding, pieceTotal, bufferTotal}
@@ -24,26 +24,26 @@ use Rattle.rules.specs.Rule.{_⇐_, firstCode, unnamed, Wants, want, noView}
 use Rattle.rules.specs.Pack.{packAfter, packWants}
 use Rattle.rules.specs.Step.{Pack, rule, stateIn, perform}
 use Rattle.rules.proofs.Logic.{if-T, if-F}
-use Rattle.rules.proofs.Audit.{tables-now}
-use Rattle.rules.proofs.Bytes.{AllBytes}
 use Rattle.rules.proofs.Build.{plan-built, plain-planned}
-use Rattle.rules.proofs.Codes.{first-yes, first-no, first-none}
-use Rattle.rules.proofs.Contents.{Fit}
-use Rattle.rules.proofs.Put.{new-good}
 use Rattle.rules.proofs.Room.{free-pieces}
+use Rattle.rules.proofs.Contents.{Fit}
+use Rattle.rules.proofs.Audit.{tables-now}
+use Rattle.rules.proofs.Codes.{first-yes, first-no, first-none}
 use Rattle.rules.proofs.Sizes.{old-storage}
+use Rattle.rules.proofs.Put.{new-good}
+use Rattle.rules.proofs.Bytes.{AllBytes}
 use Rattle.layout.specs.declared.Shape.{Shape}
 use Rattle.tables.specs.Shape.{Holds}
 use Rattle.tables.proofs.Laws.{whole, total-pieces, total-buffers}
 use Rattle.chain.specs.Opened.{Opened}
 use Rattle.chain.specs.Length.{stretchesFrom}
 use Rattle.chain.proofs.Links.{walk-none, walk-on, walk-less, link-leads}
-use Rattle.release.specs.Release.{Releasable, turnedTo}
-use Rattle.release.proofs.Laws.{turned-tables}
-use Rattle.transfer.proofs.Afresh.{bytes-all}
 use Rattle.answer.specs.Result.{resultOf}
 use Rattle.answer.proofs.New.{new-link}
 use Rattle.answer.proofs.Perform.{perform-first, perform-none, perform-pieces, perform-buffers, perform-all, changed}
+use Rattle.release.specs.Release.{Releasable, turnedTo}
+use Rattle.release.proofs.Laws.{turned-tables}
+use Rattle.transfer.proofs.Afresh.{bytes-all}
 
 -- ---- whether a chain has more than one piece
 

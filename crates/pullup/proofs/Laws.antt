@@ -5,25 +5,25 @@ use Prim.Native.Nat.{ℕ, suc, _≤_, _<_}
 use native.Mathlib.Omega.{arith}
 use lib.ListN.{length}
 use lib.Dec.{ltb, ltb→lt, lt→ltb, leb, leb→le}
-use Rattle.kinds.specs.Limits.{bufferSize}
 use Rattle.kinds.specs.declared.SlipState.{SlipState}
 use Rattle.kinds.specs.declared.Refusal.the-variants.{Slip, Long, Range, Pieces, Buffers}
 use Rattle.kinds.specs.declared.Outcome.{Outcome}
 use Rattle.kinds.specs.declared.Outcome.the-variants.{Done, Refused}
+use Rattle.kinds.specs.Limits.{bufferSize}
 use Rattle.rules.specs.Basics.{Is}
 use Rattle.rules.specs.Bytes.{decode}
 use Rattle.rules.specs.Chain.{State, spans, firstLength, lengthOf}
+use Rattle.rules.specs.Sound.{lent}
 use Rattle.rules.specs.Room.{freePieces, freeBuffers}
 use Rattle.rules.specs.Rule.{_⇐_, firstCode, unnamed, Wants, want, noView}
 use Rattle.rules.specs.Drop.{dropped}
 use Rattle.rules.specs.Pullup.{pullupAfter, pullupWants}
 use Rattle.rules.specs.Step.{Pullup, rule, stateIn, perform}
 use Rattle.rules.proofs.Logic.{if-T, if-F}
-use Rattle.rules.proofs.Bytes.{AllBytes}
 use Rattle.rules.proofs.Codes.{first-yes, first-no, first-none}
+use Rattle.rules.proofs.Bytes.{AllBytes}
 use Rattle.layout.specs.declared.Shape.{Shape}
 use Rattle.tables.specs.Shape.{Shaped}
-use Rattle.rules.specs.Sound.{lent}
 use Rattle.answer.specs.Result.{resultOf}
 use Rattle.answer.proofs.Perform.{perform-first, perform-none, perform-pieces, perform-buffers, perform-all, changed}
 use Rattle.pullup.specs.Pull.{Pulled}

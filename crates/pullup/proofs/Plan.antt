@@ -18,23 +18,23 @@ use Rattle.rules.specs.Room.{isFree, isUnheld, freePieces, freeBuffers, newBuff
 use Rattle.rules.specs.Build.{fresh, taken, built, builtLink, Plan, made, madeLink, underOld, buffersFor, laid, stored}
 use Rattle.rules.specs.Pullup.{pulled, pullupAfter}
 use Rattle.rules.proofs.Logic.{if-F}
-use Rattle.rules.proofs.Audit.{tables-now}
 use Rattle.rules.proofs.Build.{Free, Planned, plain-planned, plan-built}
-use Rattle.rules.proofs.Drop.{drop-here}
 use Rattle.rules.proofs.Room.{free-pieces}
+use Rattle.rules.proofs.Audit.{tables-now}
 use Rattle.rules.proofs.Sizes.{old-storage}
+use Rattle.rules.proofs.Drop.{drop-here}
 use Rattle.layout.specs.declared.Shape.{Shape}
 use Rattle.tables.specs.Shape.{Holds}
 use Rattle.tables.proofs.Laws.{total-pieces, onward}
 use Rattle.chain.specs.declared.Spot.{Spot}
 use Rattle.chain.specs.Length.{stretchesFrom}
-use Rattle.chain.specs.Rest.{restFrom}
 use Rattle.chain.proofs.Links.{link-leads}
-use Rattle.chain.proofs.Spots.{dropped-at}
 use Rattle.room.specs.Free.{firstFrom, lowestFor}
 use Rattle.room.proofs.Free.{lowest-some, piece-first, no-piece, first-lies, buffer-first}
 use Rattle.build.proofs.Laws.{buffer-room}
 use Rattle.build.proofs.Line.{freeFrom}
+use Rattle.rest.specs.Rest.{restFrom}
+use Rattle.rest.proofs.Dropped.{dropped-at}
 use Rattle.transfer.proofs.Fill.{for-one}
 use Rattle.pullup.specs.Pull.{pulledFrom, Pullable, Pulled}
 

@@ -16,8 +16,8 @@ use Rattle.layout.specs.declared.Shape.{Shape}
 use Rattle.tables.specs.Shape.{Holds}
 use Rattle.chain.specs.declared.Spot.{Spot}
 use Rattle.chain.specs.Find.{spotOf}
-use Rattle.chain.specs.Rest.{restFrom}
 use Rattle.room.specs.Free.{firstFrom}
+use Rattle.rest.specs.Rest.{restFrom}
 
 -- the n bytes of buffer b, before what stays from a place
 abbrev pub pulledFrom : Tables → Spot → ℕ → ℕ → Plan

@@ -22,9 +22,9 @@ ghost use Rattle.rules.specs.Rule.{noView};
 ghost use Rattle.rules.specs.Step.{Pullup, perform};
 ghost use Rattle.tables.specs.Shape.{Holds};
 ghost use Rattle.chain.specs.Opened.{Opened};
-ghost use Rattle.chain.specs.Rest.{restFrom};
 ghost use Rattle.room.specs.Free.{firstFrom};
 ghost use Rattle.answer.specs.Result.{resultOf, Leaves};
+ghost use Rattle.rest.specs.Rest.{restFrom};
 ghost use Rattle.pullup.specs.Pull.{pulledFrom, Pullable, Pulled};
 
 // Makes a first piece for the `n` bytes of buffer `b`, before what stays from the place `at`; answers the link to it: a new head descriptor.

@@ -9,16 +9,16 @@ use Rattle.kinds.specs.declared.Refusal.the-variants.{Slips, Pieces, Buffers}
 use Rattle.kinds.specs.declared.Outcome.{Outcome}
 use Rattle.kinds.specs.declared.Outcome.the-variants.{Done, Refused}
 use Rattle.rules.specs.Bytes.{decode}
+use Rattle.rules.specs.Sound.{lent}
 use Rattle.rules.specs.Room.{vacantSlips, freePieces, freeBuffers, newSlip, newBuffers}
 use Rattle.rules.specs.Build.{plain, underNew, buffersFor, laid, stored}
 use Rattle.rules.specs.Rule.{firstCode, want, noView}
 use Rattle.rules.specs.Put.{putAfter}
 use Rattle.rules.specs.Step.{Put, rule, stateIn, perform}
-use Rattle.rules.proofs.Bytes.{AllBytes}
 use Rattle.rules.proofs.Codes.{first-none}
+use Rattle.rules.proofs.Bytes.{AllBytes}
 use Rattle.layout.specs.declared.Shape.{Shape}
 use Rattle.tables.specs.Shape.{Holds}
-use Rattle.rules.specs.Sound.{lent}
 use Rattle.answer.specs.Result.{resultOf}
 use Rattle.answer.proofs.Perform.{perform-slips, perform-pieces, perform-buffers, perform-all, changed}
 

@@ -11,10 +11,10 @@ ghost use Rattle.kinds.specs.Outcome.{numberOf};
 ghost use Rattle.rules.specs.Layout.{storageLength};
 ghost use Rattle.rules.specs.Tables.{slip};
 ghost use Rattle.rules.specs.Bytes.{decode};
+ghost use Rattle.rules.specs.Sound.{lent};
 ghost use Rattle.rules.specs.Rule.{noView};
 ghost use Rattle.rules.specs.Step.{Put, perform};
 ghost use Rattle.chain.specs.Opened.{Opened};
-ghost use Rattle.rules.specs.Sound.{lent};
 ghost use Rattle.answer.specs.Result.{resultOf, Leaves};
 
 // Puts `input` into fresh pieces on fresh buffers, each full but the last, under a new slip: a chain made from bytes.
@@ -46,5 +46,5 @@ pub fn put(pool: &mut [u8], shape: Shape, storage: &mut [u8], input: &[u8]) -> O
         pieces.lowest,
         buffers.lowest,
     );
-    answer::under_new(pool, shape, SlipNumber(t), first)
+    build::under_new(pool, shape, SlipNumber(t), first)
 }

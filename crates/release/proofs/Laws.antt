@@ -7,8 +7,8 @@ use lib.ListN.{length}
 use lib.Dec.{lt→ltb}
 use Rattle.rules.specs.Basics.{Is, if_then_else_, sumTo}
 use Rattle.rules.specs.Tables.{Tables, blank, slip, piece, bufferCount, headOf, slipTotal, pieceTotal, setSlip, setPiece, setPieceCount, withCount, withNext, setCount}
-use Rattle.rules.specs.Chain.{State, withTables}
 use Rattle.rules.specs.Bytes.{decode}
+use Rattle.rules.specs.Chain.{State, withTables}
 use Rattle.rules.specs.Release.{lowered, another, freed, releaseIn, release, turned, relinked}
 use Rattle.rules.proofs.Logic.{if-T, if-F, if-either, if-both}
 use Rattle.rules.proofs.Moves.{SoundBy, SoundWith, in-range, used-in-range, sum-set, reorder, slip-move, lower-move, buffer-pos, freedTables, free-move}

@@ -7,9 +7,9 @@ use lib.ListN.{length, List·getD-eq-default}
 use lib.Dec.{eqb→eq}
 use Rattle.kinds.specs.declared.Answer.{Answer}
 use Rattle.rules.proofs.Logic.{if-T, if-F, eq→eqb}
-use Rattle.reply.specs.declared.Reply.{Reply}
 use Rattle.page.specs.Page.{ascii}
 use Rattle.page.specs.Digits.{tagged}
+use Rattle.reply.specs.declared.Reply.{Reply}
 use Rattle.reply.specs.Text.{names, nameText, doneText, answerText}
 
 pub answer-done : (k : Reply) (a : Answer) → a .code ≡ 0 → doneText k (a .number) ≡ answerText k a

@@ -4,8 +4,8 @@ use Prim.Native.Nat.{ℕ}
 use Prim.Native.String.{String}
 use lib.ListN.{getD}
 use lib.Dec.{eqb}
-use Rattle.rules.specs.Basics.{if_then_else_}
 use Rattle.kinds.specs.declared.Answer.{Answer}
+use Rattle.rules.specs.Basics.{if_then_else_}
 use Rattle.page.specs.Page.{ascii}
 use Rattle.page.specs.Digits.{tagged}
 use Rattle.reply.specs.declared.Reply.{Reply}

@@ -1,2 +1,3 @@
 -- The laws of rest.
 pub mod Rest
+pub mod Dropped

@@ -9,8 +9,8 @@ use lib.ListN.{length}
 use lib.Seq.{getD-set-same}
 use Rattle.rules.specs.Basics.{if_then_else_}
 use Rattle.rules.specs.Tables.{Piece, Tables, blank, piece, bufferCount, pieceTotal, setPiece, withCount, withPlace}
-use Rattle.rules.specs.Chain.{Stretch, stretch}
 use Rattle.rules.specs.Bytes.{decode}
+use Rattle.rules.specs.Chain.{Stretch, stretch}
 use Rattle.rules.specs.Room.{isFree}
 use Rattle.rules.specs.Release.{raised, shared}
 use Rattle.rules.specs.Build.{fresh, taken, built, builtLink, Plan, plain, made, madeLink}
@@ -18,9 +18,9 @@ use Rattle.rules.specs.Drop.{shorter, dropHere}
 use Rattle.layout.specs.declared.Shape.{Shape}
 use Rattle.tables.specs.Shape.{Holds}
 use Rattle.tables.proofs.Laws.{onward}
-use Rattle.chain.specs.Rest.{restFrom}
 use Rattle.room.specs.Free.{firstFrom}
 use Rattle.build.proofs.Line.{First, freeFrom, from-first}
+use Rattle.rest.specs.Rest.{restFrom}
 
 -- ---- the plan
 

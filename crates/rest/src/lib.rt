@@ -15,9 +15,9 @@ ghost use Rattle.rules.specs.Build.{taken, fresh, made, madeLink};
 ghost use Rattle.rules.specs.Drop.{shorter};
 ghost use Rattle.tables.specs.Shape.{Shaped, Holds};
 ghost use Rattle.chain.specs.Opened.{Opened};
-ghost use Rattle.chain.specs.Rest.{restFrom};
 ghost use Rattle.build.specs.Share.{Sharable};
 ghost use Rattle.build.specs.Clone.{Copyable};
+ghost use Rattle.rest.specs.Rest.{restFrom};
 
 // Piece `d` gets one reference more and loses its first `n` bytes: a head trimmed in place.
 fn shorten(pool: &mut [u8], shape: Shape, d: PieceNumber, n: u16)

@@ -7,12 +7,12 @@ use Prim.Native.Nat.{ℕ, _≤_, _<_}
 use Rattle.kinds.specs.declared.Refusal.the-variants.{Counts, Torn, Slips, Pieces, Buffers}
 use Rattle.kinds.specs.Refusal.{refusalCode}
 use Rattle.rules.specs.Bytes.{decode}
+use Rattle.rules.specs.Chain.{withTables}
 use Rattle.rules.specs.Sound.{Lent, sound}
 use Rattle.rules.specs.Rule.{Wants, want, _⇐_, firstCode}
 use Rattle.rules.specs.Open.{openable}
 use Rattle.rules.specs.Step.{Call, Open, Do, rule, step, stateIn, next, afterCalls}
 use Rattle.rules.specs.Recount.{Recount, recounted, leaves}
-use Rattle.rules.specs.Chain.{withTables}
 
 -- the code judged before room, or 0
 unfoldable pub early : Call → Lent → ℕ

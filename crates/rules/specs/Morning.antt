@@ -5,8 +5,8 @@ use Prim.Native.Nat.{ℕ, zero, suc, _-_, _%_}
 use lib.ListN.{length, replicate}
 use Rattle.rules.specs.Tables.{Piece, Tables, blank, freshTables, pieceTotal}
 use Rattle.rules.specs.Bytes.{decode, encode}
-use Rattle.rules.specs.Sound.{Lent, lent}
 use Rattle.rules.specs.Chain.{reads}
+use Rattle.rules.specs.Sound.{Lent, lent}
 use Rattle.rules.specs.Room.{freePieces}
 use Rattle.rules.specs.Step.{Do, Operation, Put, Free, Dup, Cut, Append, Drop, Keep, Pullup, Pack, step, stateIn, afterCalls, leftBy}
 

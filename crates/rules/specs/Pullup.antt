@@ -4,15 +4,15 @@ use mathlib.Core.List.{[], _∷_, _++_}
 use Prim.Native.Nat.{ℕ, suc}
 use lib.ListN.{length, take}
 use lib.Dec.{ltb, leb}
-use Rattle.kinds.specs.Limits.{bufferSize}
 use Rattle.kinds.specs.declared.Refusal.the-variants.{Slip, Long, Range}
+use Rattle.kinds.specs.Limits.{bufferSize}
 use Rattle.rules.specs.Basics.{if_then_else_}
 use Rattle.rules.specs.Tables.{Tables}
 use Rattle.rules.specs.Chain.{State, spans, firstLength, lengthOf, reads, withStorage}
 use Rattle.rules.specs.Room.{freePieces, newBuffers}
 use Rattle.rules.specs.Build.{Plan, underOld, laid, stored}
-use Rattle.rules.specs.Drop.{dropped}
 use Rattle.rules.specs.Rule.{Rule, _⇐_, unnamed, Wants, want, alters, Meaning, means, reading}
+use Rattle.rules.specs.Drop.{dropped}
 
 -- n bytes on a new buffer, before what drop of n leaves
 abbrev pub pulled : Tables → ℕ → ℕ → Plan

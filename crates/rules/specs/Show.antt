@@ -4,8 +4,8 @@ use mathlib.Core.List.{List, [], _∷_}
 use Prim.Native.Nat.{ℕ}
 use lib.ListN.{length, take}
 use lib.Dec.{ltb, leb, eqb}
-use Rattle.kinds.specs.Limits.{bufferSize}
 use Rattle.kinds.specs.declared.Refusal.the-variants.{Slip, Long, Range, Narrow}
+use Rattle.kinds.specs.Limits.{bufferSize}
 use Rattle.rules.specs.Basics.{if_then_else_}
 use Rattle.rules.specs.Chain.{State, Stretch, spans, firstLength, lengthOf, positionOf, reads}
 use Rattle.rules.specs.Rule.{Rule, _⇐_, unnamed, want, View, noView, Meaning, looks}

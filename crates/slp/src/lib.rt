@@ -5,6 +5,7 @@ use kinds::Answer;
 use list::Stretch;
 ghost use mathlib.Core.Path.{_≡_};
 ghost use mathlib.Core.List.{[]};
+ghost use Rattle.rules.specs.Sound.{lent};
 ghost use Rattle.rules.specs.Rule.{noView};
 ghost use Rattle.rules.specs.Gather.{gather};
 ghost use Rattle.rules.specs.Step.{Audit, Put, Free, Dup, Cut, Append, Drop, Keep, Pullup, Pack, Length, Read, Show, WireList, Open, Do, step};
@@ -12,7 +13,6 @@ ghost use Rattle.gather.specs.Sum.{gatheredOf};
 ghost use Rattle.calls.specs.Result.{resultOf};
 ghost use Rattle.calls_look.specs.Shown.{shownOf};
 ghost use Rattle.slp.specs.Numbers.{numbers};
-ghost use Rattle.rules.specs.Sound.{lent};
 
 // open: writes the fresh pool.
 #[no_mangle]

@@ -15,10 +15,10 @@ use Rattle.rules.specs.Basics.{table, Is}
 use Rattle.rules.specs.Layout.{slipAt, pieceAt, countAt, versionAt, buffersAt, piecesAt, slipsAt, headerLength}
 use Rattle.rules.specs.Tables.{Piece, Tables, blank, slip, piece, bufferCount, slipTotal, pieceTotal, bufferTotal, setSlip, setPiece, setCount, withPieces}
 use Rattle.rules.specs.Bytes.{buffersIn, piecesIn, slipsIn, pieceIn, decode, encode}
+use Rattle.rules.specs.Sound.{marked}
 use Rattle.rules.proofs.Bytes.{AllBytes, getD-table, table-same, table-set, decode-slips, decode-pieces, decode-counts, encode-decode}
 use Rattle.layout.specs.declared.Shape.{Shape}
 use Rattle.tables.specs.Shape.{Fits, Shaped, Holds}
-use Rattle.rules.specs.Sound.{marked}
 
 -- ---- the fields of a piece by number: field k stands 2 * k bytes into the entry
 

@@ -3,12 +3,12 @@ use mathlib.Core.Path.{_≡_}
 use mathlib.Core.List.{List}
 use Prim.Native.Nat.{ℕ}
 use lib.ListN.{length}
+use Rattle.rules.specs.Basics.{Is}
 use Rattle.rules.specs.Layout.{poolLength}
 use Rattle.rules.specs.Tables.{Piece, Tables}
 use Rattle.rules.specs.Bytes.{buffersIn, piecesIn, slipsIn, decode}
-use Rattle.layout.specs.declared.Shape.{Shape}
-use Rattle.rules.specs.Basics.{Is}
 use Rattle.rules.specs.Sound.{marked}
+use Rattle.layout.specs.declared.Shape.{Shape}
 
 -- mark, version and length are those of a pool
 pub record Fits (p : List ℕ) : Type 0 where

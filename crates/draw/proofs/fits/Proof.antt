@@ -4,9 +4,9 @@ use mathlib.Core.Bool.{true, false}
 use lib.Dec.{eqb}
 use lib.ListN.{length}
 use borrow.Author.Tests.{le-leb, lt-leb, not-true, not-false}
+use borrow.Author.Needs.{needs}
 use Rattle.rules.specs.Layout.{poolLength, headerLength}
 use Rattle.rules.specs.Sound.{marked}
-use borrow.Author.Needs.{needs}
 use Rattle.draw.proofs.fits.Statement.{statement}
 use Rattle.draw.proofs.fits.Tie as tie
 

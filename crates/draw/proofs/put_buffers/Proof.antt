@@ -3,15 +3,15 @@ use mathlib.Core.Path.{_≡_, refl, _∙_, ap}
 use Prim.Native.Nat.{ℕ, _-_, _≤_}
 use native.Mathlib.Omega.{arith}
 use lib.ListN.{length}
+use borrow.Author.Needs.{needs}
 use Rattle.rules.specs.Tables.{bufferTotal}
 use Rattle.rules.specs.Bytes.{decode}
 use Rattle.tables.proofs.Laws.{whole, total-buffers}
 use Rattle.page.specs.Page.{page, Wrote}
 use Rattle.page.proofs.Page.{none, on, same, kept}
 use Rattle.draw_slips.specs.Text.{upTo}
-use Rattle.draw.specs.Text.{bufferText}
 use Rattle.draw_slips.proofs.Text.{up-none, up-on}
-use borrow.Author.Needs.{needs}
+use Rattle.draw.specs.Text.{bufferText}
 use Rattle.draw.proofs.put_buffers.Statement.{statement}
 use Rattle.draw.proofs.put_buffers.Tie as tie
 

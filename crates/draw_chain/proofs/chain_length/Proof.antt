@@ -1,9 +1,9 @@
 -- `draw_chain::chain_length` meets its contract. Assumes nothing.
 use mathlib.Core.Path.{sym, _∙_}
+use borrow.Author.Needs.{needs}
 use Rattle.rules.specs.Bytes.{decode}
 use Rattle.rules.specs.Chain.{walk, stretches, total}
 use Rattle.tables.proofs.Laws.{whole, total-pieces}
-use borrow.Author.Needs.{needs}
 use Rattle.draw_chain.proofs.chain_length.Statement.{statement}
 use Rattle.draw_chain.proofs.chain_length.Tie as tie
 

@@ -3,10 +3,10 @@ use mathlib.Core.Path.{sym}
 use Prim.Native.Nat.{_≤_}
 use lib.ListN.{List·getD-eq-default}
 use native.Mathlib.Omega.{arith}
+use borrow.Author.Needs.{needs}
 use Rattle.rules.specs.Tables.{blank, pieceTotal}
 use Rattle.rules.specs.Bytes.{decode}
 use Rattle.tables.proofs.Laws.{whole, total-pieces}
-use borrow.Author.Needs.{needs}
 use Rattle.draw_chain.proofs.entry.Statement.{statement}
 use Rattle.draw_chain.proofs.entry.Tie as tie
 

@@ -2,11 +2,11 @@
 use mathlib.Core.Path.{_≡_, ap}
 use Prim.Native.Nat.{_+_, _-_, _*_, _≤_}
 use native.Mathlib.Omega.{arith}
+use borrow.Author.Needs.{needs}
 use Rattle.rules.specs.Tables.{Piece}
 use Rattle.rules.specs.Bytes.{decode}
 use Rattle.rules.specs.Chain.{walk, stretches, total}
 use Rattle.chain.proofs.Links.{length-none, length-empty, length-first}
-use borrow.Author.Needs.{needs}
 use Rattle.draw_chain.proofs.length_from.Statement.{statement}
 use Rattle.draw_chain.proofs.length_from.Tie as tie
 

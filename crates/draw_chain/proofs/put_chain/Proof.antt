@@ -2,6 +2,7 @@
 use mathlib.Core.Path.{sym, _∙_, ap}
 use Prim.Native.Nat.{ℕ, _-_}
 use mathlib.Core.List.{_++_}
+use borrow.Author.Needs.{needs}
 use Rattle.rules.specs.Tables.{Piece, pieceTotal}
 use Rattle.rules.specs.Bytes.{decode}
 use Rattle.rules.specs.Chain.{walk}
@@ -9,7 +10,6 @@ use Rattle.tables.proofs.Laws.{whole, total-pieces}
 use Rattle.page.proofs.Page.{none, on, same}
 use Rattle.draw_chain.specs.Text.{pieceText, restText, chainText}
 use Rattle.draw_chain.proofs.Text.{chain-none, chain-end, chain-on}
-use borrow.Author.Needs.{needs}
 use Rattle.draw_chain.proofs.put_chain.Statement.{statement}
 use Rattle.draw_chain.proofs.put_chain.Tie as tie
 

@@ -1,6 +1,6 @@
 -- `draw_chain::put_joined` meets its contract. Assumes nothing.
-use Rattle.page.proofs.Page.{on}
 use borrow.Author.Needs.{needs}
+use Rattle.page.proofs.Page.{on}
 use Rattle.draw_chain.proofs.put_joined.Statement.{statement}
 use Rattle.draw_chain.proofs.put_joined.Tie as tie
 

@@ -1,6 +1,6 @@
 -- `draw_chain::put_piece` meets its contract. Assumes nothing.
-use Rattle.page.proofs.Page.{on, kept}
 use borrow.Author.Needs.{needs}
+use Rattle.page.proofs.Page.{on, kept}
 use Rattle.draw_chain.proofs.put_piece.Statement.{statement}
 use Rattle.draw_chain.proofs.put_piece.Tie as tie
 

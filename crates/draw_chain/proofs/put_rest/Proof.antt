@@ -4,8 +4,8 @@ use Prim.Native.Nat.{_-_}
 use mathlib.Core.List.{_++_}
 use native.Mathlib.Omega.{arith}
 use lib.ListN.{length}
-use Rattle.rules.specs.Bytes.{decode}
 use Rattle.rules.specs.Tables.{Piece}
+use Rattle.rules.specs.Bytes.{decode}
 use Rattle.rules.specs.Chain.{walk}
 use Rattle.page.specs.Page.{Page, page, Wrote}
 use Rattle.page.proofs.Page.{none, on, same}

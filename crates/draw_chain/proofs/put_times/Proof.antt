@@ -1,7 +1,7 @@
 -- `draw_chain::put_times` meets its contract. Assumes nothing.
+use borrow.Author.Needs.{needs}
 use Rattle.page.proofs.Page.{none, same}
 use Rattle.draw_chain.proofs.Text.{times-none, times-more}
-use borrow.Author.Needs.{needs}
 use Rattle.draw_chain.proofs.put_times.Statement.{statement}
 use Rattle.draw_chain.proofs.put_times.Tie as tie
 

@@ -1,6 +1,6 @@
 -- `draw_slips::put_length` meets its contract. Assumes nothing.
-use Rattle.page.proofs.Page.{on}
 use borrow.Author.Needs.{needs}
+use Rattle.page.proofs.Page.{on}
 use Rattle.draw_slips.proofs.put_length.Statement.{statement}
 use Rattle.draw_slips.proofs.put_length.Tie as tie
 

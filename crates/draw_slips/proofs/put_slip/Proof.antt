@@ -1,6 +1,6 @@
 -- `draw_slips::put_slip` meets its contract. Assumes nothing.
-use Rattle.page.proofs.Page.{on}
 use borrow.Author.Needs.{needs}
+use Rattle.page.proofs.Page.{on}
 use Rattle.draw_slips.proofs.put_slip.Statement.{statement}
 use Rattle.draw_slips.proofs.put_slip.Tie as tie
 

@@ -1,6 +1,7 @@
 -- `draw_slips::put_state` meets its contract. Assumes nothing.
 use mathlib.Core.Path.{_∙_}
 use mathlib.Core.List.{_++_}
+use borrow.Author.Needs.{needs}
 use Rattle.rules.specs.Tables.{pieceTotal}
 use Rattle.rules.specs.Bytes.{decode}
 use Rattle.rules.specs.Chain.{walk}
@@ -8,7 +9,6 @@ use Rattle.page.proofs.Page.{on, same}
 use Rattle.draw_chain.specs.Text.{chainText}
 use Rattle.draw_slips.specs.Text.{lengthText}
 use Rattle.draw_slips.proofs.Text.{state-vacant, state-empty, state-heads}
-use borrow.Author.Needs.{needs}
 use Rattle.draw_slips.proofs.put_state.Statement.{statement}
 use Rattle.draw_slips.proofs.put_state.Tie as tie
 

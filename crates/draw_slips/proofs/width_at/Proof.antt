@@ -2,10 +2,10 @@
 use mathlib.Core.Path.{_∙_, ap}
 use Prim.Native.Nat.{ℕ}
 use lib.ListN.{length}
+use borrow.Author.Needs.{needs}
 use Rattle.rules.specs.Bytes.{decode}
 use Rattle.page.specs.Digits.{digits}
 use Rattle.draw_slips.proofs.Text.{width-vacant, width-held}
-use borrow.Author.Needs.{needs}
 use Rattle.draw_slips.proofs.width_at.Statement.{statement}
 use Rattle.draw_slips.proofs.width_at.Tie as tie
 

@@ -16,18 +16,19 @@ use Rattle.rules.specs.Room.{isFree, freePieces}
 use Rattle.rules.specs.Build.{Plan, made, madeLink}
 use Rattle.rules.specs.Rule.{unnamed}
 use Rattle.rules.specs.Drop.{dropped}
-use Rattle.rules.proofs.Audit.{tables-now}
 use Rattle.rules.proofs.Build.{Planned}
-use Rattle.rules.proofs.Drop.{dropped-planned}
 use Rattle.rules.proofs.Room.{free-pieces}
+use Rattle.rules.proofs.Audit.{tables-now}
+use Rattle.rules.proofs.Drop.{dropped-planned}
 use Rattle.tables.specs.Shape.{Holds}
 use Rattle.tables.proofs.Laws.{whole, total-slips}
 use Rattle.chain.specs.Find.{pastEnd}
-use Rattle.chain.specs.Rest.{restFrom}
-use Rattle.chain.proofs.Spots.{Found, dropped-at, found-at, past-range}
+use Rattle.chain.proofs.Spots.{Found, found-at, past-range}
 use Rattle.room.proofs.Free.{lowest-all, room-lowest, room-enough}
-use Rattle.release.proofs.Under.{under-asks, under-small, under-done}
 use Rattle.answer.proofs.Perform.{is-unnamed, is-named, named-below}
+use Rattle.release.proofs.Under.{under-asks, under-small, under-done}
+use Rattle.rest.specs.Rest.{restFrom}
+use Rattle.rest.proofs.Dropped.{dropped-at}
 use Rattle.drop.proofs.Laws.{made-dropped, drop-slip, drop-range, drop-pieces, drop-nothing, drop-done}
 use Rattle.drop.proofs.drop_first.Statement.{statement}
 use Rattle.drop.proofs.drop_first.Tie as tie

@@ -11,9 +11,9 @@ use Rattle.rules.specs.Layout.{storageLength}
 use Rattle.rules.specs.Tables.{Tables, headOf, slipTotal}
 use Rattle.rules.specs.Bytes.{decode}
 use Rattle.rules.specs.Chain.{lengthOf}
+use Rattle.rules.specs.Sound.{linkOk}
 use Rattle.rules.specs.Rule.{unnamed}
 use Rattle.rules.specs.Read.{copied}
-use Rattle.rules.specs.Sound.{linkOk}
 use Rattle.tables.proofs.Laws.{whole, total-slips, total-buffers, fits-decode}
 use Rattle.chain.proofs.Spots.{Found, found-at, found-bytes}
 use Rattle.chain.proofs.Parts.{range-short, range-there, first-there}

@@ -11,12 +11,12 @@ use Rattle.rules.specs.Layout.{storageLength}
 use Rattle.rules.specs.Tables.{Tables, bufferTotal}
 use Rattle.rules.specs.Bytes.{decode, encode}
 use Rattle.rules.specs.Chain.{spans, total, firstLength, lengthOf, contents}
+use Rattle.rules.specs.Sound.{linkOk}
 use Rattle.rules.specs.Rule.{unnamed}
 use Rattle.rules.specs.Read.{copied}
 use Rattle.rules.specs.Show.{viewOf}
-use Rattle.rules.specs.Sound.{linkOk}
-use Rattle.rules.proofs.Audit.{tables-now}
 use Rattle.rules.proofs.Chain.{spans-good}
+use Rattle.rules.proofs.Audit.{tables-now}
 use Rattle.tables.proofs.Laws.{whole, total-slips, total-buffers, fits-decode}
 use Rattle.chain.specs.Length.{stretchesFrom}
 use Rattle.chain.proofs.Links.{link-leads}

@@ -20,9 +20,10 @@ use Rattle.rules.proofs.Logic.{not-less}
 use Rattle.tables.proofs.Laws.{whole, total-slips, total-buffers}
 use Rattle.chain.specs.Length.{stretchesFrom}
 use Rattle.chain.specs.Find.{pastEnd}
-use Rattle.chain.proofs.Spots.{dropped-at, past-range}
+use Rattle.chain.proofs.Spots.{past-range}
 use Rattle.room.proofs.Free.{first-lies, no-buffer, buffer-first, lowest-some, room-lowest, room-enough}
 use Rattle.answer.proofs.Perform.{is-unnamed, is-named, named-below}
+use Rattle.rest.proofs.Dropped.{dropped-at}
 use Rattle.pullup.specs.Pull.{Pullable}
 use Rattle.pullup.proofs.Laws.{pullup-slip, pullup-long, pullup-range, pullup-nothing, pullup-pieces, pullup-buffers, pullup-done}
 use Rattle.pullup.proofs.pullup.Statement.{statement}

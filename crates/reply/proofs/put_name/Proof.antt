@@ -1,9 +1,9 @@
 -- `reply::put_name` meets its contract. Assumes nothing.
 use mathlib.Core.Path.{sym, ap}
+use borrow.Author.Needs.{needs}
 use Rattle.page.proofs.Page.{none, same}
 use Rattle.reply.specs.Text.{nameText}
 use Rattle.reply.proofs.Text.{name-none}
-use borrow.Author.Needs.{needs}
 use Rattle.reply.proofs.put_name.Statement.{statement}
 use Rattle.reply.proofs.put_name.Tie as tie
 

@@ -7,11 +7,11 @@ use native.Mathlib.Omega.{arith}
 use Rattle.rules.specs.Bytes.{decode}
 use Rattle.rules.specs.Build.{Plan}
 use Rattle.tables.proofs.Laws.{whole, total-pieces}
-use Rattle.chain.specs.Rest.{restFrom}
 use Rattle.chain.proofs.Links.{InUse, link-leads}
 use Rattle.build.specs.Clone.{Copyable}
 use Rattle.build.proofs.Laws.{opened-piece, opened-sharable, opened-copyable}
 use Rattle.build.proofs.Line.{freeFrom, link-fits}
+use Rattle.rest.specs.Rest.{restFrom}
 use Rattle.rest.proofs.Rest.{copyPlan, rest-none, rest-border, rest-own, rest-copy, made-plain, made-one, one-free}
 use Rattle.rest.proofs.settle.Statement.{statement}
 use Rattle.rest.proofs.settle.Tie as tie

@@ -48,18 +48,18 @@ use denote.Triple.Clauses.{ensured, lasts}
 use denote.Triple.Table.{entered, cited}
 use denote.Triple.Walked.{says, Stays, stay-slice, stay-none-slice, stay-none, walkOf, goes-slice, goes-none-slice, goes-none, Walks, ends-at, walked, walk-meets}
 use denote.Exit.{yes}
+use Rattle.kinds.proofs.Answer as An
+use Rattle.kinds.proofs.Answer.Laws as An′
 use Rattle.rules.specs.Tables as rules
 use Rattle.rules.specs.Bytes.{decode}
 use Rattle.rules.specs.Chain as chain
 use Rattle.rules.specs.Rule.{noView}
+use Rattle.layout.proofs.Shape as Sh
+use Rattle.layout.proofs.Shape.Laws as Sh′
 use Rattle.tables.proofs.Laws.{whole as whole-pool, total-pieces}
 use Rattle.chain.specs.Opened.{Opened}
 use Rattle.chain.specs.Length.{stretchesFrom}
 use Rattle.chain.proofs.Links.{link-below}
-use Rattle.kinds.proofs.Answer as An
-use Rattle.kinds.proofs.Answer.Laws as An′
-use Rattle.layout.proofs.Shape as Sh
-use Rattle.layout.proofs.Shape.Laws as Sh′
 use Rattle.list.specs.declared.Stretch.{Stretch}
 use Rattle.list.specs.declared.Record.{Record}
 use Rattle.list.specs.Record.{recordOf}

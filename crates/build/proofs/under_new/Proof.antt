@@ -1,11 +1,11 @@
--- `answer::under_new` meets its contract. Assumes nothing.
+-- `build::under_new` meets its contract. Assumes nothing.
 use mathlib.Core.Path.{ap, _∙_}
 use native.Mathlib.Numerals.{add-one}
 use borrow.Author.Needs.{needs}
 use Rattle.rules.specs.Tables.{setSlip}
 use Rattle.rules.specs.Bytes.{decode}
-use Rattle.answer.proofs.under_new.Statement.{statement}
-use Rattle.answer.proofs.under_new.Tie as tie
+use Rattle.build.proofs.under_new.Statement.{statement}
+use Rattle.build.proofs.under_new.Tie as tie
 
 add-set-slip : tie.Need-add-set-slip
 add-set-slip c = search needs

@@ -1,0 +1,2 @@
+-- What the contracts of rest cite.
+pub mod Rest
