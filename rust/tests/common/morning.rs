@@ -8,7 +8,7 @@ use super::desk::{
 };
 use super::model::{Call, BUFFERS, LONG, NARROW, RANGE, SAME, SLIP};
 
-use Tray::{Data, Old};
+use Buffer::{Data, Old};
 
 /// A call, made where it is wanted.
 pub type Asked = fn() -> Call;
@@ -24,13 +24,13 @@ pub struct Row {
     /// Each buffer's count.
     pub counts: &'static [u16],
     /// What each buffer holds, in use or not.
-    pub trays: &'static [Tray],
+    pub buffers: &'static [Buffer],
     /// The chain of each held slip.
     pub chains: &'static [Chain],
 }
 
 /// A buffer's bytes: those from before the opening, or the data from start to end and then zeros.
-pub enum Tray {
+pub enum Buffer {
     Old,
     Data(usize, usize),
 }
@@ -68,7 +68,7 @@ pub const MORNING: &[Row] = &[
         slips: &[2, 0, 0, 0],
         pieces: &[[1, 0, 0, 512, 2], [1, 1, 0, 88, 0], Z, Z, Z, Z],
         counts: &[1, 1, 0, 0],
-        trays: &[Data(0, 512), Data(512, 600), Old, Old],
+        buffers: &[Data(0, 512), Data(512, 600), Old, Old],
         chains: &[chain(0, 600, &[(0, 600)], &[0, 512, 512, 88])],
     },
     Row {
@@ -84,7 +84,7 @@ pub const MORNING: &[Row] = &[
             Z,
         ],
         counts: &[2, 2, 0, 0],
-        trays: &[Data(0, 512), Data(512, 600), Old, Old],
+        buffers: &[Data(0, 512), Data(512, 600), Old, Old],
         chains: &[
             chain(0, 600, &[(0, 600)], &[0, 512, 512, 88]),
             chain(1, 50, &[(500, 550)], &[500, 12, 512, 38]),
@@ -103,7 +103,7 @@ pub const MORNING: &[Row] = &[
             Z,
         ],
         counts: &[3, 2, 0, 0],
-        trays: &[Data(0, 512), Data(512, 600), Old, Old],
+        buffers: &[Data(0, 512), Data(512, 600), Old, Old],
         chains: &[
             chain(0, 600, &[(0, 600)], &[0, 512, 512, 88]),
             chain(1, 50, &[(500, 550)], &[500, 12, 512, 38]),
@@ -123,7 +123,7 @@ pub const MORNING: &[Row] = &[
             Z,
         ],
         counts: &[2, 2, 0, 0],
-        trays: &[Data(0, 512), Data(512, 600), Old, Old],
+        buffers: &[Data(0, 512), Data(512, 600), Old, Old],
         chains: &[
             chain(1, 50, &[(500, 550)], &[500, 12, 512, 38]),
             chain(2, 600, &[(0, 600)], &[0, 512, 512, 88]),
@@ -142,7 +142,7 @@ pub const MORNING: &[Row] = &[
             Z,
         ],
         counts: &[1, 2, 0, 0],
-        trays: &[Data(0, 512), Data(512, 600), Old, Old],
+        buffers: &[Data(0, 512), Data(512, 600), Old, Old],
         chains: &[
             chain(1, 50, &[(500, 550)], &[500, 12, 512, 38]),
             chain(2, 80, &[(520, 600)], &[520, 80]),
@@ -161,7 +161,7 @@ pub const MORNING: &[Row] = &[
             Z,
         ],
         counts: &[1, 2, 0, 0],
-        trays: &[Data(0, 512), Data(512, 600), Old, Old],
+        buffers: &[Data(0, 512), Data(512, 600), Old, Old],
         chains: &[chain(
             1,
             130,
@@ -175,7 +175,7 @@ pub const MORNING: &[Row] = &[
         slips: &[0, 4, 0, 0],
         pieces: &[Z, Z, [1, 0, 500, 12, 4], [1, 1, 0, 28, 0], Z, Z],
         counts: &[1, 1, 0, 0],
-        trays: &[Data(0, 512), Data(512, 600), Old, Old],
+        buffers: &[Data(0, 512), Data(512, 600), Old, Old],
         chains: &[chain(1, 40, &[(500, 540)], &[500, 12, 512, 28])],
     },
     Row {
@@ -184,7 +184,7 @@ pub const MORNING: &[Row] = &[
         slips: &[0, 2, 0, 0],
         pieces: &[[1, 2, 0, 20, 4], Z, Z, [1, 1, 8, 20, 0], Z, Z],
         counts: &[0, 1, 1, 0],
-        trays: &[Data(0, 512), Data(512, 600), Data(500, 520), Old],
+        buffers: &[Data(0, 512), Data(512, 600), Data(500, 520), Old],
         chains: &[chain(1, 40, &[(500, 540)], &[1_024, 20, 520, 20])],
     },
     Row {
@@ -193,7 +193,7 @@ pub const MORNING: &[Row] = &[
         slips: &[0, 3, 0, 0],
         pieces: &[Z, [1, 0, 0, 40, 0], Z, Z, Z, Z],
         counts: &[1, 0, 0, 0],
-        trays: &[Data(500, 540), Data(512, 600), Data(500, 520), Old],
+        buffers: &[Data(500, 540), Data(512, 600), Data(500, 520), Old],
         chains: &[chain(1, 40, &[(500, 540)], &[0, 40])],
     },
     Row {
@@ -202,7 +202,7 @@ pub const MORNING: &[Row] = &[
         slips: &[0; 4],
         pieces: &[Z; 6],
         counts: &[0; 4],
-        trays: &[Data(500, 540), Data(512, 600), Data(500, 520), Old],
+        buffers: &[Data(500, 540), Data(512, 600), Data(500, 520), Old],
         chains: &[],
     },
 ];
@@ -244,7 +244,7 @@ pub const EDGES: &[Edge] = &[
             slips: &[2, 0, 0, 0],
             pieces: &[[1, 0, 0, 512, 0], Z, Z, Z, Z, Z],
             counts: &[1, 0, 0, 0],
-            trays: &[Data(0, 512), Old, Old, Old],
+            buffers: &[Data(0, 512), Old, Old, Old],
             chains: &[chain(0, 512, &[(0, 512)], &[0, 512])],
         }),
     },
@@ -257,7 +257,7 @@ pub const EDGES: &[Edge] = &[
             slips: &[2, 0, 0, 0],
             pieces: &[[1, 0, 0, 512, 2], [1, 1, 0, 1, 0], Z, Z, Z, Z],
             counts: &[1, 1, 0, 0],
-            trays: &[Data(0, 512), Data(512, 513), Old, Old],
+            buffers: &[Data(0, 512), Data(512, 513), Old, Old],
             chains: &[chain(0, 513, &[(0, 513)], &[0, 512, 512, 1])],
         }),
     },
@@ -277,7 +277,7 @@ pub const EDGES: &[Edge] = &[
                 Z,
             ],
             counts: &[1, 1, 1, 1],
-            trays: &[
+            buffers: &[
                 Data(0, 512),
                 Data(512, 1_024),
                 Data(1_024, 1_536),
@@ -305,7 +305,7 @@ pub const EDGES: &[Edge] = &[
             slips: &[2, 1, 0, 0],
             pieces: &[[1, 0, 0, 512, 2], [1, 1, 0, 88, 0], Z, Z, Z, Z],
             counts: &[1, 1, 0, 0],
-            trays: &[Data(0, 512), Data(512, 600), Old, Old],
+            buffers: &[Data(0, 512), Data(512, 600), Old, Old],
             chains: &[
                 chain(0, 600, &[(0, 600)], &[0, 512, 512, 88]),
                 chain(1, 0, &[], &[]),
@@ -354,7 +354,7 @@ fn stretch(start: usize, end: usize) -> Vec<u8> {
     data(end)[start..].to_vec()
 }
 
-impl Tray {
+impl Buffer {
     fn bytes(&self) -> Vec<u8> {
         match self {
             Old => vec![UNTOUCHED; 512],
@@ -381,8 +381,8 @@ impl Row {
         println!("{}", call.brief());
         desk.done(call, self.number);
         desk.tables(self.slips, self.pieces, self.counts);
-        let trays: Vec<u8> = self.trays.iter().flat_map(Tray::bytes).collect();
-        desk.stores(&trays);
+        let buffers: Vec<u8> = self.buffers.iter().flat_map(Buffer::bytes).collect();
+        desk.stores(&buffers);
         for chain in self.chains {
             desk.length(chain.slip, chain.length);
             desk.reads(chain.slip, &chain.bytes());
