@@ -113,7 +113,7 @@ module _ {O goal : Tables} {tail : ℕ} {T : Tables} {c : Cloning} {k : ℕ} (so
           place = record {
             below = omega (arith, u .below);
             inside = rw as-was (w .inside at-some);
-            small = rw as-was (u .inside);
+            small = rw as-was (u .most);
             in-store = rw as-was (omega (arith, u .in-store));
             room = omega (arith, w .line .few (piece T (c .at - 1) .buffer));
           };

@@ -7,7 +7,8 @@ use native.Mathlib.Omega.{arith}
 use lib.ListN.{length, take, length-set}
 use lib.Seq.{length-take-le}
 use lib.Dec.{eqb→eq}
-use Rattle.kinds.specs.Limits.{bufferSize, sizeOf}
+use Rattle.kinds.specs.Limits.{bufferSize}
+use Rattle.kinds.proofs.Sizes.{size-one}
 use Rattle.rules.specs.Basics.{places}
 use Rattle.rules.specs.Tables.{Tables, bufferCount, pieceTotal, bufferTotal}
 use Rattle.rules.specs.Bytes.{decode}
@@ -54,7 +55,7 @@ take-some (suc k) x l h = let e : suc k - 1 ≡ k = omega arith in rw e
 
 -- the stretches still to come, k of them
 abbrev toCome : Tables → Laying → ℕ → List Stretch
-toCome T c k = laid (take k (unheldFrom T (c .from))) (c .left)
+toCome T c k = laid (T .stock) (take k (unheldFrom T (c .from))) (c .left)
 
 -- Laying is under way in the tables T, with k pieces still to come; at the end the tables are `goal`.
 pub record Lays (goal T : Tables) (c : Laying) (k : ℕ) : Type 0 where
@@ -62,22 +63,22 @@ pub record Lays (goal T : Tables) (c : Laying) (k : ℕ) : Type 0 where
   pub line : Line goal 0 T (c .free) (toCome T c k)
 
 -- there are as many as asked for
-pub laid-all : (T : Tables) (n k : ℕ) → k ≤ length (freeBuffers T) → length (laid (newBuffers T k) n) ≡ k
-laid-all T n k h = laid-count (newBuffers T k) n ∙ length-take-le k (freeBuffers T) h
+pub laid-all : (T : Tables) (n k : ℕ) → k ≤ length (freeBuffers T) → length (laid (T .stock) (newBuffers T k) n) ≡ k
+laid-all T n k h = laid-count (T .stock) (newBuffers T k) n ∙ length-take-le k (freeBuffers T) h
 
 -- before the first piece
 pub lays-start : {p : List ℕ} {h : Shape} → Opened p h → (n k : ℕ) {f b : ℕ} → k ≤ length (freePieces (decode p)) → k ≤ length (freeBuffers (decode p))
     → let T = decode p in f ≡ firstFrom (isFree T) 0 (pieceTotal T) → b ≡ lowestFor (isUnheld T) k (bufferTotal T)
-    → Lays (built T (freePieces T) (laid (newBuffers T k) n) 0) T (record { free = f; from = b; left = n }) k
+    → Lays (built T (freePieces T) (laid (T .stock) (newBuffers T k) n) 0) T (record { free = f; from = b; left = n }) k
 lays-start {p} o n k {b = b} hp hb ef eb =
     let T = decode p in
     let all : unheldFrom T b ≡ freeBuffers T = lowest-all (isUnheld T) k (bufferTotal T) eb in
-    rw ef (record { enough = rw all hb; line = rw all (line-opened o (laid (newBuffers T k) n) 0 (omega (arith, laid-all T n k hb))) })
+    rw ef (record { enough = rw all hb; line = rw all (line-opened o (laid (T .stock) (newBuffers T k) n) 0 (omega (arith, laid-all T n k hb))) })
 
 -- after the last
 pub lays-done : {goal T : Tables} {c : Laying} {k : ℕ} → Lays goal T c k → k ≤ 0 → T ≡ goal
 lays-done {goal} {T} {c} {k} w z =
-    line-done (toCome T c k) (w .line) (laid-count (take k (unheldFrom T (c .from))) (c .left) ∙ length-take-le k (unheldFrom T (c .from)) (w .enough) ∙ omega arith)
+    line-done (toCome T c k) (w .line) (laid-count (T .stock) (take k (unheldFrom T (c .from))) (c .left) ∙ length-take-le k (unheldFrom T (c .from)) (w .enough) ∙ omega arith)
 
 module _ {goal T : Tables} {c : Laying} {k : ℕ} (w : Lays goal T c k) (h : 0 < k) where
   -- there is a free buffer
@@ -86,7 +87,7 @@ module _ {goal T : Tables} {c : Laying} {k : ℕ} (w : Lays goal T c k) (h : 0 <
 
   -- what comes first, and what comes after it
   after : List Stretch
-  after = laid (take (k - 1) (unheldFrom T (suc (bufferAt T c)))) (c .left - laidAt T c .len)
+  after = laid (T .stock) (take (k - 1) (unheldFrom T (suc (bufferAt T c)))) (c .left - laidAt T c .len)
 
   enough-after : k - 1 ≤ length (unheldFrom T (suc (bufferAt T c)))
   enough-after = omega (arith, w .enough, ap length (some-buffer .split))
@@ -96,14 +97,16 @@ module _ {goal T : Tables} {c : Laying} {k : ℕ} (w : Lays goal T c k) (h : 0 <
   split =
       let b = bufferAt T c in
       let bs = unheldFrom T (suc b) in
-      let e : c .left - sizeOf b ≡ c .left - laidAt T c .len = omega arith in
-      ap (λ (l : List ℕ). laid (take k l) (c .left)) (some-buffer .split)
-      ∙ ap (λ (l : List ℕ). laid l (c .left)) (take-some k b bs h)
-      ∙ ap (λ (n : ℕ). laidAt T c ∷ laid (take (k - 1) bs) n) e
+      let z = size-one (T .stock) b in
+      let e : c .left - bufferSize ≡ c .left - laidAt T c .len = omega arith in
+      ap (λ (l : List ℕ). laid (T .stock) (take k l) (c .left)) (some-buffer .split)
+      ∙ ap (λ (l : List ℕ). laid (T .stock) l (c .left)) (take-some k b bs h)
+      ∙ ap {B = List Stretch} (λ (s : ℕ). record { buffer = b; offset = 0; len = min s (c .left) } ∷ laid (T .stock) (take (k - 1) bs) (c .left - s)) z
+      ∙ ap {B = List Stretch} (λ (n : ℕ). laidAt T c ∷ laid (T .stock) (take (k - 1) bs) n) e
 
   after-count : k - 1 ≡ length after
   unfolding after
-  after-count = sym (laid-count (take (k - 1) (unheldFrom T (suc (bufferAt T c)))) (c .left - laidAt T c .len) ∙ length-take-le (k - 1) _ enough-after)
+  after-count = sym (laid-count (T .stock) (take (k - 1) (unheldFrom T (suc (bufferAt T c)))) (c .left - laidAt T c .len) ∙ length-take-le (k - 1) _ enough-after)
 
   -- so a piece can be laid
   pub lays-ask : Layable T c

@@ -103,4 +103,4 @@ module _ {p : List ℕ} {h : Shape} (o : Opened p h) where
 
   -- and a new piece for what a piece in use has from a place inside it
   pub opened-copyable : (d n : ℕ) → InUse (decode p) d → n < piece (decode p) d .len → Copyable (decode p) d n
-  opened-copyable d n u l = record { below = u .below; inside = l; small = u .inside; in-store = u .in-store; room = opened-buffer (piece (decode p) d .buffer) }
+  opened-copyable d n u l = record { below = u .below; inside = l; small = u .most; in-store = u .in-store; room = opened-buffer (piece (decode p) d .buffer) }

@@ -1,6 +1,6 @@
 -- Laying new pieces on the lowest free buffers, one after another.
 use Prim.Native.Nat.{ℕ, _+_, _-_, _<_, min}
-use Rattle.kinds.specs.Limits.{sizeOf}
+use Rattle.kinds.specs.Limits.{bufferSize}
 use Rattle.rules.specs.Tables.{Tables, pieceTotal, bufferTotal}
 use Rattle.rules.specs.Chain.{Stretch}
 use Rattle.rules.specs.Room.{isUnheld}
@@ -14,7 +14,7 @@ bufferAt T c = firstFrom (isUnheld T) (c .from) (bufferTotal T)
 
 -- what is laid on it: from offset 0, as much as it holds of what is left
 abbrev pub laidAt : Tables → Laying → Stretch
-laidAt T c = record { buffer = bufferAt T c; offset = 0; len = min (sizeOf (bufferAt T c)) (c .left) }
+laidAt T c = record { buffer = bufferAt T c; offset = 0; len = min bufferSize (c .left) }
 
 -- how far laying is once a new piece for that is taken, where k more are to come
 abbrev pub laidOn : Tables → Laying → ℕ → Laying

@@ -188,8 +188,10 @@ pub fn lay(pool: &mut [u8], shape: Shape, n: u32, count: u16, first: u16, buffer
     requires { ⌜ (first ≡ lowestFor (isFree (decode (now pool))) count (pieceTotal (decode (now pool))))
         × (buffer ≡ lowestFor (isUnheld (decode (now pool))) count (bufferTotal (decode (now pool)))) ⌝ }
     ensures { λ r. ⌜ Holds (now (pool .exit)) shape
-        (built (decode (now (pool .entry))) (freePieces (decode (now (pool .entry)))) (laid (newBuffers (decode (now (pool .entry))) count) n) 0)
-        × (r ≡ builtLink (freePieces (decode (now (pool .entry)))) (laid (newBuffers (decode (now (pool .entry))) count) n) 0) ⌝ }
+        (built (decode (now (pool .entry))) (freePieces (decode (now (pool .entry))))
+        (laid (decode (now (pool .entry)) .stock) (newBuffers (decode (now (pool .entry))) count) n) 0)
+        × (r ≡ builtLink (freePieces (decode (now (pool .entry))))
+        (laid (decode (now (pool .entry)) .stock) (newBuffers (decode (now (pool .entry))) count) n) 0) ⌝ }
 {
     if count == 0 {
         return 0;

@@ -1,7 +1,7 @@
 -- From the audit's verdict to what an operation asks, and from the operation to the call. Assumes nothing.
 use mathlib.Core.Path.{_≡_, refl, sym, ap, subst, _∙_}
 use mathlib.Core.Bool.{true, false}
-use mathlib.Core.List.{List}
+use mathlib.Core.List.{List, [], _∷_}
 use Prim.Native.Nat.{ℕ}
 use lib.ListN.{length}
 use Rattle.kinds.specs.declared.Refusal.the-variants.{Torn}
@@ -15,6 +15,7 @@ use Rattle.rules.specs.Sound.{lent}
 use Rattle.rules.specs.Rule.{noView}
 use Rattle.rules.specs.Step.{Operation, Do, lentOut, refused, perform, step}
 use Rattle.rules.proofs.Step.{step-sound-pool, step-torn}
+use Rattle.tables.specs.Shape.{stockOf}
 use Rattle.audit.specs.declared.Audited.{Audited}
 use Rattle.audit.specs.Verdict.{Verdict}
 use Rattle.audit.proofs.Laws.{verdict-torn, verdict-is, verdict-sound, verdict-header, verdict-shaped, verdict-limited}
@@ -38,8 +39,8 @@ module _ {p : List ℕ} (st : List ℕ) {r : Audited} (v : Verdict p (length st)
         let k = verdict-limited v q in
         record { shaped = verdict-shaped v q; few-buffers = k .few-buffers; few-pieces = k .few-pieces; few-slips = k .few-slips; sound = verdict-sound v q st refl .tables-ok }
 
-    pub fitted : length st ≡ storageLength (r .shape .buffers)
-    fitted = verdict-header v q st refl .storage-long ∙ ap storageLength (sym (opened .shaped .buffers))
+    pub fitted : length st ≡ storageLength (stockOf (r .shape)) (r .shape .buffers)
+    fitted = verdict-header v q st refl .storage-long ∙ ap (λ (n : ℕ). storageLength (n ∷ []) n) (sym (opened .shaped .buffers))
 
     -- and the call is the operation
     pub sound-step : (o : Operation) → perform o (lent p st) ≡ step (Do o) (lent p st)

@@ -11,7 +11,8 @@ use Rattle.kinds.specs.declared.Outcome.the-variants.{Refused}
 use Rattle.kinds.specs.declared.Answer.{Answer}
 use Rattle.kinds.specs.Refusal.{refusalCode}
 use Rattle.kinds.specs.Outcome.{answerOf}
-use Rattle.rules.specs.Bytes.{decode}
+use Rattle.kinds.proofs.Sizes.{start-one}
+use Rattle.rules.specs.Bytes.{decode, buffersIn, stockIn}
 use Rattle.rules.specs.Sound.{lent}
 use Rattle.rules.specs.Rule.{noView}
 use Rattle.rules.specs.Read.{copied}
@@ -53,7 +54,7 @@ module _ {p : List ℕ} (st : List ℕ) {r : Audited} (v : Verdict p (length st)
   module _ (q : r .sound ≡ true) where
     -- storage has at most the bytes of the most buffers, so a place in it fits 32 bits
     pub start-small : (after : List ℕ) (place : Place) (n : ℕ) → Lies st after place n → viewAt place .start < 2 ^ 32
-    start-small after (Storage a) n l = let h = verdict-header v q st refl in omega (arith, h .storage-long, h .counts .most-buffers)
+    start-small after (Storage a) n l = let h = verdict-header v q st refl in omega (arith, h .storage-long, h .counts .most-buffers, start-one (stockIn p) (buffersIn p))
     start-small after Scratch n l = omega arith
 
     pub shown : {x : Shown} {y : look.Shown} {s n : ℕ} {sc after : List ℕ} → x ≡ shownAs y → Seen y p st s n sc after → shownOf x p st after ≡ step (Do (Show s n sc)) (lent p st)
@@ -69,7 +70,7 @@ module _ {p : List ℕ} (st : List ℕ) (s room : ℕ) {h : Audited} (v : Verdic
     opened = λ n. absurd (n refl);
     good = tt;
     fits = omega (arith, ap length (stretches-none (decode p)));
-    answers = λ l _. ap (λ xs. resultOf a p st (copied (records xs) l) noView) (stretches-none (decode p)) ∙ torn-answer st v q (WireList s l) e;
+    answers = λ l _. ap (λ xs. resultOf a p st (copied (records (decode p .stock) xs) l) noView) (stretches-none (decode p)) ∙ torn-answer st v q (WireList s l) e;
   }
 
   -- else those that list begins
@@ -86,5 +87,5 @@ module _ {p : List ℕ} (st : List ℕ) (s room : ℕ) {h : Audited} (v : Verdic
         answers = λ l n.
             let half : length l / 2 ≡ room = omega arith in
             let all : take (b .pieces) (stretchesFrom T (b .link)) ≡ stretchesFrom T (b .link) = ap (λ k. take k (stretchesFrom T (b .link))) (w .1) ∙ take-length (stretchesFrom T (b .link)) in
-            answered st v q (b .outcome) (WireList s l) f (list-performs p st l s (fits-decode p bytes (o .shaped .fits)) (e ∙ ap (begun T s) (sym half)) (ap (λ xs. copied (records xs) l) (sym all)) .0);
+            answered st v q (b .outcome) (WireList s l) f (list-performs p st l s (fits-decode p bytes (o .shaped .fits)) (e ∙ ap (begun T s) (sym half)) (ap (λ xs. copied (records (decode p .stock) xs) l) (sym all)) .0);
       }

@@ -1,7 +1,7 @@
 -- What open and audit answer. Assumes nothing.
 use mathlib.Core.Path.{_≡_, refl, sym, ap, subst, _∙_}
 use mathlib.Core.Bool.{Bool, true, false, _&&_}
-use mathlib.Core.List.{List, []}
+use mathlib.Core.List.{List, [], _∷_}
 use Prim.Native.Nat.{ℕ}
 use lib.ListN.{length}
 use lib.Dec.{eqb, eqb→eq}
@@ -18,7 +18,7 @@ use Rattle.rules.specs.Open.{openable}
 use Rattle.rules.specs.Step.{Audit, Open, Do, rule, done, step}
 use Rattle.rules.proofs.Logic.{if-T, if-F, and-0, and-parts}
 use Rattle.rules.proofs.Codes.{first-none}
-use Rattle.rules.proofs.Bytes.{AllBytes, and-is, eqb-is, leb-is}
+use Rattle.rules.proofs.Bytes.{AllBytes}
 use Rattle.tables.proofs.Laws.{fits-decode}
 use Rattle.audit.specs.declared.Audited.{Audited}
 use Rattle.audit.specs.Verdict.{Verdict}
@@ -46,7 +46,7 @@ module _ (p st : List ℕ) (B P S : ℕ) {b : Bool} (test : b ≡ (countsOk B P 
   unfolding openable
   open-length q =
       eqb→eq (length p) (poolLength B P S)
-      (and-0 (eqb (length p) (poolLength B P S)) (eqb (length st) (storageLength B)) (and-parts (countsOk B P S) (lengthsOk B P S (length p) (length st)) (is-openable q) .1))
+      (and-0 (eqb (length p) (poolLength B P S)) (eqb (length st) (storageLength (B ∷ []) B)) (and-parts (countsOk B P S) (lengthsOk B P S (length p) (length st)) (is-openable q) .1))
 
   pub open-done : {after : List ℕ} → b ≡ true → after ≡ encode (freshTables B P S) → resultOf (record { code = 0; number = 0 }) after st [] noView ≡ step (Open B P S) (lent p st)
   unfolding step

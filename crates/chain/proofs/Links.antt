@@ -7,19 +7,21 @@ use native.Mathlib.Omega.{arith}
 use borrow.Author.Tests.{lt-ltb, le-ltb}
 use lib.ListN.{length}
 use lib.Dec.{eqb, eqb→eq, ltb, ltb→lt, leb, leb→le}
-use Rattle.kinds.specs.Limits.{sizeOf, bufferSize}
-use Rattle.rules.proofs.Bounds.{total-small}
-use Rattle.rules.proofs.Hang.{stretches-length}
+use Rattle.kinds.specs.Limits.{bufferSize}
+use Rattle.kinds.specs.Sizes.{largest, sizeOf}
+use Rattle.kinds.proofs.Sizes.{size-most}
 use Rattle.rules.specs.Basics.{Is}
 use Rattle.rules.specs.Tables.{Tables, slip, piece, slipTotal, pieceTotal, bufferTotal}
 use Rattle.rules.specs.Chain.{follow, walk, stretch, stretches, total}
 use Rattle.rules.specs.Sound.{linkOk, SoundTables}
 use Rattle.rules.specs.Rule.{unnamed}
 use Rattle.rules.proofs.Logic.{if-F, and-parts}
-use Rattle.rules.proofs.Meets.{Meets, go, meets-walk, meets-some}
-use Rattle.rules.proofs.Audit.{tables-now}
 use Rattle.rules.proofs.Build.{Good}
 use Rattle.rules.proofs.Chain.{walk-used, stretches-good, AllUsed}
+use Rattle.rules.proofs.Meets.{Meets, go, meets-walk, meets-some}
+use Rattle.rules.proofs.Hang.{stretches-length}
+use Rattle.rules.proofs.Audit.{tables-now}
+use Rattle.rules.proofs.Bounds.{total-small}
 use Rattle.chain.specs.Length.{stretchesFrom}
 
 -- ---- a slip's entry
@@ -51,7 +53,8 @@ pub record InUse (T : Tables) (d : ℕ) : Type 0 where
   pub used : 0 < piece T d .count
   pub in-store : piece T d .buffer < bufferTotal T
   pub some-bytes : 1 ≤ piece T d .len
-  pub inside : piece T d .offset + piece T d .len ≤ sizeOf (piece T d .buffer)
+  pub inside : piece T d .offset + piece T d .len ≤ sizeOf (T .stock) (piece T d .buffer)
+  pub most : piece T d .offset + piece T d .len ≤ largest
   pub onward : Is (linkOk T (piece T d .next))
 
 -- a good link that is not 0 leads to a piece in use
@@ -68,13 +71,14 @@ link-leads T (suc d) S t h = subst (InUse T) (omega arith) it
         let t₀ = subst Is (if-F (eqb (p .count) 0) _ _ (λ z. omega (arith, eqb→eq (p .count) 0 z))) (S .pieces-ok d b) in
         let (x, t₁) = and-parts (ltb (p .buffer) (bufferTotal T)) _ t₀ in
         let (y, t₂) = and-parts (leb 1 (p .len)) _ t₁ in
-        let (z, n) = and-parts (leb (p .offset + p .len) (sizeOf (p .buffer))) _ t₂ in
+        let (z, n) = and-parts (leb (p .offset + p .len) (sizeOf (T .stock) (p .buffer))) _ t₂ in
         record {
           below = b;
           used = some;
           in-store = ltb→lt (p .buffer) (bufferTotal T) x;
           some-bytes = leb→le 1 (p .len) y;
-          inside = leb→le (p .offset + p .len) (sizeOf (p .buffer)) z;
+          inside = leb→le (p .offset + p .len) (sizeOf (T .stock) (p .buffer)) z;
+          most = omega (arith, leb→le (p .offset + p .len) (sizeOf (T .stock) (p .buffer)) z, size-most (T .stock) (p .buffer));
           onward = n;
         }
 
@@ -159,7 +163,7 @@ walk-in-use T n S t =
     walk-used (pieceTotal T) n (tables-now T S .1) (λ d e. subst (λ (x : ℕ). 0 < piece T x .count) (omega arith) (link-leads T n S t (omega arith) .used))
 
 -- each stretch lies in its buffer
-pub stretches-in : (T : Tables) (n : ℕ) → SoundTables T → Is (linkOk T n) → Good (bufferTotal T) (stretchesFrom T n)
+pub stretches-in : (T : Tables) (n : ℕ) → SoundTables T → Is (linkOk T n) → Good (T .stock) (bufferTotal T) (stretchesFrom T n)
 stretches-in T n S t = stretches-good (walk (pieceTotal T) T n) (tables-now T S .1) (walk-in-use T n S t)
 
 -- there are at most P
@@ -168,7 +172,7 @@ stretches-few T n S t = omega (arith, stretches-length T (walk (pieceTotal T) T 
 
 -- and they have at most as many bytes as P buffers
 pub stretches-small : (T : Tables) (n : ℕ) → SoundTables T → Is (linkOk T n) → total (stretchesFrom T n) ≤ bufferSize * pieceTotal T
-stretches-small T n S t = omega (arith, total-small (bufferTotal T) (stretchesFrom T n) (stretches-in T n S t), stretches-few T n S t)
+stretches-small T n S t = omega (arith, total-small (T .stock) (bufferTotal T) (stretchesFrom T n) (stretches-in T n S t), stretches-few T n S t)
 
 -- ---- the length of the pieces met
 

@@ -143,4 +143,4 @@ module _ (T : Tables) (n m : ℕ) {part : Part} (e : part ≡ partOf T n m) wher
 
 -- as many bytes as P full pieces have are the whole chain
 pub part-all : (T : Tables) → SoundTables T → (n m : ℕ) → Is (linkOk T n) → bufferSize * pieceTotal T ≤ m → cutOut (stretchesFrom T n) 0 m ≡ stretchesFrom T n
-part-all T S n m t h = cutOut-all (bufferTotal T) (stretchesFrom T n) m (stretches-in T n S t) (omega (arith, stretches-small T n S t))
+part-all T S n m t h = cutOut-all (T .stock) (bufferTotal T) (stretchesFrom T n) m (stretches-in T n S t) (omega (arith, stretches-small T n S t))

@@ -180,12 +180,12 @@ module _ (T : Tables) (S : SoundTables T) where
   found own n off t = found-by (length (walk (pieceTotal T) T n)) own n off t (omega arith)
 
 -- the bytes of a chain from off on are those from the place found, whatever the storage holds
-pub found-bytes : (T : Tables) (S : SoundTables T) (n off : ℕ) (s : Spot) → Is (linkOk T n) → Found T n off s → (st : List ℕ) → Fit (bufferTotal T) st
-    → drop (s .into) (contents st (stretchesFrom T (s .link))) ≡ drop off (contents st (stretchesFrom T n))
+pub found-bytes : (T : Tables) (S : SoundTables T) (n off : ℕ) (s : Spot) → Is (linkOk T n) → Found T n off s → (st : List ℕ) → Fit (T .stock) (bufferTotal T) st
+    → drop (s .into) (contents (T .stock) st (stretchesFrom T (s .link))) ≡ drop off (contents (T .stock) st (stretchesFrom T n))
 found-bytes T S n off s t f st w =
     let B = bufferTotal T in
-    sym (dropOut-contents B st (stretchesFrom T (s .link)) (s .into) w (stretches-in T (s .link) S (f .good))) ∙ ap (contents st) (sym (f .stays))
-    ∙ dropOut-contents B st (stretchesFrom T n) off w (stretches-in T n S t)
+    sym (dropOut-contents (T .stock) B st (stretchesFrom T (s .link)) (s .into) w (stretches-in T (s .link) S (f .good))) ∙ ap (contents (T .stock) st) (sym (f .stays))
+    ∙ dropOut-contents (T .stock) B st (stretchesFrom T n) off w (stretches-in T n S t)
 
 -- ---- the place in a slip's chain, from what the code has: the head link and the place found from there
 

@@ -1,11 +1,12 @@
 -- The audit's parts are the rules' test: where the counts agree, a link in range leads to a piece in use. Assumes nothing.
-use mathlib.Core.Path.{_≡_, refl}
+use mathlib.Core.Path.{_≡_, refl, sym, subst}
 use mathlib.Core.Logic.{_≢_}
 use mathlib.Core.Bool.{Bool, true, false, _&&_}
 use Prim.Native.Nat.{ℕ, zero, suc, _+_, _≤_, _<_}
 use native.Mathlib.Omega.{arith}
 use lib.Dec.{ltb, lt→ltb, ltb→lt, eqb, eqb→eq, eqb-refl, leb, leb→le, le→leb}
-use Rattle.kinds.specs.Limits.{sizeOf}
+use Rattle.kinds.specs.Limits.{bufferSize}
+use Rattle.kinds.proofs.Sizes.{size-one}
 use Rattle.rules.specs.Basics.{Is, if_then_else_, bit, allTo}
 use Rattle.rules.specs.Tables.{Piece, Tables, piece, isBlank, headOf, slipTotal, pieceTotal, bufferTotal}
 use Rattle.rules.specs.Sound.{inUse, leads, heads, nexts, linkOk, pieceOk, acyclic, soundTables}
@@ -42,7 +43,7 @@ blank-next p t = eqb→eq (p .next) 0 (and-1 (eqb (p .len) 0) _ (and-1 (eqb (p .
 module _ (B P : ℕ) (p : Piece) (t : Is (pieceInRange B P p)) where
   pub next-in-range : p .next ≤ P
   next-in-range =
-      last-of (eqb (p .count) 0) (isBlank p) (ltb (p .buffer) B) (leb 1 (p .len)) (leb (p .offset + p .len) (sizeOf (p .buffer))) (linkInRange P (p .next))
+      last-of (eqb (p .count) 0) (isBlank p) (ltb (p .buffer) B) (leb 1 (p .len)) (leb (p .offset + p .len) bufferSize) (linkInRange P (p .next))
       (λ x. omega (arith, blank-next p x)) (leb→le (p .next) P) t
 
   pub buffer-in-range : p .count ≢ 0 → p .buffer < B
@@ -59,10 +60,21 @@ module _ (T : Tables) where
   link-in-range zero t = le→leb 0 (pieceTotal T) (omega arith)
   link-in-range (suc d) t = and-parts (ltb d (pieceTotal T)) _ t .0
 
+  -- a piece is good, where its buffer has z bytes
+  abbrev okBy : Piece → ℕ → Bool
+  okBy p z = if eqb (p .count) 0 then isBlank p else (ltb (p .buffer) (bufferTotal T) && (leb 1 (p .len) && (leb (p .offset + p .len) z && linkOk T (p .next))))
+
+  -- every buffer has the one size of the table
+  one-size : (p : Piece) → Is (pieceOk T p) → Is (okBy p bufferSize)
+  one-size p t = subst (λ (z : ℕ). Is (okBy p z)) (size-one (T .stock) (p .buffer)) t
+
+  size-back : (p : Piece) → Is (okBy p bufferSize) → Is (pieceOk T p)
+  size-back p t = subst (λ (z : ℕ). Is (okBy p z)) (sym (size-one (T .stock) (p .buffer))) t
+
   piece-in-range : (p : Piece) → Is (pieceOk T p) → Is (pieceInRange (bufferTotal T) (pieceTotal T) p)
-  piece-in-range p =
-      used-map (eqb (p .count) 0) (isBlank p) (ltb (p .buffer) (bufferTotal T)) (leb 1 (p .len)) (leb (p .offset + p .len) (sizeOf (p .buffer)))
-      (linkOk T (p .next)) (linkInRange (pieceTotal T) (p .next)) (λ _. link-in-range (p .next))
+  piece-in-range p t =
+      used-map (eqb (p .count) 0) (isBlank p) (ltb (p .buffer) (bufferTotal T)) (leb 1 (p .len)) (leb (p .offset + p .len) bufferSize)
+      (linkOk T (p .next)) (linkInRange (pieceTotal T) (p .next)) (λ _. link-in-range (p .next)) (one-size p t)
 
   -- ---- the parts give the rules' test
 
@@ -75,9 +87,10 @@ module _ (T : Tables) where
   link-ok (suc d) h t = and-intro (ltb d (pieceTotal T)) _ t (lt→ltb 0 (piece T d .count) (h d (ltb→lt d (pieceTotal T) t) refl))
 
   piece-ok : (p : Piece) → (0 < p .count → Reached (p .next)) → Is (pieceInRange (bufferTotal T) (pieceTotal T) p) → Is (pieceOk T p)
-  piece-ok p h =
-      used-map (eqb (p .count) 0) (isBlank p) (ltb (p .buffer) (bufferTotal T)) (leb 1 (p .len)) (leb (p .offset + p .len) (sizeOf (p .buffer)))
-      (linkInRange (pieceTotal T) (p .next)) (linkOk T (p .next)) (λ u. link-ok (p .next) (h (not-zero (p .count) u)))
+  piece-ok p h t =
+      size-back p
+      (used-map (eqb (p .count) 0) (isBlank p) (ltb (p .buffer) (bufferTotal T)) (leb 1 (p .len)) (leb (p .offset + p .len) bufferSize)
+      (linkInRange (pieceTotal T) (p .next)) (linkOk T (p .next)) (λ u. link-ok (p .next) (h (not-zero (p .count) u))) t)
 
   -- a next of a piece in use is counted
   next-counted : (d e : ℕ) → d < pieceTotal T → 0 < piece T d .count → piece T d .next ≡ suc e → 0 < nexts T e

@@ -3,7 +3,7 @@
 use mathlib.Core.Bool.{Bool, _&&_}
 use Prim.Native.Nat.{ℕ, _+_}
 use lib.Dec.{ltb, eqb, leb}
-use Rattle.kinds.specs.Limits.{sizeOf}
+use Rattle.kinds.specs.Limits.{bufferSize}
 use Rattle.rules.specs.Basics.{if_then_else_, allTo}
 use Rattle.rules.specs.Tables.{Piece, Tables, piece, bufferCount, isBlank, headOf, slipTotal, pieceTotal, bufferTotal}
 use Rattle.rules.specs.Sound.{heads, nexts, lying}
@@ -16,7 +16,7 @@ linkInRange P n = leb n P
 
 -- a buffer below B, a length of at least 1, inside the buffer, and a next in range
 abbrev pub usedInRange : ℕ → ℕ → Piece → Bool
-usedInRange B P p = ltb (p .buffer) B && (leb 1 (p .len) && (leb (p .offset + p .len) (sizeOf (p .buffer)) && linkInRange P (p .next)))
+usedInRange B P p = ltb (p .buffer) B && (leb 1 (p .len) && (leb (p .offset + p .len) bufferSize && linkInRange P (p .next)))
 
 -- all zero, or in range
 abbrev pub pieceInRange : ℕ → ℕ → Piece → Bool

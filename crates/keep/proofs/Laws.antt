@@ -74,7 +74,7 @@ module _ {p : List ℕ} {h : Shape} {s n : ℕ} {own : OwnPart} (w : Seen p h s 
   sound : SoundNow T
   sound = tables-now T (w .opened .sound)
 
-  good : Good (bufferTotal T) (spans T s)
+  good : Good (T .stock) (bufferTotal T) (spans T s)
   good = spans-good T s sound
 
   laws : OwnLaws T (headOf T s) mine (follow T (length mine) (headOf T s))
@@ -113,17 +113,17 @@ module _ {p : List ℕ} {h : Shape} {s n : ℕ} {own : OwnPart} (w : Seen p h s 
   rest : keptNotOwn T s n ≡ cutOut (stretchesFrom T (own .next)) 0 (n - own .bytes)
   rest =
       let m : n - total (take (length mine) (spans T s)) ≡ n - own .bytes = omega (arith, own-bytes, ap total front) in
-      cut-behind (bufferTotal T) (length mine) (spans T s) n good few ∙ (λ i. cutOut (behind i) 0 (m i))
+      cut-behind (T .stock) (bufferTotal T) (length mine) (spans T s) n good few ∙ (λ i. cutOut (behind i) 0 (m i))
 
   -- where as many are own as stay, they have the n bytes
   reach : length mine ≡ length (kept T s n) → (n ≤ total (stretches T mine)) × ((lastLink mine ≡ 0 → ⊥) → total (stretches T mine) - n ≤ piece T (lastLink mine - 1) .len)
-  reach e = own-reach T (bufferTotal T) mine (kept T s n) (spans T s) n good front refl e (w .part)
+  reach e = own-reach T (T .stock) (bufferTotal T) mine (kept T s n) (spans T s) n good front refl e (w .part)
 
   -- ---- all that stay are own
 
   module _ (all : n ≤ own .bytes) where
     same-count : length mine ≡ length (kept T s n)
-    same-count = omega (arith, few, cut-enough (bufferTotal T) (length mine) (spans T s) n good (omega (arith, own-bytes, ap total front)))
+    same-count = omega (arith, few, cut-enough (T .stock) (bufferTotal T) (length mine) (spans T s) n good (omega (arith, own-bytes, ap total front)))
 
     pub no-others : keptNotOwn T s n ≡ []
     no-others = drop-of-length-le (kept T s n) {i = length mine} (omega (arith, same-count))
@@ -136,7 +136,7 @@ module _ {p : List ℕ} {h : Shape} {s n : ℕ} {own : OwnPart} (w : Seen p h s 
     short-is : shortenedBy T (own .last) (own .bytes - n) ≡ shortened T mine (kept T s n)
     short-is =
         let o : own .bytes - n ≡ total (stretches T mine) - n = ap (λ (x : ℕ). x - n) own-bytes in
-        ap (λ (x : ℕ). shortenedBy T x (own .bytes - n)) own-last ∙ shortened-is T (bufferTotal T) mine (kept T s n) (spans T s) n (own .bytes - n) good front refl same-count (w .part) o
+        ap (λ (x : ℕ). shortenedBy T x (own .bytes - n)) own-last ∙ shortened-is T (T .stock) (bufferTotal T) mine (kept T s n) (spans T s) n (own .bytes - n) good front refl same-count (w .part) o
 
     pub short-hangable : {q : List ℕ} → Holds q h (shortenedBy T (own .last) (own .bytes - n)) → Hangable (decode q) (own .last) 0
     short-hangable {q} is =
@@ -189,7 +189,7 @@ module _ {p : List ℕ} {h : Shape} {s n : ℕ} {own : OwnPart} (w : Seen p h s 
         let ys = keptNotOwn T s n in
         let T₁ = built T fs ys 0 in
         let e = built-kept T fs ys 0 .slips-kept in
-        let ok = built-sound T fs ys 0 {fl = []} (free-pieces T) (good-drop (bufferTotal T) (length mine) (kept T s n) (kept-good T s n sound)) (sound .0, reorder (λ x. omega arith) (sound .1)) in
+        let ok = built-sound T fs ys 0 {fl = []} (free-pieces T) (good-drop (T .stock) (bufferTotal T) (length mine) (kept T s n) (kept-good T s n sound)) (sound .0, reorder (λ x. omega arith) (sound .1)) in
         let o = own-list-still T T₁ (headOf T s) mine (λ d c. built-own T fs ys 0 (free-pieces T) d c) (own-pieces (length (kept T s n)) (headOf T s) T) in
         let it = hangable T₁ s (builtLink fs ys 0) mine (subst (λ (l : List ℕ). s < length l) (sym e) (w .below)) (subst (λ (l : List ℕ). OwnList T₁ (pred (getD l s 0)) mine) (sym e) o) ok in
         rw (is-built, own-last, is-link) it

@@ -21,23 +21,23 @@ use Rattle.keep.specs.Shorten.{shortenedBy}
 
 -- ---- what is cut out, behind the first j stretches
 
-pub cut-behind : (B j : ℕ) (ys : List Stretch) (n : ℕ) → Good B ys → j ≤ length (cutOut ys 0 n) → drop j (cutOut ys 0 n) ≡ cutOut (drop j ys) 0 (n - total (take j ys))
+pub cut-behind : (Z : List ℕ) (B j : ℕ) (ys : List Stretch) (n : ℕ) → Good Z B ys → j ≤ length (cutOut ys 0 n) → drop j (cutOut ys 0 n) ≡ cutOut (drop j ys) 0 (n - total (take j ys))
 unfolding cutOut total
-cut-behind B zero ys n g h = ap (cutOut ys 0) (sym (sub-zero n))
-cut-behind B (suc j) [] n g h = absurd (omega arith)
-cut-behind B (suc j) (y ∷ ys) zero g h = absurd (omega arith)
-cut-behind B (suc j) (y ∷ ys) (suc n) g h =
+cut-behind Z B zero ys n g h = ap (cutOut ys 0) (sym (sub-zero n))
+cut-behind Z B (suc j) [] n g h = absurd (omega arith)
+cut-behind Z B (suc j) (y ∷ ys) zero g h = absurd (omega arith)
+cut-behind Z B (suc j) (y ∷ ys) (suc n) g h =
     let c = cut-cons y ys n (g .1) in
     let e : suc n - (y .len - 0) - total (take j ys) ≡ suc n - (y .len + total (take j ys)) = omega arith in
-    ap (drop (suc j)) c ∙ cut-behind B j ys (suc n - (y .len - 0)) (g .3) (omega (arith, ap length c)) ∙ ap (cutOut (drop j ys) 0) e
+    ap (drop (suc j)) c ∙ cut-behind Z B j ys (suc n - (y .len - 0)) (g .3) (omega (arith, ap length c)) ∙ ap (cutOut (drop j ys) 0) e
 
 -- where the first j have n bytes, no more stay
-pub cut-enough : (B j : ℕ) (ys : List Stretch) (n : ℕ) → Good B ys → n ≤ total (take j ys) → length (cutOut ys 0 n) ≤ j
+pub cut-enough : (Z : List ℕ) (B j : ℕ) (ys : List Stretch) (n : ℕ) → Good Z B ys → n ≤ total (take j ys) → length (cutOut ys 0 n) ≤ j
 unfolding cutOut total
-cut-enough B j [] n g h = omega arith
-cut-enough B j (y ∷ ys) zero g h = omega arith
-cut-enough B zero (y ∷ ys) (suc n) g h = absurd (omega arith)
-cut-enough B (suc j) (y ∷ ys) (suc n) g h = omega (arith, ap length (cut-cons y ys n (g .1)), cut-enough B j ys (suc n - (y .len - 0)) (g .3) (omega arith))
+cut-enough Z B j [] n g h = omega arith
+cut-enough Z B j (y ∷ ys) zero g h = omega arith
+cut-enough Z B zero (y ∷ ys) (suc n) g h = absurd (omega arith)
+cut-enough Z B (suc j) (y ∷ ys) (suc n) g h = omega (arith, ap length (cut-cons y ys n (g .1)), cut-enough Z B j ys (suc n - (y .len - 0)) (g .3) (omega arith))
 
 -- ---- the last stretch that stays
 
@@ -47,13 +47,13 @@ unfolding total
 none-cut ys n h e = sym (total-cutOut ys 0 n (omega arith)) ∙ ap total e
 
 -- it starts where its piece does, and is as much shorter as the pieces have more than n bytes
-pub last-stays : (T : Tables) (B d : ℕ) (ds : List ℕ) (x : Stretch) (xs ys : List Stretch) (n : ℕ) → Good B ys → stretches T (d ∷ ds) ≡ take (suc (length ds)) ys → cutOut ys 0 n ≡ x ∷ xs
+pub last-stays : (T : Tables) (Z : List ℕ) (B d : ℕ) (ds : List ℕ) (x : Stretch) (xs ys : List Stretch) (n : ℕ) → Good Z B ys → stretches T (d ∷ ds) ≡ take (suc (length ds)) ys → cutOut ys 0 n ≡ x ∷ xs
     → length xs ≡ length ds → n ≤ total ys
     → (lastOf x xs .offset ≡ piece T (lastOf d ds) .offset) × (lastOf x xs .len + total (stretches T (d ∷ ds)) ≡ piece T (lastOf d ds) .len + n) × (n ≤ total (stretches T (d ∷ ds)))
 unfolding stretches total
-last-stays T B d ds x xs [] n g e c l t = absurd (let q = ap length e in omega arith)
-last-stays T B d ds x xs (y ∷ ys) zero g e c l t = absurd (let q = cut-some (y ∷ ys) 0 zero (omega (arith, ap length c)) in omega arith)
-last-stays T B d [] x [] (y ∷ ys) (suc n) g e c l t =
+last-stays T Z B d ds x xs [] n g e c l t = absurd (let q = ap length e in omega arith)
+last-stays T Z B d ds x xs (y ∷ ys) zero g e c l t = absurd (let q = cut-some (y ∷ ys) 0 zero (omega (arith, ap length c)) in omega arith)
+last-stays T Z B d [] x [] (y ∷ ys) (suc n) g e c l t =
     let cut : Stretch = record { buffer = y .buffer; offset = y .offset + 0; len = min (suc n) (y .len - 0) } in
     let c₂ : cut ∷ cutOut ys 0 (suc n - (y .len - 0)) ≡ x ∷ [] = sym (cut-cons y ys n (g .1)) ∙ c in
     let first : cut ≡ x = cc in
@@ -65,9 +65,9 @@ last-stays T B d [] x [] (y ∷ ys) (suc n) g e c l t =
     let b : min (suc n) (y .len - 0) ≡ x .len = ap (λ (z : Stretch). z .len) first in
     let none = none-cut ys (suc n - (y .len - 0)) (omega arith) rest in
     (omega arith, omega arith, omega arith)
-last-stays T B d [] x (x₂ ∷ xs) (y ∷ ys) (suc n) g e c l t = absurd (omega arith)
-last-stays T B d (d₂ ∷ ds) x [] (y ∷ ys) (suc n) g e c l t = absurd (omega arith)
-last-stays T B d (d₂ ∷ ds) x (x₂ ∷ xs) (y ∷ ys) (suc n) g e c l t =
+last-stays T Z B d [] x (x₂ ∷ xs) (y ∷ ys) (suc n) g e c l t = absurd (omega arith)
+last-stays T Z B d (d₂ ∷ ds) x [] (y ∷ ys) (suc n) g e c l t = absurd (omega arith)
+last-stays T Z B d (d₂ ∷ ds) x (x₂ ∷ xs) (y ∷ ys) (suc n) g e c l t =
     let more = cutOut ys 0 (suc n - (y .len - 0)) in
     let cut : Stretch = record { buffer = y .buffer; offset = y .offset + 0; len = min (suc n) (y .len - 0) } in
     let c₂ : cut ∷ more ≡ x ∷ x₂ ∷ xs = sym (cut-cons y ys n (g .1)) ∙ c in
@@ -76,30 +76,30 @@ last-stays T B d (d₂ ∷ ds) x (x₂ ∷ xs) (y ∷ ys) (suc n) g e c l t =
     let olds : stretches T (d₂ ∷ ds) ≡ take (suc (length ds)) ys = cc in
     let m : piece T d .len ≡ y .len = ap (λ (z : Stretch). z .len) old in
     let some = cut-some ys 0 (suc n - (y .len - 0)) (omega (arith, ap length rest)) in
-    let i = last-stays T B d₂ ds x₂ xs ys (suc n - (y .len - 0)) (g .3) olds rest (omega arith) (omega arith) in
+    let i = last-stays T Z B d₂ ds x₂ xs ys (suc n - (y .len - 0)) (g .3) olds rest (omega arith) (omega arith) in
     (i .0, omega (arith, i .1), omega (arith, i .2))
 
 -- so the last own piece is shortened by what they have more
-pub shortened-is : (T : Tables) (B : ℕ) (own : List ℕ) (xs ys : List Stretch) (n over : ℕ) → Good B ys → stretches T own ≡ take (length own) ys → cutOut ys 0 n ≡ xs → length own ≡ length xs
+pub shortened-is : (T : Tables) (Z : List ℕ) (B : ℕ) (own : List ℕ) (xs ys : List Stretch) (n over : ℕ) → Good Z B ys → stretches T own ≡ take (length own) ys → cutOut ys 0 n ≡ xs → length own ≡ length xs
     → n ≤ total ys → over ≡ total (stretches T own) - n → shortenedBy T (lastLink own) over ≡ shortened T own xs
 unfolding shortened
-shortened-is T B [] xs ys n over g e c l t o = refl
-shortened-is T B (d ∷ ds) [] ys n over g e c l t o = absurd (omega arith)
-shortened-is T B (d ∷ ds) (x ∷ xs) ys n over g e c l t o =
+shortened-is T Z B [] xs ys n over g e c l t o = refl
+shortened-is T Z B (d ∷ ds) [] ys n over g e c l t o = absurd (omega arith)
+shortened-is T Z B (d ∷ ds) (x ∷ xs) ys n over g e c l t o =
     let q = lastOf d ds in
     let y = lastOf x xs in
-    let k = last-stays T B d ds x xs ys n g e c (omega arith) t in
+    let k = last-stays T Z B d ds x xs ys n g e c (omega arith) t in
     let m : piece T q .len - over ≡ y .len = omega (arith, k .1, k .2) in
     λ i. setPiece T q (withPlace (piece T q) (sym (k .0) i) (m i))
 
 -- the own pieces have the n bytes, and the last one those that they have more
-pub own-reach : (T : Tables) (B : ℕ) (own : List ℕ) (xs ys : List Stretch) (n : ℕ) → Good B ys → stretches T own ≡ take (length own) ys → cutOut ys 0 n ≡ xs → length own ≡ length xs
+pub own-reach : (T : Tables) (Z : List ℕ) (B : ℕ) (own : List ℕ) (xs ys : List Stretch) (n : ℕ) → Good Z B ys → stretches T own ≡ take (length own) ys → cutOut ys 0 n ≡ xs → length own ≡ length xs
     → n ≤ total ys → (n ≤ total (stretches T own)) × ((lastLink own ≡ 0 → ⊥) → total (stretches T own) - n ≤ piece T (lastLink own - 1) .len)
-own-reach T B [] [] ys n g e c l t = (omega (arith, none-cut ys n t c), λ h. absurd (h refl))
-own-reach T B [] (x ∷ xs) ys n g e c l t = absurd (omega arith)
-own-reach T B (d ∷ ds) [] ys n g e c l t = absurd (omega arith)
-own-reach T B (d ∷ ds) (x ∷ xs) ys n g e c l t =
-    let k = last-stays T B d ds x xs ys n g e c (omega arith) t in
+own-reach T Z B [] [] ys n g e c l t = (omega (arith, none-cut ys n t c), λ h. absurd (h refl))
+own-reach T Z B [] (x ∷ xs) ys n g e c l t = absurd (omega arith)
+own-reach T Z B (d ∷ ds) [] ys n g e c l t = absurd (omega arith)
+own-reach T Z B (d ∷ ds) (x ∷ xs) ys n g e c l t =
+    let k = last-stays T Z B d ds x xs ys n g e c (omega arith) t in
     let q : suc (lastOf d ds) - 1 ≡ lastOf d ds = omega arith in
     (k .2, λ _. omega (arith, k .1, ap (λ (i : ℕ). piece T i .len) q))
 

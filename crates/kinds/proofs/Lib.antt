@@ -1,2 +1,3 @@
 -- The laws of kinds.
 pub mod Laws
+pub mod Sizes

@@ -3,3 +3,4 @@ pub mod Limits
 pub mod SlipState
 pub mod Refusal
 pub mod Outcome
+pub mod Sizes

@@ -1,5 +1,5 @@
--- How many buffers, pieces and slips a pool may have, and where a buffer lies in storage.
-use Prim.Native.Nat.{ℕ, _*_}
+-- How many buffers, pieces and slips a pool may have, and the bytes of a buffer.
+use Prim.Native.Nat.{ℕ}
 use mathlib.Core.Bool.{Bool, _&&_}
 use lib.Dec.{leb}
 
@@ -18,14 +18,6 @@ mostSlips = 64
 -- the bytes of a buffer: the cluster size
 abbrev pub bufferSize : ℕ
 bufferSize = 512
-
--- the bytes of buffer b: the size of that cluster
-abbrev pub sizeOf : ℕ → ℕ
-sizeOf b = bufferSize
-
--- the byte of storage at which buffer b starts: the cluster's base offset
-abbrev pub startOf : ℕ → ℕ
-startOf b = bufferSize * b
 
 -- n is a count from 1 to most: a range test
 abbrev pub counted : ℕ → ℕ → Bool

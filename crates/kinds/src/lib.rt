@@ -1,8 +1,8 @@
 // The numbers of slips, pieces and buffers, a slip's state, the refusals and the answers.
 ghost use mathlib.Core.Path.{_≡_};
-ghost use Prim.Native.Nat.{_+_, _<_, min};
+ghost use Prim.Native.Nat.{_+_, _*_, _<_, min};
 ghost use lib.Dec.{ltb, leb};
-ghost use Rattle.kinds.specs.Limits.{mostBuffers, mostPieces, mostSlips, bufferSize, startOf, counted};
+ghost use Rattle.kinds.specs.Limits.{mostBuffers, mostPieces, mostSlips, bufferSize, counted};
 ghost use Rattle.kinds.specs.SlipState.{stateOf, rawOf};
 ghost use Rattle.kinds.specs.Refusal.{refusalCode};
 ghost use Rattle.kinds.specs.Outcome.{answerOf};
@@ -132,7 +132,7 @@ impl BufferNumber {
 
     // The byte of storage at which the buffer starts: the cluster's base offset.
     pub fn start(self) -> usize
-        ensures { λ r. ⌜ r ≡ startOf (self .0) ⌝ }
+        ensures { λ r. ⌜ r ≡ bufferSize * self .0 ⌝ }
     {
         BufferNumber::SIZE as usize * self.0 as usize
     }

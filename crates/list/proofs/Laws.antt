@@ -34,12 +34,13 @@ use Rattle.list.proofs.Reached.{follow-start, follow-more, reached, rea
 
 -- ---- one record more
 
-records-more : (k : ℕ) (xs : List Stretch) (x : Stretch) (ys : List Stretch) → drop k xs ≡ x ∷ ys → records (take (suc k) xs) ≡ records (take k xs) ++ (positionOf x ∷ x .len ∷ [])
+records-more : (Z : List ℕ) (k : ℕ) (xs : List Stretch) (x : Stretch) (ys : List Stretch) → drop k xs ≡ x ∷ ys
+    → records Z (take (suc k) xs) ≡ records Z (take k xs) ++ (positionOf Z x ∷ x .len ∷ [])
 unfolding records
-records-more zero [] x ys e = absurd (omega (arith, ap length e))
-records-more zero (z ∷ zs) x ys e = ap (λ (y : Stretch). positionOf y ∷ y .len ∷ []) (head-eq-of-cons-eq e)
-records-more (suc k) [] x ys e = absurd (omega (arith, ap length e))
-records-more (suc k) (z ∷ zs) x ys e = ap (λ (l : List ℕ). positionOf z ∷ z .len ∷ l) (records-more k zs x ys e)
+records-more Z zero [] x ys e = absurd (omega (arith, ap length e))
+records-more Z zero (z ∷ zs) x ys e = ap (λ (y : Stretch). positionOf Z y ∷ y .len ∷ []) (head-eq-of-cons-eq e)
+records-more Z (suc k) [] x ys e = absurd (omega (arith, ap length e))
+records-more Z (suc k) (z ∷ zs) x ys e = ap (λ (l : List ℕ). positionOf Z z ∷ z .len ∷ l) (records-more Z k zs x ys e)
 
 -- two stores behind what is written
 two-stores : (done list : List ℕ) (i a b : ℕ) → length done ≡ i → i + 2 ≤ length list → set (set (done ++ drop i list) i a) (i + 1) b ≡ done ++ (a ∷ b ∷ []) ++ drop (i + 2) list
@@ -56,7 +57,7 @@ two-stores done list i a b e h =
 pub record Writing (T : Tables) (link n : ℕ) (list₀ : List ℕ) (at k : ℕ) (list : List ℕ) : Type 0 where
   pub few : k ≤ n
   pub here : at ≡ follow T k link
-  pub written : list ≡ copied (records (take k (stretchesFrom T link))) list₀
+  pub written : list ≡ copied (records (T .stock) (take k (stretchesFrom T link))) list₀
 
 pub writing-first : (T : Tables) (link n : ℕ) (list₀ : List ℕ) → Writing T link n list₀ link 0 list₀
 unfolding records
@@ -64,10 +65,10 @@ writing-first T link n list₀ = record { few = omega arith; here = follow-start
 
 module _ {T : Tables} {link n : ℕ} {list₀ : List ℕ} {at k : ℕ} {list : List ℕ} (S : SoundTables T) (t : Is (linkOk T link)) (few : n ≤ length (stretchesFrom T link)) (w : Writing T link n list₀ at k list) where
   -- all are written
-  pub writing-all : (k < n → ⊥) → (list ≡ copied (records (take n (stretchesFrom T link))) list₀) × (at ≡ follow T n link)
+  pub writing-all : (k < n → ⊥) → (list ≡ copied (records (T .stock) (take n (stretchesFrom T link))) list₀) × (at ≡ follow T n link)
   writing-all h =
       let e : k ≡ n = omega (arith, w .few) in
-      (w .written ∙ ap (λ (j : ℕ). copied (records (take j (stretchesFrom T link))) list₀) e, w .here ∙ ap (λ (j : ℕ). follow T j link) e)
+      (w .written ∙ ap (λ (j : ℕ). copied (records (T .stock) (take j (stretchesFrom T link))) list₀) e, w .here ∙ ap (λ (j : ℕ). follow T j link) e)
 
   -- or one is left
   module _ (h : k < n) where
@@ -79,17 +80,17 @@ module _ {T : Tables} {link n : ℕ} {list₀ : List ℕ} {at k : ℕ} {list : L
     writing-piece = link-leads T at S (subst (λ (j : ℕ). Is (linkOk T j)) (sym (w .here)) (reached-good T link S t k (omega arith))) writing-some
 
     -- so the next record is written
-    pub writing-on : {a b m : ℕ} → 2 * n ≤ length list₀ → a ≡ positionOf (stretch (piece T (at - 1))) → b ≡ piece T (at - 1) .len → m ≡ piece T (at - 1) .next
+    pub writing-on : {a b m : ℕ} → 2 * n ≤ length list₀ → a ≡ positionOf (T .stock) (stretch (piece T (at - 1))) → b ≡ piece T (at - 1) .len → m ≡ piece T (at - 1) .next
         → Writing T link n list₀ m (k + 1) (set (set list (2 * k) a) (2 * k + 1) b)
     writing-on {a} {b} {m} wide ea eb em =
         let xs = stretchesFrom T link in
         let x = stretch (piece T (follow T k link - 1)) in
         let there : at - 1 ≡ follow T k link - 1 = ap (λ (j : ℕ). j - 1) (w .here) in
-        let R = records (take k xs) in
-        let size : length R ≡ 2 * k = records-length (take k xs) ∙ simp length-take (omega (arith, few, h)) in
-        let more : records (take (k + 1) xs) ≡ R ++ (positionOf x ∷ x .len ∷ []) = ap (λ (j : ℕ). records (take j xs)) (add-one k) ∙ records-more k xs x _ (reached-piece T link S t k (omega arith)) in
-        let more-size : length (records (take (k + 1) xs)) ≡ 2 * k + 2 = ap length more ∙ length-append R _ ∙ omega (arith, size) in
-        let pos : a ≡ positionOf x = ea ∙ ap (λ (j : ℕ). positionOf (stretch (piece T j))) there in
+        let R = records (T .stock) (take k xs) in
+        let size : length R ≡ 2 * k = records-length (T .stock) (take k xs) ∙ simp length-take (omega (arith, few, h)) in
+        let more : records (T .stock) (take (k + 1) xs) ≡ R ++ (positionOf (T .stock) x ∷ x .len ∷ []) = ap (λ (j : ℕ). records (T .stock) (take j xs)) (add-one k) ∙ records-more (T .stock) k xs x _ (reached-piece T link S t k (omega arith)) in
+        let more-size : length (records (T .stock) (take (k + 1) xs)) ≡ 2 * k + 2 = ap length more ∙ length-append R _ ∙ omega (arith, size) in
+        let pos : a ≡ positionOf (T .stock) x = ea ∙ ap (λ (j : ℕ). positionOf (T .stock) (stretch (piece T j))) there in
         let len : b ≡ x .len = eb ∙ ap (λ (j : ℕ). piece T j .len) there in
         record {
           few = omega arith;
@@ -98,7 +99,7 @@ module _ {T : Tables} {link n : ℕ} {list₀ : List ℕ} {at k : ℕ} {list : L
               ∙ two-stores R list₀ (2 * k) a b size (omega arith)
               ∙ (λ i. R ++ (pos i ∷ len i ∷ []) ++ drop (2 * k + 2) list₀)
               ∙ ap (λ (l : List ℕ). l ++ drop (2 * k + 2) list₀) (sym more)
-              ∙ ap (λ (j : ℕ). records (take (k + 1) xs) ++ drop j list₀) (sym more-size);
+              ∙ ap (λ (j : ℕ). records (T .stock) (take (k + 1) xs) ++ drop j list₀) (sym more-size);
         }
 
 -- ---- what list answers before it writes
@@ -146,7 +147,7 @@ module _ (p st list : List ℕ) (s : ℕ) (b : encode (decode p) ≡ p) where
   -- what is begun comes to the rule, once its records are written
   Comes : Begun → Type 0
   Comes r =
-      (resultOf (r .outcome) p st (copied (records (take (r .pieces) (stretchesFrom T (r .link)))) list) noView ≡ perform (WireList s list) (lent p st))
+      (resultOf (r .outcome) p st (copied (records (T .stock) (take (r .pieces) (stretchesFrom T (r .link)))) list) noView ≡ perform (WireList s list) (lent p st))
       × Leaves (r .outcome) (stateOf (slip T s))
 
   comes : Comes (begun T s (length list / 2))
@@ -156,17 +157,17 @@ module _ (p st list : List ℕ) (s : ℕ) (b : encode (decode p) ≡ p) where
       (λ u. (perform-first (WireList s list) (lent p st) Slip (first-yes (Slip ⇐ unnamed T s) _ u), tt))
       (λ u. if-either Comes (ltb (length list / 2) (length xs)) _ _
       (λ t. (
-        perform-first (WireList s list) (lent p st) Narrow (first-no (Slip ⇐ unnamed T s) _ u ∙ first-yes (Narrow ⇐ ltb (length list) (length (records xs))) [] (lt→ltb (length list) (length (records xs)) (omega (arith, ltb→lt (length list / 2) (length xs) t, records-length xs)))),
+        perform-first (WireList s list) (lent p st) Narrow (first-no (Slip ⇐ unnamed T s) _ u ∙ first-yes (Narrow ⇐ ltb (length list) (length (records (T .stock) xs))) [] (lt→ltb (length list) (length (records (T .stock) xs)) (omega (arith, ltb→lt (length list / 2) (length xs) t, records-length (T .stock) xs)))),
         tt,
       ))
       (λ t. (
-        (λ i. record { code = 0; number = length xs; pool = sym b i; storage = st; output = copied (records (take-length xs i)) list; view = noView })
+        (λ i. record { code = 0; number = length xs; pool = sym b i; storage = st; output = copied (records (T .stock) (take-length xs i)) list; view = noView })
             ∙ perform-none (WireList s list) (lent p st) refl
-            (first-no (Slip ⇐ unnamed T s) _ u ∙ first-no (Narrow ⇐ ltb (length list) (length (records xs))) [] (λ q. omega (arith, ltb→lt (length list) (length (records xs)) q, not-less (length list / 2) (length xs) t, records-length xs)) ∙ first-none),
+            (first-no (Slip ⇐ unnamed T s) _ u ∙ first-no (Narrow ⇐ ltb (length list) (length (records (T .stock) xs))) [] (λ q. omega (arith, ltb→lt (length list) (length (records (T .stock) xs)) q, not-less (length list / 2) (length xs) t, records-length (T .stock) xs)) ∙ first-none),
         refl,
       )))
 
-  pub list-performs : {r : Begun} {after : List ℕ} → r ≡ begun T s (length list / 2) → after ≡ copied (records (take (r .pieces) (stretchesFrom T (r .link)))) list
+  pub list-performs : {r : Begun} {after : List ℕ} → r ≡ begun T s (length list / 2) → after ≡ copied (records (T .stock) (take (r .pieces) (stretchesFrom T (r .link)))) list
       → (resultOf (r .outcome) p st after noView ≡ perform (WireList s list) (lent p st)) × Leaves (r .outcome) (stateOf (slip T s))
   unfolding Comes
   list-performs e w = rw (w, e) comes
@@ -175,11 +176,11 @@ module _ (p st list : List ℕ) (s : ℕ) (b : encode (decode p) ≡ p) where
 
 -- a list of two numbers has the first record
 pub first-record : (T : Tables) (link : ℕ) {pair : List ℕ} {m : ℕ} → SoundTables T → Is (linkOk T link) → (link ≡ 0 → ⊥)
-    → pair ≡ copied (records (take 1 (stretchesFrom T link))) (0 ∷ 0 ∷ []) → m ≡ follow T 1 link
-    → record { stretch = record { position = getD pair 0 0; length = getD pair 1 0 }; next = m } ≡ recordOf (piece T (link - 1))
+    → pair ≡ copied (records (T .stock) (take 1 (stretchesFrom T link))) (0 ∷ 0 ∷ []) → m ≡ follow T 1 link
+    → record { stretch = record { position = getD pair 0 0; length = getD pair 1 0 }; next = m } ≡ recordOf (T .stock) (piece T (link - 1))
 unfolding records follow
 first-record T link {pair} {m} S t h e n =
     let on = stretches-on T link S t h in
-    let is = e ∙ ap (λ (l : List Stretch). copied (records (take 1 l)) (0 ∷ 0 ∷ [])) on in
+    let is = e ∙ ap (λ (l : List Stretch). copied (records (T .stock) (take 1 l)) (0 ∷ 0 ∷ [])) on in
     let nx = n ∙ follow-more T 0 link h in
     (λ i. record { stretch = record { position = getD (is i) 0 0; length = getD (is i) 1 0 }; next = nx i })

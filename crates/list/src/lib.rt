@@ -79,7 +79,8 @@ pub fn begin(pool: &[u8], shape: Shape, s: SlipNumber, room: usize) -> Begun
 pub fn write_records(pool: &[u8], shape: Shape, link: u16, n: usize, list: &mut [u32]) -> u16
     requires { ⌜ Opened (now pool) shape × Is (linkOk (decode (now pool)) link) ⌝ }
     requires { ⌜ (n ≤ length (stretchesFrom (decode (now pool)) link)) × (2 * n ≤ length (now list)) ⌝ }
-    ensures { λ _. ⌜ now (list .exit) ≡ copied (records (take n (stretchesFrom (decode (now (pool .entry))) link))) (now (list .entry)) ⌝ }
+    ensures { λ _. ⌜ now (list .exit)
+        ≡ copied (records (decode (now (pool .entry)) .stock) (take n (stretchesFrom (decode (now (pool .entry))) link))) (now (list .entry)) ⌝ }
     ensures { λ r. ⌜ r ≡ follow (decode (now (pool .entry))) n link ⌝ }
 {
     let mut at = link;
@@ -113,7 +114,7 @@ pub fn list(pool: &[u8], shape: Shape, s: SlipNumber, list: &mut [u32]) -> Outco
 // The record of the piece that `link` leads to, by way of a list of two numbers, and the link behind it: a scatter list's entry.
 pub fn first(pool: &[u8], shape: Shape, link: u16) -> Record
     requires { ⌜ Opened (now pool) shape × Is (linkOk (decode (now pool)) link) × (link ≡ 0 → ⊥) ⌝ }
-    ensures { λ r. ⌜ r ≡ recordOf (piece (decode (now (pool .entry))) (link - 1)) ⌝ }
+    ensures { λ r. ⌜ r ≡ recordOf (decode (now (pool .entry)) .stock) (piece (decode (now (pool .entry))) (link - 1)) ⌝ }
 {
     let mut pair = [0u32; 2];
     let next = write_records(pool, shape, link, 1, &mut pair);

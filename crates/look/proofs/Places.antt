@@ -14,6 +14,10 @@ use Rattle.kinds.specs.declared.Outcome.the-variants.{Done, Refused}
 use Rattle.kinds.specs.Limits.{bufferSize}
 use Rattle.kinds.specs.SlipState.{stateOf}
 use Rattle.kinds.specs.Outcome.{codeOf}
+use Rattle.kinds.specs.Limits.{bufferSize}
+use Rattle.kinds.specs.SlipState.{stateOf}
+use Rattle.kinds.specs.Outcome.{codeOf}
+use Rattle.kinds.proofs.Sizes.{start-step}
 use Rattle.rules.specs.Basics.{Is, if_then_else_}
 use Rattle.rules.specs.Layout.{storageLength}
 use Rattle.rules.specs.Tables.{Tables, slip, piece, bufferTotal}
@@ -60,23 +64,24 @@ first-lacks xs n h = not-T (leb n (firstLength xs)) (λ t. omega (arith, leb→l
 -- ---- where the bytes are seen
 
 -- no bytes: at the start of storage
-pub view-none : (xs : List Stretch) (n : ℕ) → n ≡ 0 → viewAt (Storage 0) ≡ viewOf xs n
+pub view-none : (Z : List ℕ) (xs : List Stretch) (n : ℕ) → n ≡ 0 → viewAt (Storage 0) ≡ viewOf Z xs n
 unfolding viewOf
-view-none [] n e = refl
-view-none (x ∷ xs) n e = sym (if-T (eqb n 0) _ _ (eq→eqb n 0 e))
+view-none Z [] n e = refl
+view-none Z (x ∷ xs) n e = sym (if-T (eqb n 0) _ _ (eq→eqb n 0 e))
 
-view-some : (x : Stretch) (xs : List Stretch) (n : ℕ) → (n ≡ 0 → ⊥) → viewOf (x ∷ xs) n ≡ (if scattered (x ∷ xs) n then record { inScratch = 1; start = 0 } else record { inScratch = 0; start = positionOf x })
+view-some : (Z : List ℕ) (x : Stretch) (xs : List Stretch) (n : ℕ) → (n ≡ 0 → ⊥)
+    → viewOf Z (x ∷ xs) n ≡ (if scattered (x ∷ xs) n then record { inScratch = 1; start = 0 } else record { inScratch = 0; start = positionOf Z x })
 unfolding viewOf
-view-some x xs n h = if-F (eqb n 0) _ _ (λ t. h (eqb→eq n 0 t))
+view-some Z x xs n h = if-F (eqb n 0) _ _ (λ t. h (eqb→eq n 0 t))
 
 -- the first piece has them, or has not
-view-piece : (x : Stretch) (xs : List Stretch) (n : ℕ) → (n ≡ 0 → ⊥) → n ≤ x .len → viewAt (Storage (positionOf x)) ≡ viewOf (x ∷ xs) n
-view-piece x xs n h l = sym (view-some x xs n h ∙ if-F (scattered (x ∷ xs) n) _ _ (first-has (x ∷ xs) n l))
+view-piece : (Z : List ℕ) (x : Stretch) (xs : List Stretch) (n : ℕ) → (n ≡ 0 → ⊥) → n ≤ x .len → viewAt (Storage (positionOf Z x)) ≡ viewOf Z (x ∷ xs) n
+view-piece Z x xs n h l = sym (view-some Z x xs n h ∙ if-F (scattered (x ∷ xs) n) _ _ (first-has (x ∷ xs) n l))
 
-view-scratch : (xs : List Stretch) (n : ℕ) → firstLength xs < n → n ≤ total xs → viewAt Scratch ≡ viewOf xs n
+view-scratch : (Z : List ℕ) (xs : List Stretch) (n : ℕ) → firstLength xs < n → n ≤ total xs → viewAt Scratch ≡ viewOf Z xs n
 unfolding total
-view-scratch [] n h k = absurd (omega arith)
-view-scratch (x ∷ xs) n h k = sym (view-some x xs n (λ z. omega arith) ∙ if-T (scattered (x ∷ xs) n) _ _ (first-lacks (x ∷ xs) n h))
+view-scratch Z [] n h k = absurd (omega arith)
+view-scratch Z (x ∷ xs) n h k = sym (view-some Z x xs n (λ z. omega arith) ∙ if-T (scattered (x ∷ xs) n) _ _ (first-lacks (x ∷ xs) n h))
 
 -- ---- the start that the code finds
 
@@ -86,21 +91,21 @@ module _ (T : Tables) (l n : ℕ) (S : SoundTables T) (t : Is (linkOk T l)) (h :
   link-some z = h (omega (arith, k, ap (λ (m : ℕ). firstLength (stretchesFrom T m)) z, ap firstLength (stretches-none T)))
 
   -- which has them
-  pub place-piece : {a : ℕ} → a ≡ positionOf (stretch (piece T (l - 1))) → viewAt (Storage a) ≡ viewOf (stretchesFrom T l) n
+  pub place-piece : {a : ℕ} → a ≡ positionOf (T .stock) (stretch (piece T (l - 1))) → viewAt (Storage a) ≡ viewOf (T .stock) (stretchesFrom T l) n
   place-piece e =
       let on = stretches-on T l S t link-some in
-      ap (λ (a : ℕ). viewAt (Storage a)) e ∙ view-piece (stretch (piece T (l - 1))) _ n h (omega (arith, k, ap firstLength on)) ∙ ap (λ (xs : List Stretch). viewOf xs n) (sym on)
+      ap (λ (a : ℕ). viewAt (Storage a)) e ∙ view-piece (T .stock) (stretch (piece T (l - 1))) _ n h (omega (arith, k, ap firstLength on)) ∙ ap (λ (xs : List Stretch). viewOf (T .stock) xs n) (sym on)
 
 -- ---- the bytes seen in storage
 
 -- they are there
-storage-inside : (B : ℕ) (xs : List Stretch) (a n : ℕ) → Good B xs → n ≤ firstLength xs → viewAt (Storage a) ≡ viewOf xs n → a + n ≤ storageLength B
+storage-inside : (Z : List ℕ) (B : ℕ) (xs : List Stretch) (a n : ℕ) → Good Z B xs → n ≤ firstLength xs → viewAt (Storage a) ≡ viewOf Z xs n → a + n ≤ storageLength Z B
 unfolding viewOf
-storage-inside B [] a n g k e = omega (arith, ap (λ (v : View). v .start) e)
-storage-inside B (x ∷ xs) a n g k e =
-    if-either (λ (v : View). viewAt (Storage a) ≡ v → a + n ≤ storageLength B) (eqb n 0) _ _
+storage-inside Z B [] a n g k e = omega (arith, ap (λ (v : View). v .start) e)
+storage-inside Z B (x ∷ xs) a n g k e =
+    if-either (λ (v : View). viewAt (Storage a) ≡ v → a + n ≤ storageLength Z B) (eqb n 0) _ _
     (λ t q. omega (arith, eqb→eq n 0 t, ap (λ (v : View). v .start) q))
-    (λ _ q. omega (arith, g .0, g .2, ap (λ (v : View). v .start) (q ∙ if-F (scattered (x ∷ xs) n) _ _ (first-has (x ∷ xs) n k)))) e
+    (λ _ q. omega (arith, g .2, start-step Z (x .buffer) B (g .0), ap (λ (v : View). v .start) (q ∙ if-F (scattered (x ∷ xs) n) _ _ (first-has (x ∷ xs) n k)))) e
 
 -- ---- show
 
@@ -149,7 +154,7 @@ module _ (p st sc : List ℕ) (s n : ℕ) where
           -- a show that is done, at a place and with the scratch as they are found
           done-seen : (place : Place) (after : List ℕ) → (Is (scattered (spans (decode p) s) n && ltb (length sc) n) → ⊥)
               → after ≡ (if scattered (spans (decode p) s) n then copied (take n (reads (stateIn (lent p st)) s)) sc else sc)
-              → viewAt place ≡ viewOf (spans (decode p) s) n → Lies st after place n → Seen (record { outcome = o; place = place }) p st s n sc after
+              → viewAt place ≡ viewOf (decode p .stock) (spans (decode p) s) n → Lies st after place n → Seen (record { outcome = o; place = place }) p st s n sc after
           unfolding rule done
           done-seen place after t e v l = rw a (record {
             is = (λ i. record { code = 0; number = n; pool = sym b i; storage = st; output = e i; view = v i })
@@ -162,12 +167,13 @@ module _ (p st sc : List ℕ) (s n : ℕ) where
           })
 
           -- the first piece has the bytes
-          pub show-storage : (B c : ℕ) → Fit B st → Good B (spans (decode p) s) → n ≤ firstLength (spans (decode p) s) → viewAt (Storage c) ≡ viewOf (spans (decode p) s) n
+          pub show-storage : (B c : ℕ) → Fit (decode p .stock) B st → Good (decode p .stock) B (spans (decode p) s) → n ≤ firstLength (spans (decode p) s)
+              → viewAt (Storage c) ≡ viewOf (decode p .stock) (spans (decode p) s) n
               → Seen (record { outcome = o; place = Storage c }) p st s n sc sc
           show-storage B c f g i v =
               let xs = spans (decode p) s in
               done-seen (Storage c) sc (λ t. first-has xs n i (and-0 (scattered xs n) _ t)) (sym (if-F (scattered xs n) _ _ (first-has xs n i))) v
-              (omega (arith, storage-inside B xs c n g i v))
+              (omega (arith, storage-inside (decode p .stock) B xs c n g i v))
 
           -- or has not, and they are copied
           pub show-scratch : (after : List ℕ) → firstLength (spans (decode p) s) < n → n ≤ length sc → length after ≡ length sc
@@ -175,7 +181,7 @@ module _ (p st sc : List ℕ) (s n : ℕ) where
           show-scratch after v m j e =
               let xs = spans (decode p) s in
               done-seen Scratch after (λ q. omega (arith, ltb→lt (length sc) n (and-1 (scattered xs n) _ q))) (e ∙ sym (if-T (scattered xs n) _ _ (first-lacks xs n v)))
-              (view-scratch xs n v k) (omega arith)
+              (view-scratch (decode p .stock) xs n v k) (omega arith)
 
 -- ---- the view
 
@@ -194,7 +200,7 @@ done-rule o m e =
     ]
 
 -- The view of a show that is done has the first n bytes of the chain.
-pub first-seen : {r : Shown} {p st sc after : List ℕ} {s n : ℕ} → SoundTables (decode p) → Fit (bufferTotal (decode p)) st → Seen r p st s n sc after → codeOf (r .outcome) ≡ 0
+pub first-seen : {r : Shown} {p st sc after : List ℕ} {s n : ℕ} → SoundTables (decode p) → Fit (decode p .stock) (bufferTotal (decode p)) st → Seen r p st s n sc after → codeOf (r .outcome) ≡ 0
     → partAt st after (r .place) n ≡ take n (reads (stateIn (lent p st)) s)
 unfolding done
 first-seen {r} {p} {st} {sc} {after} {s} {n} sound fit w e =

@@ -20,6 +20,7 @@ ghost use Rattle.rules.specs.Sound.{linkOk, lent};
 ghost use Rattle.rules.specs.Rule.{noView};
 ghost use Rattle.rules.specs.Show.{viewOf};
 ghost use Rattle.rules.specs.Step.{Length, Read, perform};
+ghost use Rattle.tables.specs.Shape.{stockOf};
 ghost use Rattle.chain.specs.Opened.{Opened};
 ghost use Rattle.chain.specs.Length.{stretchesFrom};
 ghost use Rattle.answer.specs.Result.{resultOf, Leaves};
@@ -71,7 +72,7 @@ pub fn read(
     n: u32,
     output: &mut [u8],
 ) -> Outcome
-    requires { ⌜ Opened (now pool) shape × (length (now storage) ≡ storageLength (shape .buffers)) ⌝ }
+    requires { ⌜ Opened (now pool) shape × (length (now storage) ≡ storageLength (stockOf shape) (shape .buffers)) ⌝ }
     ensures { λ r. ⌜ resultOf r (now (pool .entry)) (now (storage .entry)) (now (output .exit)) noView
         ≡ perform (Read (s .0) off n (now (output .entry))) (lent (now (pool .entry)) (now (storage .entry))) ⌝ }
     ensures { λ r. ⌜ Leaves r (stateOf (slip (decode (now (pool .entry))) (s .0))) ⌝ }
@@ -111,7 +112,7 @@ pub fn unseen(why: Refusal) -> Shown
 fn start_of(pool: &[u8], shape: Shape, link: u16, n: u32) -> usize
     requires { ⌜ Opened (now pool) shape × Is (linkOk (decode (now pool)) link) ⌝ }
     requires { ⌜ n ≤ firstLength (stretchesFrom (decode (now pool)) link) ⌝ }
-    ensures { λ r. ⌜ viewAt (Place.Storage r) ≡ viewOf (stretchesFrom (decode (now (pool .entry))) link) n ⌝ }
+    ensures { λ r. ⌜ viewAt (Place.Storage r) ≡ viewOf (decode (now (pool .entry)) .stock) (stretchesFrom (decode (now (pool .entry))) link) n ⌝ }
 {
     if n == 0 {
         return 0;
@@ -128,7 +129,7 @@ pub fn show(
     n: u32,
     scratch: &mut [u8],
 ) -> Shown
-    requires { ⌜ Opened (now pool) shape × (length (now storage) ≡ storageLength (shape .buffers)) ⌝ }
+    requires { ⌜ Opened (now pool) shape × (length (now storage) ≡ storageLength (stockOf shape) (shape .buffers)) ⌝ }
     ensures { λ r. ⌜ Seen r (now (pool .entry)) (now (storage .entry)) (s .0) n (now (scratch .entry)) (now (scratch .exit)) ⌝ }
 {
     if !chain::held(pool, shape, s) {

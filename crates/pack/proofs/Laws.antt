@@ -33,8 +33,8 @@ use Rattle.rules.proofs.Sizes.{old-storage}
 use Rattle.rules.proofs.Put.{new-good}
 use Rattle.rules.proofs.Bytes.{AllBytes}
 use Rattle.layout.specs.declared.Shape.{Shape}
-use Rattle.tables.specs.Shape.{Holds}
-use Rattle.tables.proofs.Laws.{whole, total-pieces, total-buffers}
+use Rattle.tables.specs.Shape.{Holds, stockOf}
+use Rattle.tables.proofs.Laws.{whole, total-pieces, storage-fits}
 use Rattle.chain.specs.Opened.{Opened}
 use Rattle.chain.specs.Length.{stretchesFrom}
 use Rattle.chain.proofs.Links.{walk-none, walk-on, walk-less, link-leads}
@@ -68,7 +68,7 @@ scattered-on T n (suc d) S t i e =
 
 -- the pieces that pack makes of the chain of slip s
 abbrev pub packed : Tables → ℕ → List Stretch
-packed T s = laid (newBuffers T (buffersFor (lengthOf T s))) (lengthOf T s)
+packed T s = laid (T .stock) (newBuffers T (buffersFor (lengthOf T s))) (lengthOf T s)
 
 -- what the code finds before it acts: the chain's length, and how many buffers it needs
 pub record Found (p : List ℕ) (h : Shape) (s n count : ℕ) : Type 0 where
@@ -81,20 +81,20 @@ module _ {p : List ℕ} {h : Shape} {s n count : ℕ} (w : Found p h s n count) 
   T = decode p
 
   -- the pieces laid are these
-  is-packed : laid (newBuffers T count) n ≡ packed T s
-  is-packed = ap (λ (k : ℕ). laid (newBuffers T k) n) (w .buffers) ∙ ap (λ (m : ℕ). laid (newBuffers T (buffersFor m)) m) (w .bytes)
+  is-packed : laid (T .stock) (newBuffers T count) n ≡ packed T s
+  is-packed = ap (λ (k : ℕ). laid (T .stock) (newBuffers T k) n) (w .buffers) ∙ ap (λ (m : ℕ). laid (T .stock) (newBuffers T (buffersFor m)) m) (w .bytes)
 
   -- all bytes of the chain go to the new buffers
-  pub new-bytes : (st : List ℕ) {head : ℕ} {after : List ℕ} → length st ≡ storageLength (h .buffers) → Is (linkOk T head) → head ≡ headOf T s
-      → after ≡ stored st (newBuffers T (buffersFor n)) (take n (contents st (stretchesFrom T head)))
-      → after ≡ stored st (newBuffers T (buffersFor (lengthOf T s))) (reads (stateOf T st) s)
+  pub new-bytes : (st : List ℕ) {head : ℕ} {after : List ℕ} → length st ≡ storageLength (stockOf h) (h .buffers) → Is (linkOk T head) → head ≡ headOf T s
+      → after ≡ stored (T .stock) st (newBuffers T (buffersFor n)) (take n (contents (T .stock) st (stretchesFrom T head)))
+      → after ≡ stored (T .stock) st (newBuffers T (buffersFor (lengthOf T s))) (reads (stateOf T st) s)
   new-bytes st f t e is =
-      let fit : Fit (bufferTotal T) st = f ∙ ap storageLength (sym (total-buffers (whole (w .opened .shaped)))) in
+      let fit : Fit (T .stock) (bufferTotal T) st = storage-fits (whole (w .opened .shaped)) f in
       let ok = subst (λ (x : ℕ). Is (linkOk T x)) e t in
-      is ∙ (λ i. stored st (newBuffers T (buffersFor (w .bytes i))) (take (w .bytes i) (contents st (stretchesFrom T (e i)))))
-      ∙ ap (stored st (newBuffers T (buffersFor (lengthOf T s)))) (bytes-all T st (headOf T s) (w .opened .sound) fit ok)
+      is ∙ (λ i. stored (T .stock) st (newBuffers T (buffersFor (w .bytes i))) (take (w .bytes i) (contents (T .stock) st (stretchesFrom T (e i)))))
+      ∙ ap (stored (T .stock) st (newBuffers T (buffersFor (lengthOf T s)))) (bytes-all T st (headOf T s) (w .opened .sound) fit ok)
 
-  module _ {q : List ℕ} {first : ℕ} (was : Holds q h (built T (freePieces T) (laid (newBuffers T count) n) 0)) (link : first ≡ builtLink (freePieces T) (laid (newBuffers T count) n) 0) where
+  module _ {q : List ℕ} {first : ℕ} (was : Holds q h (built T (freePieces T) (laid (T .stock) (newBuffers T count) n) 0)) (link : first ≡ builtLink (freePieces T) (laid (T .stock) (newBuffers T count) n) 0) where
     -- so are the tables with them, and the link to the first
     is-built : decode q ≡ built T (freePieces T) (packed T s) 0
     is-built = was .is ∙ ap (λ (xs : List Stretch). built T (freePieces T) xs 0) is-packed
@@ -182,7 +182,7 @@ module _ (p st : List ℕ) (s : ℕ) where
         -- the new pieces under the same slip, and the bytes in the new buffers
         pub pack-done : {o : Outcome} {x : SlipState} {q after : List ℕ} {h : Shape} → k ≤ length (freeBuffers (decode p)) → o ≡ Done (record { state = x; number = 0 }) → AllBytes q
             → Holds q h (underOld (stateOf (decode p) after) (plain (decode p) (packed (decode p) s)) (freePieces (decode p)) s .tables)
-            → after ≡ stored st (newBuffers (decode p) k) (reads (stateIn (lent p st)) s) → resultOf o q after [] noView ≡ perform (Pack s) (lent p st)
+            → after ≡ stored (decode p .stock) st (newBuffers (decode p) k) (reads (stateIn (lent p st)) s) → resultOf o q after [] noView ≡ perform (Pack s) (lent p st)
         unfolding rule packAfter
         pack-done {after = after} most a b is f =
             let T = decode p in

@@ -8,7 +8,8 @@ use native.Mathlib.Decide.{decLt}
 use native.Mathlib.Omega.{arith}
 use lib.ListN.{length, take}
 use lib.Dec.{leb, leb→le}
-use Rattle.kinds.specs.Limits.{bufferSize}
+use Rattle.kinds.specs.Sizes.{sizeOf}
+use Rattle.kinds.proofs.Sizes.{size-one}
 use Rattle.rules.specs.Basics.{Is, places}
 use Rattle.rules.specs.Tables.{Tables, piece, pieceTotal, bufferTotal, bufferCount}
 use Rattle.rules.specs.Bytes.{decode}
@@ -120,17 +121,17 @@ module _ {T : Tables} {s n head : ℕ} {at : Spot} {f b : ℕ} (h : Pullable T s
   buffer-lowest = h .lowest ∙ sym (lowest-some (isUnheld T) (buffersFor n) (bufferTotal T) (λ z. omega (arith, one-buffer, z)))
 
   -- the bytes in a piece on it
-  laid-one : laid (newBuffers T 1) n ≡ record { buffer = b; offset = 0; len = n } ∷ []
+  laid-one : laid (T .stock) (newBuffers T 1) n ≡ record { buffer = b; offset = 0; len = n } ∷ []
   unfolding laid
   laid-one =
-      let e : min bufferSize n ≡ n = omega (arith, h .fits) in
-      ap (λ (l : List ℕ). laid l n) new-buffer ∙ ap (λ (k : ℕ). record { buffer = b; offset = 0; len = k } ∷ []) e
+      let e : min (sizeOf (T .stock) b) n ≡ n = omega (arith, h .fits, size-one (T .stock) b) in
+      ap (λ (l : List ℕ). laid (T .stock) l n) new-buffer ∙ ap (λ (k : ℕ). record { buffer = b; offset = 0; len = k } ∷ []) e
 
   -- so the plan is that from the place found
   pub pulled-from : pulled T s n ≡ pulledFrom T at b n
   pulled-from =
       let e = dropped-at T s n (h .starts) (h .place) in
-      ap (λ (p : Plan). record { base = p .base; more = laid (newBuffers T 1) n ++ p .more; tail = p .tail }) e
+      ap (λ (p : Plan). record { base = p .base; more = laid (T .stock) (newBuffers T 1) n ++ p .more; tail = p .tail }) e
       ∙ (let p = restAt T at in ap (λ (xs : List Stretch). record { base = p .base; more = xs ++ p .more; tail = p .tail }) laid-one)
 
   -- and what is made by it is made by the plan
@@ -149,16 +150,16 @@ module _ {T : Tables} {s n head : ℕ} {at : Spot} {f b : ℕ} (h : Pullable T s
 -- the plan under the slip, and the bytes on their buffer, are what pullup leaves
 pub pull-done : (p st : List ℕ) {g : Shape} {s n head : ℕ} {at : Spot} {f b : ℕ} {q st′ : List ℕ} → Pullable (decode p) s n head at f b
     → ((S : State) → Holds q g (underOld S (pulled (decode p) s n) (freePieces (decode p)) s .tables))
-    → st′ ≡ stored st (newBuffers (decode p) (buffersFor n)) (take n (contents st (stretchesFrom (decode p) head))) → Pulled p st g s n q st′
+    → st′ ≡ stored (decode p .stock) st (newBuffers (decode p) (buffersFor n)) (take n (contents (decode p .stock) st (stretchesFrom (decode p) head))) → Pulled p st g s n q st′
 unfolding pullupAfter
 pull-done p st {s = s} {n = n} h is e =
     let T = decode p in
     let S = stateOf T st in
-    let S₁ = stateOf T (stored st (newBuffers T 1) (take n (reads S s))) in
+    let S₁ = stateOf T (stored (T .stock) st (newBuffers T 1) (take n (reads S s))) in
     let after : pullupAfter s n S ≡ underOld S₁ (pulled T s n) (freePieces T) s = if-F (leb n (firstLength (spans T s))) _ _ (λ t. omega (arith, leb→le n (firstLength (spans T s)) t, h .scattered)) in
     let now = is S₁ in
     record {
       tables-are = record { shaped = now .shaped; is = now .is ∙ sym (ap (λ (X : State). X .tables) after) };
-      storage-is = e ∙ (λ i. stored st (newBuffers T (one-buffer h i)) (take n (contents st (stretchesFrom T (h .starts i)))))
+      storage-is = e ∙ (λ i. stored (T .stock) st (newBuffers T (one-buffer h i)) (take n (contents (T .stock) st (stretchesFrom T (h .starts i)))))
           ∙ sym (ap (λ (X : State). X .storage) after ∙ old-storage S₁ (pulled T s n) (freePieces T) s);
     }

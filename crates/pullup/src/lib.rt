@@ -20,7 +20,7 @@ ghost use Rattle.rules.specs.Room.{isFree, freePieces};
 ghost use Rattle.rules.specs.Build.{made, madeLink};
 ghost use Rattle.rules.specs.Rule.{noView};
 ghost use Rattle.rules.specs.Step.{Pullup, perform};
-ghost use Rattle.tables.specs.Shape.{Holds};
+ghost use Rattle.tables.specs.Shape.{Holds, stockOf};
 ghost use Rattle.chain.specs.Opened.{Opened};
 ghost use Rattle.room.specs.Free.{firstFrom};
 ghost use Rattle.answer.specs.Result.{resultOf, Leaves};
@@ -54,7 +54,7 @@ fn pull(
     f: u16,
     b: BufferNumber,
 )
-    requires { ⌜ Opened (now pool) shape × (length (now storage) ≡ storageLength (shape .buffers)) ⌝ }
+    requires { ⌜ Opened (now pool) shape × (length (now storage) ≡ storageLength (stockOf shape) (shape .buffers)) ⌝ }
     requires { ⌜ Pullable (decode (now pool)) (s .0) n head at f (b .0) ⌝ }
     ensures { λ _. ⌜ Pulled (now (pool .entry)) (now (storage .entry)) shape (s .0) n (now (pool .exit)) (now (storage .exit)) ⌝ }
 {
@@ -65,7 +65,7 @@ fn pull(
 
 // Brings the first `n` bytes of the chain of slip `s` into one piece; they are copied only where the first piece has fewer: m_pullup of a handle's chain.
 pub fn pullup(pool: &mut [u8], shape: Shape, storage: &mut [u8], s: SlipNumber, n: u32) -> Outcome
-    requires { ⌜ Opened (now pool) shape × (length (now storage) ≡ storageLength (shape .buffers)) ⌝ }
+    requires { ⌜ Opened (now pool) shape × (length (now storage) ≡ storageLength (stockOf shape) (shape .buffers)) ⌝ }
     ensures { λ r. ⌜ resultOf r (now (pool .exit)) (now (storage .exit)) [] noView
         ≡ perform (Pullup (s .0) n) (lent (now (pool .entry)) (now (storage .entry))) ⌝ }
     ensures { λ r. ⌜ Leaves r (stateOf (slip (decode (now (pool .exit))) (s .0))) ⌝ }

@@ -48,12 +48,12 @@ module _ (p st input : List ℕ) where
       -- the new pieces under the new slip, and the bytes in the new buffers
       pub put-done : {o : Outcome} {x : SlipState} {q after : List ℕ} {h : Shape} {t : ℕ} → buffersFor (length input) ≤ length (freeBuffers (decode p)) → newSlip (decode p) ≡ t
           → o ≡ Done (record { state = x; number = t }) → AllBytes q
-          → Holds q h (underNew (plain (decode p) (laid (newBuffers (decode p) (buffersFor (length input))) (length input))) (freePieces (decode p)) t)
-          → after ≡ stored st (newBuffers (decode p) (buffersFor (length input))) input → resultOf o q after [] noView ≡ perform (Put input) (lent p st)
+          → Holds q h (underNew (plain (decode p) (laid (decode p .stock) (newBuffers (decode p) (buffersFor (length input))) (length input))) (freePieces (decode p)) t)
+          → after ≡ stored (decode p .stock) st (newBuffers (decode p) (buffersFor (length input))) input → resultOf o q after [] noView ≡ perform (Put input) (lent p st)
       unfolding rule putAfter
       put-done {t = t} most e a b is f =
           let T = decode p in
           let k = buffersFor (length input) in
           changed _ (want 1 k k) (newSlip T) (putAfter input (stateIn (lent p st))) a (sym e) b
-          (record { shaped = is .shaped; is = is .is ∙ ap (underNew (plain T (laid (newBuffers T k) (length input))) (freePieces T)) (sym e) }) f
+          (record { shaped = is .shaped; is = is .is ∙ ap (underNew (plain T (laid (T .stock) (newBuffers T k) (length input))) (freePieces T)) (sym e) }) f
           ∙ perform-all (Put input) (lent p st) early some enough most

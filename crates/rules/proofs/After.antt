@@ -8,7 +8,8 @@ use native.Mathlib.Decide.{ℕ-discrete}
 use native.Mathlib.Omega.{arith}
 use lib.ListN.{length, length-take}
 use lib.Dec.{eqb, eqb→eq}
-use Rattle.kinds.specs.Limits.{bufferSize, sizeOf}
+use Rattle.kinds.specs.Limits.{bufferSize}
+use Rattle.kinds.specs.Sizes.{sizeOf}
 use Rattle.rules.specs.Basics.{if_then_else_}
 use Rattle.rules.specs.Tables.{Tables, slip, piece, bufferCount, headOf, pieceTotal, bufferTotal}
 use Rattle.rules.specs.Chain.{Stretch, State, walk, chain, stretches, spans, lengthOf, contents, reads, bytesOf}
@@ -74,37 +75,42 @@ off-by T k (d ∷ ds) h u = (not-free T 0 (bufferTotal T) (piece T d .buffer) (n
 pub spans-off : (T : Tables) (k u : ℕ) → SoundNow T → Off (newBuffers T k) (spans T u)
 spans-off T k u h = off-by T k (chain T u) (h .1) (chain-used T u h)
 
-module _ (S : State) (h : SoundNow (S .tables)) (f : Fit (bufferTotal (S .tables)) (S .storage)) where
+module _ (S : State) (h : SoundNow (S .tables)) (f : Fit (S .tables .stock) (bufferTotal (S .tables)) (S .storage)) where
   -- writing new buffers changes no chain's bytes
-  pub new-others : (k : ℕ) (xs : List ℕ) (u : ℕ) → contents (stored (S .storage) (newBuffers (S .tables) k) xs) (spans (S .tables) u) ≡ reads S u
+  pub new-others : (k : ℕ) (xs : List ℕ) (u : ℕ) → contents (S .tables .stock) (stored (S .tables .stock) (S .storage) (newBuffers (S .tables) k) xs) (spans (S .tables) u) ≡ reads S u
   new-others k xs u =
-      stored-others (isUnheld (S .tables)) 0 (bufferTotal (S .tables)) (newBuffers (S .tables) k) (S .storage) xs (spans (S .tables) u) (new-buffers-in (S .tables) k) f
+      stored-others (S .tables .stock) (isUnheld (S .tables)) 0 (bufferTotal (S .tables)) (newBuffers (S .tables) k) (S .storage) xs (spans (S .tables) u) (new-buffers-in (S .tables) k) f
       (spans-good (S .tables) u h) (spans-off (S .tables) k u h)
 
   -- the new buffers hold what was put
-  pub new-here : (k : ℕ) (xs : List ℕ) → k ≤ length (freeBuffers (S .tables)) → length xs ≤ bufferSize * k → contents (stored (S .storage) (newBuffers (S .tables) k) xs) (laid (newBuffers (S .tables) k) (length xs)) ≡ xs
+  pub new-here : (k : ℕ) (xs : List ℕ) → k ≤ length (freeBuffers (S .tables)) → length xs ≤ bufferSize * k
+      → contents (S .tables .stock) (stored (S .tables .stock) (S .storage) (newBuffers (S .tables) k) xs) (laid (S .tables .stock) (newBuffers (S .tables) k) (length xs)) ≡ xs
   new-here k xs r l =
-      stored-laid (isUnheld (S .tables)) 0 (bufferTotal (S .tables)) (newBuffers (S .tables) k) (S .storage) xs (new-buffers-in (S .tables) k) f
+      stored-laid (S .tables .stock) (isUnheld (S .tables)) 0 (bufferTotal (S .tables)) (newBuffers (S .tables) k) (S .storage) xs (new-buffers-in (S .tables) k) f
       (omega (arith, length-take k (freeBuffers (S .tables))))
 
   -- a slip reads as many bytes as its chain is long
   pub reads-length : (s : ℕ) → length (reads S s) ≡ lengthOf (S .tables) s
-  reads-length s = contents-length (bufferTotal (S .tables)) (S .storage) (spans (S .tables) s) f (spans-good (S .tables) s h)
+  reads-length s = contents-length (S .tables .stock) (bufferTotal (S .tables)) (S .storage) (spans (S .tables) s) f (spans-good (S .tables) s h)
 
 -- ---- what slips read after an operation
 
+-- the bytes of slip t in S′, where the buffers lie as in S
+abbrev pub readsWith : State → State → ℕ → List ℕ
+readsWith S S′ t = contents (S .tables .stock) (S′ .storage) (spans (S′ .tables) t)
+
 -- After an operation from S to S′ the slips are left as the changes say, and all others as they were.
 pub record Reading (S S′ : State) (cs : List Change) : Type 0 where
-  pub bytes : (t : ℕ) → reads S′ t ≡ changed (λ (c : Change). c .bytes) cs (reads S) t
+  pub bytes : (t : ℕ) → readsWith S S′ t ≡ changed (λ (c : Change). c .bytes) cs (reads S) t
   pub vacancy : (t : ℕ) → isVacant (S′ .tables) t ≡ changed (λ (c : Change). c .vacated) cs (isVacant (S .tables)) t
 
 -- slip s comes to hold l, which covers xs, and reads ys
 pub gives-reading : {fl : List ℕ} (S S′ : State) (s : ℕ) (l : List ℕ) (xs : List Stretch) (ys : List ℕ)
     → Gives (S .tables) (S′ .tables) s l xs → SoundWith fl (S .tables) → SoundNow (S′ .tables)
-    → ((u : ℕ) → contents (S′ .storage) (spans (S .tables) u) ≡ reads S u) → contents (S′ .storage) xs ≡ ys → Reading S S′ (reading s ys ∷ [])
+    → ((u : ℕ) → contents (S .tables .stock) (S′ .storage) (spans (S .tables) u) ≡ reads S u) → contents (S .tables .stock) (S′ .storage) xs ≡ ys → Reading S S′ (reading s ys ∷ [])
 gives-reading S S′ s l xs ys g h h′ o e = record {
-  bytes = at-by s ys (reads S) (reads S′) (ap (contents (S′ .storage)) (gives-spans g h′) ∙ e)
-      (λ u n. ap (contents (S′ .storage)) (moved-spans u u (g .entries u n) (g .others u n) h h′) ∙ o u);
+  bytes = at-by s ys (reads S) (readsWith S S′) (ap (contents (S .tables .stock) (S′ .storage)) (gives-spans g h′) ∙ e)
+      (λ u n. ap (contents (S .tables .stock) (S′ .storage)) (moved-spans u u (g .entries u n) (g .others u n) h h′) ∙ o u);
   vacancy = at-by s false (isVacant (S .tables)) (isVacant (S′ .tables)) (sym (held-false (S′ .tables) s (g .held)))
       (λ u n. ap (λ v. eqb v 0) (g .entries u n));
 }
@@ -122,42 +128,52 @@ pub gone-reading : {fl fl′ : List ℕ} (S S′ : State) (s : ℕ) → S′ .st
     → SoundWith fl (S .tables) → SoundWith fl′ (S′ .tables) → Reading S S′ (vacating s ∷ [])
 unfolding contents
 gone-reading S S′ s st z e f h h′ = record {
-  bytes = at-by s [] (reads S) (reads S′) (ap (contents (S′ .storage)) (empty-spans (S′ .tables) s (ap pred z)))
-      (λ u n. (λ i. contents (st i) (moved-spans u u (e u n) (f u n) h h′ i)));
+  bytes = at-by s [] (reads S) (readsWith S S′) (ap (contents (S .tables .stock) (S′ .storage)) (empty-spans (S′ .tables) s (ap pred z)))
+      (λ u n. (λ i. contents (S .tables .stock) (st i) (moved-spans u u (e u n) (f u n) h h′ i)));
   vacancy = at-by s true (isVacant (S .tables)) (isVacant (S′ .tables)) (is-true (isVacant (S′ .tables) s) (eq→eqb (slip (S′ .tables) s) 0 z))
       (λ u n. ap (λ v. eqb v 0) (e u n));
 }
+
+-- where S₁ and S have one stock, it is the same
+pub with-stock : (S S₁ S′ : State) → S₁ .tables .stock ≡ S .tables .stock → (t : ℕ) → readsWith S S′ t ≡ readsWith S₁ S′ t
+with-stock S S₁ S′ z t = ap (λ (Z : List ℕ). contents Z (S′ .storage) (spans (S′ .tables) t)) (sym z)
 
 at-under : {A : Type 0} (s t : ℕ) (x : A) (f g : ℕ → A) → f t ≡ g t → at s x f t ≡ at s x g t
 at-under s t x f g e = ap (λ y. if eqb t s then x else y) e
 
 -- a change after others counts before them
-pub then-reading : {S S₁ S′ : State} {c : Change} {cs : List Change} → Reading S S₁ cs → Reading S₁ S′ (c ∷ []) → Reading S S′ (c ∷ cs)
-then-reading {S} {S₁} {c = c} {cs = cs} r q =
+pub then-reading : {S S₁ S′ : State} {c : Change} {cs : List Change} → S₁ .tables .stock ≡ S .tables .stock → Reading S S₁ cs → Reading S₁ S′ (c ∷ [])
+    → Reading S S′ (c ∷ cs)
+then-reading {S} {S₁} {S′} {c} {cs} z r q =
     let was = isVacant (S .tables) in
     record {
-      bytes = λ t. q .bytes t ∙ at-under (c .slip) t (c .bytes) (reads S₁) (changed (λ (x : Change). x .bytes) cs (reads S)) (r .bytes t);
+      bytes = λ t. with-stock S S₁ S′ z t ∙ q .bytes t
+          ∙ at-under (c .slip) t (c .bytes) (reads S₁) (changed (λ (x : Change). x .bytes) cs (reads S)) (sym (with-stock S S₁ S₁ z t) ∙ r .bytes t);
       vacancy = λ t. q .vacancy t ∙ at-under (c .slip) t (c .vacated) (isVacant (S₁ .tables)) (changed (λ (x : Change). x .vacated) cs was) (r .vacancy t);
     }
 
 -- ---- what of storage stays
 
 -- the whole of buffer b
-abbrev pub wholeOf : ℕ → Stretch
-wholeOf b = record { buffer = b; offset = 0; len = sizeOf b }
+abbrev wholeOf : List ℕ → ℕ → Stretch
+wholeOf Z b = record { buffer = b; offset = 0; len = sizeOf Z b }
+
+-- its bytes in the storage st, where the buffers lie as in T
+abbrev pub heldBytes : Tables → List ℕ → ℕ → List ℕ
+heldBytes T st b = bytesOf (T .stock) st (wholeOf (T .stock) b)
 
 -- From S to S′ the length of storage stays, and so does every byte of a buffer that was held.
 pub record StorageStays (S S′ : State) : Type 0 where
   pub as-long : length (S′ .storage) ≡ length (S .storage)
-  pub held : (b : ℕ) → b < bufferTotal (S .tables) → 0 < bufferCount (S .tables) b → bytesOf (S′ .storage) (wholeOf b) ≡ bytesOf (S .storage) (wholeOf b)
+  pub held : (b : ℕ) → b < bufferTotal (S .tables) → 0 < bufferCount (S .tables) b → heldBytes (S .tables) (S′ .storage) b ≡ heldBytes (S .tables) (S .storage) b
 
 -- storage is as it was
 pub stays-as : (S S′ : State) → S′ .storage ≡ S .storage → StorageStays S S′
-stays-as S S′ e = record { as-long = ap length e; held = λ b _ _. ap (λ (q : List ℕ). bytesOf q (wholeOf b)) e }
+stays-as S S′ e = record { as-long = ap length e; held = λ b _ _. ap (λ (q : List ℕ). heldBytes (S .tables) q b) e }
 
 -- new buffers are written
-pub stays-new : (S S′ : State) (k : ℕ) (xs : List ℕ) → Fit (bufferTotal (S .tables)) (S .storage)
-    → S′ .storage ≡ stored (S .storage) (newBuffers (S .tables) k) xs → StorageStays S S′
+pub stays-new : (S S′ : State) (k : ℕ) (xs : List ℕ) → Fit (S .tables .stock) (bufferTotal (S .tables)) (S .storage)
+    → S′ .storage ≡ stored (S .tables .stock) (S .storage) (newBuffers (S .tables) k) xs → StorageStays S S′
 stays-new S S′ k xs f e =
     let T = S .tables in
     let B = bufferTotal T in
@@ -165,8 +181,8 @@ stays-new S S′ k xs f e =
     let a = new-buffers-in T k in
     record {
       as-long = ap length e ∙ new-length S k xs f;
-      held = λ b l h. ap (λ (q : List ℕ). bytesOf q (wholeOf b)) e
-          ∙ stored-other (isUnheld T) 0 B bs (S .storage) xs (wholeOf b) a f l (omega arith) (not-free T 0 B b bs a h);
+      held = λ b l h. ap (λ (q : List ℕ). heldBytes T q b) e
+          ∙ stored-other (T .stock) (isUnheld T) 0 B bs (S .storage) xs (wholeOf (T .stock) b) a f l (omega arith) (not-free T 0 B b bs a h);
     }
 
 -- where it may be that nothing changes

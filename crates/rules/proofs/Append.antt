@@ -63,7 +63,7 @@ join-ready T a b ne la lb (rank, h) =
       same = sa;
       below = omega (arith, ap length k, length-set (T .slips) b 0);
       own = subst (λ x. OwnList (ready T a b) (pred x) own) (sym sa) o;
-      held = built-sound T₁ fs rest m {fl = []} (free-pieces T₁) (good-drop (bufferTotal T) (length own) (spans T a) (spans-good T a (rank, h)))
+      held = built-sound T₁ fs rest m {fl = []} (free-pieces T₁) (good-drop (T .stock) (bufferTotal T) (length own) (spans T a) (spans-good T a (rank, h)))
           (rank, slip-move {fl = []} b 0 lb (reorder (λ x. omega arith) h));
     }
 
@@ -217,11 +217,11 @@ module _ (a b : ℕ) (S : State) (la : a < slipTotal (S .tables)) (za : 0 < slip
       let T = S .tables in
       let st = S .storage in
       let T₁ : Tables = first .tables in
-      let none : reads S a ≡ [] = ap (contents st) (empty-spans T a e) in
+      let none : reads S a ≡ [] = ap (contents (T .stock) st) (empty-spans T a e) in
       record {
         bytes = at-by a (reads S a ++ reads S b) (reads first) (reads (withTables S taker))
-            (ap (contents st) (moved-spans a b taker-mine (taker-same (headOf T b)) h h′) ∙ ap {B = List ℕ} (λ xs. xs ++ reads S b) (sym none))
-            (λ u n. ap (contents st) (moved-spans u u (taker-other u n) (slip-same T₁ a (slip T b) (headOf T₁ u)) first-sound h′));
+            (ap (contents (T .stock) st) (moved-spans a b taker-mine (taker-same (headOf T b)) h h′) ∙ ap {B = List ℕ} (λ xs. xs ++ reads S b) (sym none))
+            (λ u n. ap (contents (T .stock) st) (moved-spans u u (taker-other u n) (slip-same T₁ a (slip T b) (headOf T₁ u)) first-sound h′));
         vacancy = at-by a false (isVacant T₁) (isVacant taker) (sym (held-false taker a (omega (arith, taker-mine))))
             (λ u n. ap (λ v. eqb v 0) (taker-other u n));
       }
@@ -230,7 +230,7 @@ module _ (a b : ℕ) (S : State) (la : a < slipTotal (S .tables)) (za : 0 < slip
   stayer-reading : headOf (S .tables) b ≡ 0 → Reading first first (reading a (reads S a ++ reads S b) ∷ [])
   unfolding contents
   stayer-reading e =
-      let none : reads S b ≡ [] = ap (contents (S .storage)) (empty-spans (S .tables) b e) in
+      let none : reads S b ≡ [] = ap (contents (S .tables .stock) (S .storage)) (empty-spans (S .tables) b e) in
       same-reading first a (reads S a ++ reads S b) (omega (arith, stay a ne))
       (ap {B = List ℕ} (λ xs. reads S a ++ xs) none ∙ append-nil (reads S a) ∙ sym (first-reading .bytes a ∙ at-there b a [] (reads S) ne))
 
@@ -241,8 +241,8 @@ module _ (a b : ℕ) (S : State) (la : a < slipTotal (S .tables)) (za : 0 < slip
       let T = S .tables in
       let st = joined-storage a b S in
       gives-reading first (joined a b S) a _ _ (reads S a ++ reads S b) (joined-gives a b S ne la lb za h r) first-sound h′
-      (λ u. ap (λ (q : List ℕ). contents q (spans (first .tables) u)) st)
-      (ap (λ (q : List ℕ). contents q (spans T a ++ spans T b)) st ∙ contents-append (S .storage) (spans T a) (spans T b))
+      (λ u. ap (λ (q : List ℕ). contents (T .stock) q (spans (first .tables) u)) st)
+      (ap (λ (q : List ℕ). contents (T .stock) q (spans T a ++ spans T b)) st ∙ contents-append (T .stock) (S .storage) (spans T a) (spans T b))
 
   -- ---- what is taken
 
@@ -315,10 +315,10 @@ append-leaves a b S h _ al =
     let r = first-reading a b S la za lb zb ne h in
     let P : State → Type 0 = λ X. SoundNow (X .tables) → Reading S X (reading a (reads S a ++ reads S b) ∷ vacating b ∷ []) in
     if-either P (eqb (headOf T a) 0) _ _
-    (λ e h′. then-reading r (taker-reading a b S la za lb zb ne h (eqb→eq (headOf T a) 0 e) h′))
+    (λ e h′. then-reading refl r (taker-reading a b S la za lb zb ne h (eqb→eq (headOf T a) 0 e) h′))
     (λ na. if-either P (eqb (headOf T b) 0) _ _
-    (λ e _. then-reading r (stayer-reading a b S la za lb zb ne h (eqb→eq (headOf T b) 0 e)))
-    (λ nb h′. then-reading r (joined-reading a b S la za lb zb ne h h′ (wanted-rest T a b (al .pieces-room) na nb))))
+    (λ e _. then-reading refl r (stayer-reading a b S la za lb zb ne h (eqb→eq (headOf T b) 0 e)))
+    (λ nb h′. then-reading refl r (joined-reading a b S la za lb zb ne h h′ (wanted-rest T a b (al .pieces-room) na nb))))
 
 pub append-lawful : (a b : ℕ) → Lawful (appendCall a b)
 append-lawful a b = record {

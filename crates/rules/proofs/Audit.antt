@@ -9,7 +9,7 @@ use native.Mathlib.Decide.{ℕ-discrete, decLt}
 use native.Mathlib.Omega.{arith}
 use lib.ListN.{length, getD, replicate, List·getD-eq-default}
 use lib.Dec.{ltb, ltb→lt, lt→ltb, eqb, eqb→eq, leb, leb→le, le→leb}
-use Rattle.kinds.specs.Limits.{sizeOf}
+use Rattle.kinds.specs.Sizes.{sizeOf}
 use Rattle.rules.specs.Basics.{Is, bit, allTo}
 use Rattle.rules.specs.Tables.{Piece, Tables, blank, isBlank, piece, bufferCount, headOf, slipTotal, pieceTotal, bufferTotal, freshTables}
 use Rattle.rules.specs.Bytes.{decode}
@@ -112,12 +112,12 @@ blank-is p t =
 
 -- what a piece in use has to pass
 abbrev usedOk : Tables → Piece → Bool
-usedOk T p = ltb (p .buffer) (bufferTotal T) && (leb 1 (p .len) && (leb (p .offset + p .len) (sizeOf (p .buffer)) && linkOk T (p .next)))
+usedOk T p = ltb (p .buffer) (bufferTotal T) && (leb 1 (p .len) && (leb (p .offset + p .len) (sizeOf (T .stock) (p .buffer)) && linkOk T (p .next)))
 
 record Used (T : Tables) (p : Piece) : Type 0 where
   used : 0 < p .count
   in-store : p .buffer < bufferTotal T
-  fit : Fits p
+  fit : Fits (T .stock) p
   onward : Is (linkOk T (p .next))
 
 piece-cases : (T : Tables) (p : Piece) → Is (pieceOk T p) → (p ≡ blank) ⊎ Used T p
@@ -130,11 +130,11 @@ piece-cases T p t = ⊎-elim (λ x. inl (blank-is p (subst Is (if-T z _ _ x) t))
     in-use x t₀ =
         let (b, t₁) = and-parts (ltb (p .buffer) (bufferTotal T)) _ t₀ in
         let (l, t₂) = and-parts (leb 1 (p .len)) _ t₁ in
-        let (o, n) = and-parts (leb (p .offset + p .len) (sizeOf (p .buffer))) _ t₂ in
+        let (o, n) = and-parts (leb (p .offset + p .len) (sizeOf (T .stock) (p .buffer))) _ t₂ in
         record {
           used = not-zero (p .count) x;
           in-store = ltb→lt (p .buffer) (bufferTotal T) b;
-          fit = record { some-bytes = leb→le 1 (p .len) l; inside = leb→le (p .offset + p .len) (sizeOf (p .buffer)) o };
+          fit = record { some-bytes = leb→le 1 (p .len) l; inside = leb→le (p .offset + p .len) (sizeOf (T .stock) (p .buffer)) o };
           onward = n;
         }
 
@@ -215,7 +215,7 @@ piece-ok {rank} {T} d S =
     let f = S .fits d u in
     and-intro (ltb (p .buffer) (bufferTotal T)) _ (lt→ltb (p .buffer) (bufferTotal T) (in-range (T .counts) 0 (λ n. n) (p .buffer) refl (buffer-pos d u S)))
     (and-intro (leb 1 (p .len)) _ (le→leb 1 (p .len) (f .some-bytes))
-    (and-intro (leb (p .offset + p .len) (sizeOf (p .buffer))) _ (le→leb (p .offset + p .len) (sizeOf (p .buffer)) (f .inside)) (link-ok T (p .next) (λ e q. next-pos d e S q))))))
+    (and-intro (leb (p .offset + p .len) (sizeOf (T .stock) (p .buffer))) _ (le→leb (p .offset + p .len) (sizeOf (T .stock) (p .buffer)) (f .inside)) (link-ok T (p .next) (λ e q. next-pos d e S q))))))
 
 pub now-tables : (T : Tables) → SoundNow T → SoundTables T
 now-tables T (rank, S) = record {

@@ -7,7 +7,8 @@ use native.Mathlib.Decide.{ℕ-discrete}
 use native.Mathlib.Omega.{arith}
 use lib.ListN.{length}
 use lib.Dec.{eqb}
-use Rattle.kinds.specs.Limits.{bufferSize}
+use Rattle.kinds.specs.Sizes.{largest}
+use Rattle.kinds.proofs.Sizes.{size-most}
 use Rattle.rules.specs.Tables.{Piece, Tables, blank, slip, piece, bufferCount, headOf, slipTotal, pieceTotal, bufferTotal}
 use Rattle.rules.specs.Chain.{Stretch, walk, chain, spans, total, lengthOf}
 use Rattle.rules.specs.Sound.{inUse, leads, heads, lying}
@@ -27,7 +28,7 @@ pub record Small (T : Tables) : Type 0 where
   pub slips-small : (s : ℕ) → slip T s ≤ pieceTotal T + 1
   pub nexts-small : (d : ℕ) → piece T d .next ≤ pieceTotal T
   pub buffers-small : (d : ℕ) → piece T d .buffer ≤ bufferTotal T
-  pub places-small : (d : ℕ) → piece T d .offset + piece T d .len ≤ bufferSize
+  pub places-small : (d : ℕ) → piece T d .offset + piece T d .len ≤ largest
 
 link-small : (T : Tables) (n : ℕ) → ((d : ℕ) → n ≡ suc d → 0 < piece T d .count) → n ≤ pieceTotal T
 link-small T zero h = omega arith
@@ -53,7 +54,7 @@ small T (rank, S) =
       slips-small = λ s. entry-small (slip T s) P (link-small T (headOf T s) (λ d h. head-pos s d S h));
       nexts-small = λ d. link-small T (piece T d .next) (λ e h. next-pos d e S h);
       buffers-small = λ d. free d (λ q. q .buffer) (bufferTotal T) refl (λ u. omega (arith, in-range (T .counts) 0 (λ n. n) (piece T d .buffer) refl (buffer-pos d u S)));
-      places-small = λ d. free d (λ q. q .offset + q .len) bufferSize refl (λ u. S .fits d u .inside);
+      places-small = λ d. free d (λ q. q .offset + q .len) largest refl (λ u. omega (arith, S .fits d u .inside, size-most (T .stock) (piece T d .buffer)));
     }
 
 -- ---- chains: at most P pieces, each of at most a buffer's bytes
@@ -67,10 +68,10 @@ walk-short (suc k) T (suc d) = omega (arith, walk-short k T (piece T d .next))
 pub chain-short : (T : Tables) (s : ℕ) → length (chain T s) ≤ pieceTotal T
 chain-short T s = walk-short (pieceTotal T) T (headOf T s)
 
-pub total-small : (B : ℕ) (xs : List Stretch) → Good B xs → total xs ≤ bufferSize * length xs
+pub total-small : (Z : List ℕ) (B : ℕ) (xs : List Stretch) → Good Z B xs → total xs ≤ largest * length xs
 unfolding total
-total-small B [] g = omega arith
-total-small B (x ∷ xs) g = omega (arith, g .2, total-small B xs (g .3))
+total-small Z B [] g = omega arith
+total-small Z B (x ∷ xs) g = omega (arith, g .2, size-most Z (x .buffer), total-small Z B xs (g .3))
 
-pub chain-bytes : (T : Tables) (s : ℕ) → SoundNow T → lengthOf T s ≤ bufferSize * pieceTotal T
-chain-bytes T s S = omega (arith, total-small (bufferTotal T) (spans T s) (spans-good T s S), stretches-length T (chain T s), chain-short T s)
+pub chain-bytes : (T : Tables) (s : ℕ) → SoundNow T → lengthOf T s ≤ largest * pieceTotal T
+chain-bytes T s S = omega (arith, total-small (T .stock) (bufferTotal T) (spans T s) (spans-good T s S), stretches-length T (chain T s), chain-short T s)

@@ -1,5 +1,5 @@
 -- New pieces, and the places where they are hung, keep soundness. Assumes nothing.
-use mathlib.Core.Path.{_≡_, refl, sym, ap, subst, _∙_}
+use mathlib.Core.Path.{subst₂, _≡_, refl, sym, ap, subst, _∙_}
 use mathlib.Core.Logic.{_≢_}
 use mathlib.Core.List.{List, [], _∷_, List·Memᴰ, List·Memᴰ·head, List·Memᴰ·tail}
 use Prim.Native.Nat.{ℕ, zero, suc, _+_, _-_, _≤_, _<_, pred}
@@ -7,7 +7,7 @@ use native.Mathlib.Omega.{arith}
 use lib.ListN.{length, getD, set, length-set}
 use lib.Seq.{getD-set-same, getD-set-other, set-set, set-comm, set-getD}
 use lib.Dec.{eqb, eqb→eq}
-use Rattle.kinds.specs.Limits.{sizeOf}
+use Rattle.kinds.specs.Sizes.{sizeOf}
 use Rattle.rules.specs.Basics.{if_then_else_, lastOf}
 use Rattle.rules.specs.Tables.{Piece, Tables, blank, slip, piece, headOf, holding, setSlip, setPiece, withCount, withNext, withSlips, withPieces}
 use Rattle.rules.specs.Chain.{Stretch, State, ownPieces, withTables}
@@ -30,23 +30,24 @@ abbrev pub Free : Tables → List ℕ → Type 0
 Free T [] = Unit {0}
 Free T (f ∷ fs) = (f < length (T .pieces)) × (piece T f .count ≡ 0) × (List·Memᴰ f fs → ⊥) × Free T fs
 
-abbrev pub Good : ℕ → List Stretch → Type 0
-Good B [] = Unit {0}
-Good B (x ∷ xs) = (x .buffer < B) × (1 ≤ x .len) × (x .offset + x .len ≤ sizeOf (x .buffer)) × Good B xs
+abbrev pub Good : List ℕ → ℕ → List Stretch → Type 0
+Good Z B [] = Unit {0}
+Good Z B (x ∷ xs) = (x .buffer < B) × (1 ≤ x .len) × (x .offset + x .len ≤ sizeOf Z (x .buffer)) × Good Z B xs
 
 -- what the building leaves alone
 pub record Kept (T T′ : Tables) : Type 0 where
   pub slips-kept : T′ .slips ≡ T .slips
   pub pieces-size : length (T′ .pieces) ≡ length (T .pieces)
   pub counts-size : length (T′ .counts) ≡ length (T .counts)
+  pub stock-kept : T′ .stock ≡ T .stock
 
 pub built-kept : (T : Tables) (fs : List ℕ) (xs : List Stretch) (tail : ℕ) → Kept T (built T fs xs tail)
 unfolding built
-built-kept T fs [] tail = record { slips-kept = refl; pieces-size = refl; counts-size = refl }
-built-kept T [] (x ∷ xs) tail = record { slips-kept = refl; pieces-size = refl; counts-size = refl }
+built-kept T fs [] tail = record { slips-kept = refl; pieces-size = refl; counts-size = refl; stock-kept = refl }
+built-kept T [] (x ∷ xs) tail = record { slips-kept = refl; pieces-size = refl; counts-size = refl; stock-kept = refl }
 built-kept T (f ∷ fs) (x ∷ xs) tail =
     let r = built-kept T fs xs tail in
-    record { slips-kept = r .slips-kept; pieces-size = simp length-set (r .pieces-size); counts-size = simp length-set (r .counts-size) }
+    record { slips-kept = r .slips-kept; pieces-size = simp length-set (r .pieces-size); counts-size = simp length-set (r .counts-size); stock-kept = r .stock-kept }
 
 pub built-other : (T : Tables) (fs : List ℕ) (xs : List Stretch) (tail d : ℕ) → (List·Memᴰ d fs → ⊥) → piece (built T fs xs tail) d ≡ piece T d
 unfolding built
@@ -56,7 +57,7 @@ built-other T (f ∷ fs) (x ∷ xs) tail d h =
     getD-set-other (built T fs xs tail .pieces) f d (fresh x (builtLink fs xs tail)) blank (λ e. h (List·Memᴰ·head e))
     ∙ built-other T fs xs tail d (λ m. h (List·Memᴰ·tail m))
 
-pub built-sound : (T : Tables) (fs : List ℕ) (xs : List Stretch) (tail : ℕ) {fl : List ℕ} → Free T fs → Good (length (T .counts)) xs
+pub built-sound : (T : Tables) (fs : List ℕ) (xs : List Stretch) (tail : ℕ) {fl : List ℕ} → Free T fs → Good (T .stock) (length (T .counts)) xs
     → SoundWith (tail ∷ fl) T → SoundWith (builtLink fs xs tail ∷ fl) (built T fs xs tail)
 unfolding built builtLink
 built-sound T fs [] tail fr g S = S
@@ -67,7 +68,7 @@ built-sound T (f ∷ fs) (x ∷ xs) tail {fl} fr g S =
     let T₁ = built T fs xs tail in (
       above (r .0) f (builtLink fs xs tail),
       take-move f (fresh x (builtLink fs xs tail)) (omega arith) (ap (λ (q : Piece). q .count) (built-other T fs xs tail f (fr .2)) ∙ fr .1) refl
-          (omega arith) (record { some-bytes = g .1; inside = g .2 }) (r .1),
+          (omega arith) (record { some-bytes = g .1; inside = subst (λ (W : List ℕ). x .offset + x .len ≤ sizeOf W (x .buffer)) (sym (k .stock-kept)) (g .2) }) (r .1),
     )
 
 -- ---- the last own piece of a held chain
@@ -128,12 +129,12 @@ pub record Still (T T′ : Tables) : Type 0 where
   pub free-still : (d : ℕ) → piece T d .count ≡ 0 → piece T′ d .count ≡ 0
 
 pub still-refl : (T : Tables) → Still T T
-still-refl T = record { kept = record { slips-kept = refl; pieces-size = refl; counts-size = refl }; free-still = λ d e. e }
+still-refl T = record { kept = record { slips-kept = refl; pieces-size = refl; counts-size = refl; stock-kept = refl }; free-still = λ d e. e }
 
 -- a store to a piece in use
 pub still-store : (T : Tables) (d : ℕ) (p : Piece) → 0 < piece T d .count → Still T (setPiece T d p)
 still-store T d p h = record {
-  kept = record { slips-kept = refl; pieces-size = length-set (T .pieces) d p; counts-size = refl };
+  kept = record { slips-kept = refl; pieces-size = length-set (T .pieces) d p; counts-size = refl; stock-kept = refl };
   free-still = λ x e. ap (λ (q : Piece). q .count) (getD-set-other (T .pieces) d x p blank (λ y. (let q = ap (λ z. piece T z .count) y in omega arith))) ∙ e;
 }
 
@@ -143,6 +144,7 @@ still-trans s t = record {
     slips-kept = t .kept .slips-kept ∙ s .kept .slips-kept;
     pieces-size = t .kept .pieces-size ∙ s .kept .pieces-size;
     counts-size = t .kept .counts-size ∙ s .kept .counts-size;
+    stock-kept = t .kept .stock-kept ∙ s .kept .stock-kept;
   };
   free-still = λ d e. t .free-still d (s .free-still d e);
 }
@@ -159,12 +161,12 @@ free-of-still (x ∷ fs) s f = (omega (arith, s .kept .pieces-size), s .free-sti
 
 pub record Planned (T : Tables) (p : Plan) : Type 0 where
   pub still : Still T (p .base)
-  pub good : Good (length (T .counts)) (p .more)
+  pub good : Good (T .stock) (length (T .counts)) (p .more)
   pub held : SoundWith (p .tail ∷ []) (p .base)
 
 pub plan-built : {T : Tables} (p : Plan) (fs : List ℕ) → Planned T p → Free T fs → SoundWith (madeLink p fs ∷ []) (made p fs)
 plan-built {T} p fs h f =
-    built-sound (p .base) fs (p .more) (p .tail) (free-of-still fs (h .still) f) (subst (λ n. Good n (p .more)) (sym (h .still .kept .counts-size)) (h .good)) (h .held)
+    built-sound (p .base) fs (p .more) (p .tail) (free-of-still fs (h .still) f) (subst₂ (λ Z n. Good Z n (p .more)) (sym (h .still .kept .stock-kept)) (sym (h .still .kept .counts-size)) (h .good)) (h .held)
 
 pub made-slips : {T : Tables} (p : Plan) (fs : List ℕ) → Planned T p → made p fs .slips ≡ T .slips
 made-slips {T} p fs h = built-kept (p .base) fs (p .more) (p .tail) .slips-kept ∙ h .still .kept .slips-kept
@@ -184,7 +186,7 @@ unfolding underOld
 old-sound {T} S p fs s h f l =
     turned-sound (withTables S (made p fs)) s (holding (madeLink p fs)) (subst (λ (q : List ℕ). s < length q) (sym (made-slips p fs h)) l) (plan-built p fs h f)
 
-pub plain-planned : (T : Tables) (xs : List Stretch) → Good (length (T .counts)) xs → SoundNow T → Planned T (plain T xs)
+pub plain-planned : (T : Tables) (xs : List Stretch) → Good (T .stock) (length (T .counts)) xs → SoundNow T → Planned T (plain T xs)
 plain-planned T xs g S = record { still = still-refl T; good = g; held = (S .0, reorder (λ d. omega arith) (S .1)) }
 
 -- ---- behind the own pieces of a slip

@@ -1,6 +1,6 @@
 -- Pool bytes and tables: each settles the other.
 use Prim.Native.Nat.{ℕ, zero, suc, _+_, _*_, _/_, _%_, _<_, _≤_, suc-le-suc}
-use mathlib.Core.Path.{_≡_, refl, sym, ap, _∙_}
+use mathlib.Core.Path.{_≡_, refl, sym, ap, ap₂, _∙_}
 use mathlib.Core.Logic.{_≢_, _↔_}
 use mathlib.Core.Bool.{Bool, true, false, _&&_}
 use mathlib.Core.List.{List, [], _∷_, _++_, append-nil}
@@ -16,7 +16,7 @@ use Rattle.kinds.specs.Limits.{mostBuffers, mostPieces, mostSlips}
 use Rattle.rules.specs.Basics.{Is, table}
 use Rattle.rules.specs.Layout.{mark, version, slipAt, pieceAt, countAt, poolLength, storageLength, versionAt, buffersAt, piecesAt, slipsAt, headerLength}
 use Rattle.rules.specs.Tables.{Piece, Tables, blank, slip, piece, bufferCount, slipTotal, pieceTotal, bufferTotal, freshTables}
-use Rattle.rules.specs.Bytes.{versionIn, buffersIn, piecesIn, slipsIn, pieceIn, decode, pieceBytes, encode}
+use Rattle.rules.specs.Bytes.{versionIn, stockIn, buffersIn, piecesIn, slipsIn, pieceIn, decode, pieceBytes, encode}
 use Rattle.rules.specs.Sound.{Lent, headed, headerOk, lent, marked, countsOk}
 use Rattle.rules.proofs.Logic.{and-intro, and-parts}
 
@@ -166,6 +166,7 @@ pub record Sized (T : Tables) : Type 0 where
   pub few-slips : slipTotal T < 65536
   pub few-pieces : pieceTotal T < 65536
   pub few-buffers : bufferTotal T < 65536
+  pub stock-is : T .stock ≡ bufferTotal T ∷ []
 
 pub encode-length : (T : Tables) → length (encode T) ≡ poolLength (bufferTotal T) (pieceTotal T) (slipTotal T)
 unfolding encode
@@ -238,7 +239,7 @@ module _ (T : Tables) (z : Sized T) where
   -- the bytes of tables hold those tables
   pub decode-encode : decode (encode T) ≡ T
   unfolding decode
-  decode-encode = rw (encode-totals .1, encode-totals .2, encode-totals .3) (λ i. record { slips = slips-back i; pieces = pieces-back i; counts = counts-back i })
+  decode-encode = rw (encode-totals .1, encode-totals .2, encode-totals .3) (λ i. record { slips = slips-back i; pieces = pieces-back i; counts = counts-back i; stock = sym (z .stock-is) i })
 
 -- ---- the tables of bytes
 
@@ -272,6 +273,7 @@ module _ (p : List ℕ) where
         few-slips = rw decode-slips (small slipsAt);
         few-pieces = rw decode-pieces (small piecesAt);
         few-buffers = rw decode-counts (small buffersAt);
+        stock-is = ap (λ (n : ℕ). n ∷ []) (sym decode-counts);
       }
 
 -- ---- the header
@@ -296,7 +298,7 @@ pub record Header (m : Lent) : Type 0 where
   pub is-marked : Is (marked (m .pool))
   pub counts : InRange (buffersIn (m .pool)) (piecesIn (m .pool)) (slipsIn (m .pool))
   pub pool-long : length (m .pool) ≡ poolLength (buffersIn (m .pool)) (piecesIn (m .pool)) (slipsIn (m .pool))
-  pub storage-long : length (m .storage) ≡ storageLength (buffersIn (m .pool))
+  pub storage-long : length (m .storage) ≡ storageLength (stockIn (m .pool)) (buffersIn (m .pool))
 
 pub header-facts : (m : Lent) → Is (headerOk m) → Header m
 unfolding headerOk headed
@@ -315,11 +317,12 @@ header-test m h =
 
 -- the bytes of tables have a good header
 pub encode-header : (T : Tables) (st : List ℕ) → Sized T → InRange (bufferTotal T) (pieceTotal T) (slipTotal T)
-    → length st ≡ storageLength (bufferTotal T) → Is (headerOk (lent (encode T) st))
+    → length st ≡ storageLength (T .stock) (bufferTotal T) → Is (headerOk (lent (encode T) st))
 unfolding encode
 encode-header T st z c l =
     let e = encode-totals T z in
     let n = encode-length T in
+    let l′ : length st ≡ storageLength (stockIn (encode T)) (buffersIn (encode T)) = l ∙ ap₂ storageLength (z .stock-is ∙ ap (λ (k : ℕ). k ∷ []) (sym (e .1))) (sym (e .1)) in
     header-test _ (record { is-marked = simp (and-is, eqb-is) (omega arith); counts = omega arith; pool-long = omega arith; storage-long = omega arith })
 
 front : (p : List ℕ) → 3 ≤ length p → getD p 0 0 ∷ getD p 1 0 ∷ getD p 2 0 ∷ drop 3 p ≡ p

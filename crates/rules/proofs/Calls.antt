@@ -1,5 +1,5 @@
 -- Every operation is lawful, and the laws of all operations that follow. Assumes nothing.
-use mathlib.Core.Path.{_≡_}
+use mathlib.Core.Path.{_≡_, sym, _∙_}
 use mathlib.Core.Bool.{not}
 use Prim.Native.Nat.{_<_, ℕ}
 use lib.ListN.{length}
@@ -8,7 +8,7 @@ use Rattle.kinds.specs.Refusal.{refusalCode}
 use Rattle.rules.specs.Basics.{Is}
 use Rattle.rules.specs.Layout.{storageLength}
 use Rattle.rules.specs.Tables.{bufferCount, bufferTotal}
-use Rattle.rules.specs.Chain.{State, bytesOf, reads}
+use Rattle.rules.specs.Chain.{State, reads}
 use Rattle.rules.specs.Room.{isVacant}
 use Rattle.rules.specs.Rule.{Change, firstCode}
 use Rattle.rules.specs.Step.{Operation, Audit, Put, Free, Dup, Cut, Append, Drop, Keep, Pullup, Pack, Length, Read, Show, WireList, meaning, rule}
@@ -18,7 +18,7 @@ use Rattle.rules.proofs.Moves.{SoundNow}
 use Rattle.rules.proofs.Contents.{Fit}
 use Rattle.rules.proofs.Codes.{Allowed, Apart, Other, Rising, apart-first}
 use Rattle.rules.proofs.Sizes.{Sizes}
-use Rattle.rules.proofs.After.{wholeOf}
+use Rattle.rules.proofs.After.{heldBytes, with-stock}
 use Rattle.rules.proofs.Lawful.{Lawful, others-stay, audit-lawful}
 use Rattle.rules.proofs.Put.{put-lawful}
 use Rattle.rules.proofs.Free.{free-lawful}
@@ -68,14 +68,14 @@ pub rule-sizes : (o : Operation) (S : State) → Sizes (S .tables) (rule o S .af
 unfolding rule
 rule-sizes o S = lawful o .sizes S
 
-pub rule-storage : (o : Operation) (S : State) → length (S .storage) ≡ storageLength (bufferTotal (S .tables))
+pub rule-storage : (o : Operation) (S : State) → length (S .storage) ≡ storageLength (S .tables .stock) (bufferTotal (S .tables))
     → length (rule o S .after .storage) ≡ length (S .storage)
 unfolding rule
 rule-storage o S f = lawful o .stays S f .as-long
 
 -- every byte of a buffer that was held at entry stays
-pub held-stays : (S : State) → Fit (bufferTotal (S .tables)) (S .storage) → (b : ℕ) → b < bufferTotal (S .tables) → 0 < bufferCount (S .tables) b
-    → (o : Operation) → bytesOf (rule o S .after .storage) (wholeOf b) ≡ bytesOf (S .storage) (wholeOf b)
+pub held-stays : (S : State) → Fit (S .tables .stock) (bufferTotal (S .tables)) (S .storage) → (b : ℕ) → b < bufferTotal (S .tables) → 0 < bufferCount (S .tables) b
+    → (o : Operation) → heldBytes (S .tables) (rule o S .after .storage) b ≡ heldBytes (S .tables) (S .storage) b
 unfolding rule
 held-stays S f b l h o = lawful o .stays S f .held b l h
 
@@ -85,9 +85,9 @@ unfolding rule
 rule-sound o S h a = lawful o .sound S h a
 
 -- what every slip then reads, and which slips are vacant
-pub reads-ok : (o : Operation) (S : State) → SoundNow (S .tables) → Fit (bufferTotal (S .tables)) (S .storage) → Allowed (rule o S) (S .tables) → ReadsOk o S
+pub reads-ok : (o : Operation) (S : State) → SoundNow (S .tables) → Fit (S .tables .stock) (bufferTotal (S .tables)) (S .storage) → Allowed (rule o S) (S .tables) → ReadsOk o S
 unfolding rule readsAfter vacantAfter
-reads-ok o S h f a = (let r = lawful o .leaves S h f a (rule-sound o S h a) in record { bytes = r .bytes; vacancy = r .vacancy })
+reads-ok o S h f a = (let S′ = rule o S .after in let r = lawful o .leaves S h f a (rule-sound o S h a) in record { bytes = λ t. sym (with-stock S S′ S′ (rule-sizes o S .stock-kept) t) ∙ r .bytes t; vacancy = r .vacancy })
 
 -- it takes the lowest free, in chain order
 pub takes : (o : Operation) (S : State) → SoundNow (S .tables) → Allowed (rule o S) (S .tables) → TakesOk o S

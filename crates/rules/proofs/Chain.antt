@@ -7,7 +7,9 @@ use Prim.Native.Nat.{ℕ, zero, suc, _+_, _-_, _*_, _≤_, _<_, min}
 use native.Mathlib.Omega.{arith}
 use lib.ListN.{length, drop}
 use lib.Dec.{leb}
-use Rattle.kinds.specs.Limits.{sizeOf, bufferSize}
+use Rattle.kinds.specs.Limits.{bufferSize}
+use Rattle.kinds.specs.Sizes.{sizeOf}
+use Rattle.kinds.proofs.Sizes.{size-one}
 use Rattle.rules.specs.Basics.{if_then_else_, lastOf}
 use Rattle.rules.specs.Tables.{Piece, Tables, piece, headOf, pieceTotal}
 use Rattle.rules.specs.Chain.{Stretch, walk, chain, stretches, spans, cutOut}
@@ -35,45 +37,45 @@ chain-used T s (rank, S) = walk-used (pieceTotal T) (headOf T s) S (λ d h. head
 
 -- ---- stretches inside their buffers
 
-pub stretches-good : {rank : ℕ → ℕ} {fl : List ℕ} {T : Tables} (ds : List ℕ) → SoundBy rank fl T → AllUsed T ds → Good (length (T .counts)) (stretches T ds)
+pub stretches-good : {rank : ℕ → ℕ} {fl : List ℕ} {T : Tables} (ds : List ℕ) → SoundBy rank fl T → AllUsed T ds → Good (T .stock) (length (T .counts)) (stretches T ds)
 unfolding stretches
 stretches-good [] S u = tt
 stretches-good {rank} {fl} {T} (d ∷ ds) S u =
     let f = S .fits d (u .0) in
     (in-range (T .counts) 0 (λ n. n) (piece T d .buffer) refl (buffer-pos d (u .0) S), f .some-bytes, f .inside, stretches-good ds S (u .1))
 
-pub spans-good : (T : Tables) (s : ℕ) → SoundNow T → Good (length (T .counts)) (spans T s)
+pub spans-good : (T : Tables) (s : ℕ) → SoundNow T → Good (T .stock) (length (T .counts)) (spans T s)
 spans-good T s S = stretches-good (chain T s) (S .1) (chain-used T s S)
 
-pub cutOut-good : (B : ℕ) (xs : List Stretch) (off n : ℕ) → Good B xs → Good B (cutOut xs off n)
+pub cutOut-good : (Z : List ℕ) (B : ℕ) (xs : List Stretch) (off n : ℕ) → Good Z B xs → Good Z B (cutOut xs off n)
 unfolding cutOut
-cutOut-good B [] off n g = tt
-cutOut-good B (x ∷ xs) off zero g = tt
-cutOut-good B (x ∷ xs) off (suc n) g =
-    if-either (Good B) (leb (x .len) off)
+cutOut-good Z B [] off n g = tt
+cutOut-good Z B (x ∷ xs) off zero g = tt
+cutOut-good Z B (x ∷ xs) off (suc n) g =
+    if-either (Good Z B) (leb (x .len) off)
     (cutOut xs (off - x .len) (suc n))
     (record { buffer = x .buffer; offset = x .offset + off; len = min (suc n) (x .len - off) } ∷ cutOut xs 0 (suc n - (x .len - off)))
-    (λ t. cutOut-good B xs (off - x .len) (suc n) (g .3))
-    (λ t. (let h : off < x .len = not-most (x .len) off t in (g .0, omega (arith, g .1), omega (arith, g .2), cutOut-good B xs 0 (suc n - (x .len - off)) (g .3))))
+    (λ t. cutOut-good Z B xs (off - x .len) (suc n) (g .3))
+    (λ t. (let h : off < x .len = not-most (x .len) off t in (g .0, omega (arith, g .1), omega (arith, g .2), cutOut-good Z B xs 0 (suc n - (x .len - off)) (g .3))))
 
-pub good-drop : (B : ℕ) (k : ℕ) (xs : List Stretch) → Good B xs → Good B (drop k xs)
-good-drop B zero xs g = g
-good-drop B (suc k) [] g = tt
-good-drop B (suc k) (x ∷ xs) g = good-drop B k xs (g .3)
+pub good-drop : (Z : List ℕ) (B : ℕ) (k : ℕ) (xs : List Stretch) → Good Z B xs → Good Z B (drop k xs)
+good-drop Z B zero xs g = g
+good-drop Z B (suc k) [] g = tt
+good-drop Z B (suc k) (x ∷ xs) g = good-drop Z B k xs (g .3)
 
-pub good-append : (B : ℕ) (xs ys : List Stretch) → Good B xs → Good B ys → Good B (xs ++ ys)
-good-append B [] ys g h = h
-good-append B (x ∷ xs) ys g h = (g .0, g .1, g .2, good-append B xs ys (g .3) h)
+pub good-append : (Z : List ℕ) (B : ℕ) (xs ys : List Stretch) → Good Z B xs → Good Z B ys → Good Z B (xs ++ ys)
+good-append Z B [] ys g h = h
+good-append Z B (x ∷ xs) ys g h = (g .0, g .1, g .2, good-append Z B xs ys (g .3) h)
 
-pub good-last : (B : ℕ) (x : Stretch) (xs : List Stretch) → Good B (x ∷ xs) → (1 ≤ lastOf x xs .len) × (lastOf x xs .offset + lastOf x xs .len ≤ sizeOf (lastOf x xs .buffer))
-good-last B x [] g = (g .1, g .2)
-good-last B x (y ∷ ys) g = good-last B y ys (g .3)
+pub good-last : (Z : List ℕ) (B : ℕ) (x : Stretch) (xs : List Stretch) → Good Z B (x ∷ xs) → (1 ≤ lastOf x xs .len) × (lastOf x xs .offset + lastOf x xs .len ≤ sizeOf Z (lastOf x xs .buffer))
+good-last Z B x [] g = (g .1, g .2)
+good-last Z B x (y ∷ ys) g = good-last Z B y ys (g .3)
 
 -- n bytes on free buffers, where there is at least a byte for each
-pub laid-good : (f : ℕ → Bool) (i B : ℕ) (bs : List ℕ) (n : ℕ) → AllIn f i B bs → bufferSize * length bs < n + bufferSize → Good B (laid bs n)
+pub laid-good : (Z : List ℕ) (f : ℕ → Bool) (i B : ℕ) (bs : List ℕ) (n : ℕ) → AllIn f i B bs → bufferSize * length bs < n + bufferSize → Good Z B (laid Z bs n)
 unfolding laid
-laid-good f i B [] n a h = tt
-laid-good f i B (b ∷ bs) n a h = (a .1, omega arith, omega arith, laid-good f (suc b) B bs (n - sizeOf b) (a .3) (omega arith))
+laid-good Z f i B [] n a h = tt
+laid-good Z f i B (b ∷ bs) n a h = (let o = size-one Z b in (a .1, omega arith, omega arith, laid-good Z f (suc b) B bs (n - sizeOf Z b) (a .3) (omega arith)))
 
 -- pieces of count 1 stay as they are where new ones are built
 

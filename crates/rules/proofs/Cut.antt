@@ -29,7 +29,7 @@ unfolding cutAfter
 cut-sound s off n S h g =
     let T = S .tables in
     let xs = cutOut (spans T s) off n in
-    new-sound (plain T xs) (freePieces T) (newSlip T) (plain-planned T xs (cutOut-good (bufferTotal T) (spans T s) off n (spans-good T s g)) g) (free-pieces T) (new-slip-ok T h .0) (new-slip-ok T h .1)
+    new-sound (plain T xs) (freePieces T) (newSlip T) (plain-planned T xs (cutOut-good (T .stock) (bufferTotal T) (spans T s) off n (spans-good T s g)) g) (free-pieces T) (new-slip-ok T h .0) (new-slip-ok T h .1)
 
 -- what cut leaves: the new slip holds one new piece for each stretch of the range
 pub cut-gives : (s off n : ℕ) (S : State) → SoundNow (S .tables) → 0 < length (vacantSlips (S .tables)) → length (cutOut (spans (S .tables) s) off n) ≤ length (freePieces (S .tables))
@@ -39,15 +39,15 @@ cut-gives s off n S g v r =
     let T = S .tables in
     let xs = cutOut (spans T s) off n in
     gives-as (append-nil (take (length xs) (freePieces T))) (append-nil xs)
-    (new-gives (plain T xs) (freePieces T) [] (plain-planned T xs (cutOut-good (bufferTotal T) (spans T s) off n (spans-good T s g)) g) (free-pieces T) r stop (newSlip T) (new-slip-ok T v .0) (λ u _. same-refl T _))
+    (new-gives (plain T xs) (freePieces T) [] (plain-planned T xs (cutOut-good (T .stock) (bufferTotal T) (spans T s) off n (spans-good T s g)) g) (free-pieces T) r stop (newSlip T) (new-slip-ok T v .0) (λ u _. same-refl T _))
 
 -- a done cut stays within the chain: its new slip reads n bytes, not fewer
-pub cut-exact : (s off n : ℕ) (S : State) → SoundNow (S .tables) → Fit (bufferTotal (S .tables)) (S .storage) → Allowed (rule (Cut s off n) S) (S .tables)
+pub cut-exact : (s off n : ℕ) (S : State) → SoundNow (S .tables) → Fit (S .tables .stock) (bufferTotal (S .tables)) (S .storage) → Allowed (rule (Cut s off n) S) (S .tables)
     → length (take n (drop off (reads S s))) ≡ n
 unfolding rule
 cut-exact s off n S h f a =
     let c = simp no-cause at (a .early) in
-    let l = contents-length (bufferTotal (S .tables)) (S .storage) (spans (S .tables) s) f (spans-good (S .tables) s h) in
+    let l = contents-length (S .tables .stock) (bufferTotal (S .tables)) (S .storage) (spans (S .tables) s) f (spans-good (S .tables) s h) in
     simp (length-take, length-drop) (omega arith)
 
 -- ---- cut is lawful
@@ -56,7 +56,7 @@ cut-leaves : (s off n : ℕ) → Leaving (cutCall s off n)
 unfolding cutAfter
 cut-leaves s off n S h f a h′ =
     gives-reading S (cutAfter s off n S) (newSlip (S .tables)) _ _ _ (cut-gives s off n S h (a .slips-room) (a .pieces-room)) h h′ (λ u. refl)
-    (cutOut-contents (bufferTotal (S .tables)) (S .storage) (spans (S .tables) s) off n f (spans-good (S .tables) s h))
+    (cutOut-contents (S .tables .stock) (bufferTotal (S .tables)) (S .storage) (spans (S .tables) s) off n f (spans-good (S .tables) s h))
 
 cut-takes : (s off n : ℕ) → Taking (cutCall s off n)
 cut-takes s off n S h a h′ =

@@ -223,8 +223,8 @@ drop-leaves s n S h f al =
     (λ _ h′. (
     let st = old-storage S (dropped T s n) (freePieces T) s in
     gives-reading S _ s _ _ (drop n (reads S s)) (drop-gives s n S b h (al .pieces-room)) h h′
-    (λ u. ap (λ (q : List ℕ). contents q (spans T u)) st)
-    (ap (λ (q : List ℕ). contents q (dropOut (spans T s) n)) st ∙ dropOut-contents (bufferTotal T) (S .storage) (spans T s) n f (spans-good T s h))))
+    (λ u. ap (λ (q : List ℕ). contents (T .stock) q (spans T u)) st)
+    (ap (λ (q : List ℕ). contents (T .stock) q (dropOut (spans T s) n)) st ∙ dropOut-contents (T .stock) (bufferTotal T) (S .storage) (spans T s) n f (spans-good T s h))))
 
 drop-takes : (s n : ℕ) → Taking (dropCall s n)
 unfolding dropAfter

@@ -10,6 +10,7 @@ use lib.ListN.{length, take, drop, length-append, length-take, length-drop}
 use lib.Dec.{eqb, eqb→eq, ltb, ltb→lt, lt→ltb}
 use Rattle.kinds.specs.declared.Refusal.the-variants.{Narrow, WireList}
 use Rattle.kinds.specs.Refusal.{refusalCode}
+use Rattle.kinds.proofs.Sizes.{start-step}
 use Rattle.rules.specs.Basics.{Is}
 use Rattle.rules.specs.Chain.{Stretch, total, bytesOf, positionOf, contents}
 use Rattle.rules.specs.Rule.{_⇐_}
@@ -111,35 +112,35 @@ gather-exact st list out e =
 -- ---- the records that list writes
 
 -- ask as many bytes as the chain has
-pub records-ask : (xs : List Stretch) → lengthsOf (records xs) ≡ total xs
+pub records-ask : (Z : List ℕ) (xs : List Stretch) → lengthsOf (records Z xs) ≡ total xs
 unfolding records lengthsOf total
-records-ask [] = refl
-records-ask (x ∷ xs) = omega (arith, records-ask xs)
+records-ask Z [] = refl
+records-ask Z (x ∷ xs) = omega (arith, records-ask Z xs)
 
 -- are none of them amiss
-records-fit : (B : ℕ) (st : List ℕ) (xs : List Stretch) → Fit B st → Good B xs → Is (anyAmiss (length st) (records xs)) → ⊥
+records-fit : (Z : List ℕ) (B : ℕ) (st : List ℕ) (xs : List Stretch) → Fit Z B st → Good Z B xs → Is (anyAmiss (length st) (records Z xs)) → ⊥
 unfolding records anyAmiss
-records-fit B st [] f g t = t
-records-fit B st (x ∷ xs) f g t =
+records-fit Z B st [] f g t = t
+records-fit Z B st (x ∷ xs) f g t =
     ⊎-elim
-    (λ a. ⊎-elim (λ z. omega (arith, eqb→eq (x .len) 0 z, g .1)) (λ o. omega (arith, ltb→lt (length st) (positionOf x + x .len) o, g .0, g .2, f)) (or-cases (eqb (x .len) 0) _ a))
-    (λ r. records-fit B st xs f (g .3) r)
-    (or-cases (eqb (x .len) 0 || ltb (length st) (positionOf x + x .len)) _ t)
+    (λ a. ⊎-elim (λ z. omega (arith, eqb→eq (x .len) 0 z, g .1)) (λ o. omega (arith, ltb→lt (length st) (positionOf Z x + x .len) o, start-step Z (x .buffer) B (g .0), g .2, f)) (or-cases (eqb (x .len) 0) _ a))
+    (λ r. records-fit Z B st xs f (g .3) r)
+    (or-cases (eqb (x .len) 0 || ltb (length st) (positionOf Z x + x .len)) _ t)
 
 -- and name its bytes
-records-listed : (st : List ℕ) (xs : List Stretch) → listed st (records xs) ≡ contents st xs
+records-listed : (Z : List ℕ) (st : List ℕ) (xs : List Stretch) → listed st (records Z xs) ≡ contents Z st xs
 unfolding records listed contents
-records-listed st [] = refl
-records-listed st (x ∷ xs) = ap (λ (l : List ℕ). bytesOf st x ++ l) (records-listed st xs)
+records-listed Z st [] = refl
+records-listed Z st (x ∷ xs) = ap (λ (l : List ℕ). bytesOf Z st x ++ l) (records-listed Z st xs)
 
-module _ (B : ℕ) (st out : List ℕ) (xs : List Stretch) (f : Fit B st) (g : Good B xs) where
+module _ (Z : List ℕ) (B : ℕ) (st out : List ℕ) (xs : List Stretch) (f : Fit Z B st) (g : Good Z B xs) where
   -- so gather of them copies the chain's bytes, where the output takes them
-  pub gather-records : total xs ≤ length out → gather st (records xs) out ≡ record { code = 0; number = total xs; output = copied (contents st xs) out }
+  pub gather-records : total xs ≤ length out → gather st (records Z xs) out ≡ record { code = 0; number = total xs; output = copied (contents Z st xs) out }
   gather-records h =
-      let ask = records-ask xs in
-      gather-done st (records xs) out (omega arith) (records-fit B st xs f g) ∙ (λ i. record { code = 0; number = ask i; output = copied (records-listed st xs i) out })
+      let ask = records-ask Z xs in
+      gather-done st (records Z xs) out (omega arith) (records-fit Z B st xs f g) ∙ (λ i. record { code = 0; number = ask i; output = copied (records-listed Z st xs i) out })
 
-  pub gather-short : length out < total xs → gather st (records xs) out ≡ record { code = refusalCode Narrow; number = 0; output = out }
+  pub gather-short : length out < total xs → gather st (records Z xs) out ≡ record { code = refusalCode Narrow; number = 0; output = out }
   gather-short h =
-      let e : gather st (records xs) out .code ≡ refusalCode Narrow = gather-cases st (records xs) out .narrow .1 (omega (arith, records-ask xs)) in
-      gather-refused st (records xs) out (λ z. omega arith) ∙ (λ i. record { code = e i; number = 0; output = out })
+      let e : gather st (records Z xs) out .code ≡ refusalCode Narrow = gather-cases st (records Z xs) out .narrow .1 (omega (arith, records-ask Z xs)) in
+      gather-refused st (records Z xs) out (λ z. omega arith) ∙ (λ i. record { code = e i; number = 0; output = out })

@@ -7,6 +7,7 @@ use native.Mathlib.Omega.{arith}
 use lib.ListN.{length, getD, drop, take, take-append-drop, length-drop}
 use lib.Seq.{getD-set-same, getD-set-other, take-all}
 use lib.Dec.{eqb, leb, leb→le, eqb→eq}
+use Rattle.kinds.proofs.Sizes.{size-one}
 use Rattle.rules.specs.Basics.{lastOf}
 use Rattle.rules.specs.Tables.{Piece, Tables, blank, piece, headOf, slipTotal, bufferTotal, setPiece, withPlace, slip, setSlip, pieceTotal}
 use Rattle.rules.specs.Chain.{State, Stretch, spans, lengthOf, stretch, stretches, cutOut, withTables, contents, reads}
@@ -34,7 +35,7 @@ own-last : (j : ℕ) (T : Tables) (n l : ℕ) → OwnTo j T n l → piece T l .c
 own-last zero T n l o = o .1
 own-last (suc j) T n l (d, e, c, o) = own-last j T (piece T d .next) l o
 
-pub shortened-ok : (T : Tables) (n : ℕ) (own : List ℕ) (xs : List Stretch) → OwnList T n own → Good (length (T .counts)) xs → SoundNow T
+pub shortened-ok : (T : Tables) (n : ℕ) (own : List ℕ) (xs : List Stretch) → OwnList T n own → Good (T .stock) (length (T .counts)) xs → SoundNow T
     → SoundNow (shortened T own xs) × (shortened T own xs .slips ≡ T .slips) × OwnList (shortened T own xs) n own
 unfolding shortened
 shortened-ok T n [] xs o g S = (S, refl, tt)
@@ -43,16 +44,16 @@ shortened-ok T n (d ∷ ds) (x ∷ xs) o g (rank, S) =
     let l = lastOf d ds in
     let y = lastOf x xs in
     let c = own-last (o .0) T n l (o .1) in
-    let gl = good-last (length (T .counts)) x xs g in
+    let gl = good-last (T .stock) (length (T .counts)) x xs g in
     let p : Piece = withPlace (piece T l) (y .offset) (y .len) in (
-      (rank, trim-move l (y .offset) (y .len) (omega arith) (gl .0) (gl .1) S),
+      (rank, trim-move l (y .offset) (y .len) (omega arith) (gl .0) (omega (arith, gl .1, size-one (T .stock) (y .buffer), size-one (T .stock) (piece T l .buffer))) S),
       refl,
       own-list-still T (setPiece T l p) n (d ∷ ds)
           (by-place (T .pieces) l p blank (used-in-range T l (omega arith)) (λ q e. piece T e .count ≡ 1 → (q .count ≡ 1) × (q .next ≡ piece T e .next)) (λ z. (z, refl)) (λ e _ z. (z, refl))) o,
     )
 
 kept-by-sound : (S : State) (s : ℕ) (own : List ℕ) (xs rest : List Stretch) → s < slipTotal (S .tables) → OwnList (S .tables) (headOf (S .tables) s) own
-    → Good (bufferTotal (S .tables)) xs → Good (bufferTotal (S .tables)) rest → SoundNow (S .tables) → SoundNow (keptBy S s own xs rest .tables)
+    → Good (S .tables .stock) (bufferTotal (S .tables)) xs → Good (S .tables .stock) (bufferTotal (S .tables)) rest → SoundNow (S .tables) → SoundNow (keptBy S s own xs rest .tables)
 unfolding keptBy
 kept-by-sound S s own xs [] l o g h f =
     let T = S .tables in
@@ -68,8 +69,8 @@ kept-by-sound S s own xs (y ∷ ys) l o g h f =
     (subst (λ (q : List ℕ). OwnList T₁ (pred (getD q s 0)) own) (sym k) (own-list-still T T₁ (headOf T s) own (λ d c. built-own T fs (y ∷ ys) 0 (free-pieces T) d c) o))
     (built-sound T fs (y ∷ ys) 0 (free-pieces T) h (f .0, reorder (λ x. omega arith) (f .1)))
 
-pub kept-good : (T : Tables) (s n : ℕ) → SoundNow T → Good (bufferTotal T) (kept T s n)
-kept-good T s n S = cutOut-good (bufferTotal T) (spans T s) 0 n (spans-good T s S)
+pub kept-good : (T : Tables) (s n : ℕ) → SoundNow T → Good (T .stock) (bufferTotal T) (kept T s n)
+kept-good T s n S = cutOut-good (T .stock) (bufferTotal T) (spans T s) 0 n (spans-good T s S)
 
 pub keep-sound : (s n : ℕ) (S : State) → s < slipTotal (S .tables) → SoundNow (S .tables) → SoundNow (keepAfter s n S .tables)
 unfolding keepAfter
@@ -78,7 +79,7 @@ keep-sound s n S l h =
     let xs = kept T s n in
     if-either (λ (X : State). SoundNow (X .tables)) (eqb n (lengthOf T s)) _ _ (λ _. h)
     (λ _. kept-by-sound S s (keptOwn T s n) xs (keptNotOwn T s n) l (own-pieces (length xs) (headOf T s) T) (kept-good T s n h)
-    (good-drop (bufferTotal T) (length (keptOwn T s n)) xs (kept-good T s n h)) h)
+    (good-drop (T .stock) (bufferTotal T) (length (keptOwn T s n)) xs (kept-good T s n h)) h)
 
 -- ---- the stretches that stay
 
@@ -101,26 +102,26 @@ cut-whole y ys n h =
     let z : min (suc n) (y .len - 0) ≡ y .len = omega arith in
     λ i. record { buffer = y .buffer; offset = o i; len = z i }
 
-cut-front : (B k : ℕ) (ys : List Stretch) (n : ℕ) → Good B ys → k < length (cutOut ys 0 n) → take k (cutOut ys 0 n) ≡ take k ys
+cut-front : (Z : List ℕ) (B k : ℕ) (ys : List Stretch) (n : ℕ) → Good Z B ys → k < length (cutOut ys 0 n) → take k (cutOut ys 0 n) ≡ take k ys
 unfolding cutOut
-cut-front B zero ys n g h = refl
-cut-front B (suc k) [] n g h = absurd (omega arith)
-cut-front B (suc k) (y ∷ ys) zero g h = absurd (omega arith)
-cut-front B (suc k) (y ∷ ys) (suc n) g h =
+cut-front Z B zero ys n g h = refl
+cut-front Z B (suc k) [] n g h = absurd (omega arith)
+cut-front Z B (suc k) (y ∷ ys) zero g h = absurd (omega arith)
+cut-front Z B (suc k) (y ∷ ys) (suc n) g h =
     let c = cut-cons y ys n (g .1) in
     let l = ap length c in
-    let i = cut-front B k ys (suc n - (y .len - 0)) (g .3) (omega arith) in
+    let i = cut-front Z B k ys (suc n - (y .len - 0)) (g .3) (omega arith) in
     let w = cut-whole y ys n (omega arith) in
     ap (take (suc k)) c ∙ (λ j. w j ∷ i j)
 
 -- The last of the pieces of a run takes the last stretch that stays; the others have theirs.
-covers-last : (rank : ℕ → ℕ) (T : Tables) (B n₀ d m : ℕ) (ds : List ℕ) (x : Stretch) (xs ys : List Stretch) (n : ℕ) → ((a e : ℕ) → piece T a .next ≡ suc e → rank e < rank a) → lastOf d ds < pieceTotal T
-    → Run T n₀ (d ∷ ds) m → Good B ys → stretches T (d ∷ ds) ≡ take (suc (length ds)) ys → cutOut ys 0 n ≡ x ∷ xs → length xs ≡ length ds
+covers-last : (rank : ℕ → ℕ) (T : Tables) (Z : List ℕ) (B n₀ d m : ℕ) (ds : List ℕ) (x : Stretch) (xs ys : List Stretch) (n : ℕ) → ((a e : ℕ) → piece T a .next ≡ suc e → rank e < rank a) → lastOf d ds < pieceTotal T
+    → Run T n₀ (d ∷ ds) m → Good Z B ys → stretches T (d ∷ ds) ≡ take (suc (length ds)) ys → cutOut ys 0 n ≡ x ∷ xs → length xs ≡ length ds
     → stretches (setPiece T (lastOf d ds) (withPlace (piece T (lastOf d ds)) (lastOf x xs .offset) (lastOf x xs .len))) (d ∷ ds) ≡ x ∷ xs
 unfolding stretches
-covers-last rank T B n₀ d m ds x xs [] n f b r g e c l = absurd (let q = ap length e in omega arith)
-covers-last rank T B n₀ d m ds x xs (y ∷ ys) zero f b r g e c l = absurd (let q = cut-some (y ∷ ys) 0 zero (omega (arith, ap length c)) in omega arith)
-covers-last rank T B n₀ d m [] x [] (y ∷ ys) (suc n) f b r g e c l =
+covers-last rank T Z B n₀ d m ds x xs [] n f b r g e c l = absurd (let q = ap length e in omega arith)
+covers-last rank T Z B n₀ d m ds x xs (y ∷ ys) zero f b r g e c l = absurd (let q = cut-some (y ∷ ys) 0 zero (omega (arith, ap length c)) in omega arith)
+covers-last rank T Z B n₀ d m [] x [] (y ∷ ys) (suc n) f b r g e c l =
     let p = withPlace (piece T d) (x .offset) (x .len) in
     let here : piece (setPiece T d p) d ≡ p = getD-set-same (T .pieces) d p blank b in
     let cut : Stretch = record { buffer = y .buffer; offset = y .offset + 0; len = min (suc n) (y .len - 0) } in
@@ -129,9 +130,9 @@ covers-last rank T B n₀ d m [] x [] (y ∷ ys) (suc n) f b r g e c l =
     let old : stretch (piece T d) ≡ y = cc in
     let same : piece T d .buffer ≡ x .buffer = ap (λ (z : Stretch). z .buffer) old ∙ ap (λ (z : Stretch). z .buffer) first in
     λ i. record { buffer = (ap (λ (q : Piece). q .buffer) here ∙ same) i; offset = here i .offset; len = here i .len } ∷ []
-covers-last rank T B n₀ d m [] x (x₂ ∷ xs) (y ∷ ys) (suc n) f b r g e c l = absurd (omega arith)
-covers-last rank T B n₀ d m (d₂ ∷ ds) x [] (y ∷ ys) (suc n) f b r g e c l = absurd (omega arith)
-covers-last rank T B n₀ d m (d₂ ∷ ds) x (x₂ ∷ xs) (y ∷ ys) (suc n) f b r g e c l =
+covers-last rank T Z B n₀ d m [] x (x₂ ∷ xs) (y ∷ ys) (suc n) f b r g e c l = absurd (omega arith)
+covers-last rank T Z B n₀ d m (d₂ ∷ ds) x [] (y ∷ ys) (suc n) f b r g e c l = absurd (omega arith)
+covers-last rank T Z B n₀ d m (d₂ ∷ ds) x (x₂ ∷ xs) (y ∷ ys) (suc n) f b r g e c l =
     let more = cutOut ys 0 (suc n - (y .len - 0)) in
     let cut : Stretch = record { buffer = y .buffer; offset = y .offset + 0; len = min (suc n) (y .len - 0) } in
     let c₂ : cut ∷ more ≡ x ∷ x₂ ∷ xs = sym (cut-cons y ys n (g .1)) ∙ c in
@@ -144,7 +145,7 @@ covers-last rank T B n₀ d m (d₂ ∷ ds) x (x₂ ∷ xs) (y ∷ ys) (suc n) f
     let q = withPlace (piece T e₂) (lastOf x₂ xs .offset) (lastOf x₂ xs .len) in
     let ne : d ≢ e₂ = λ z. (let k = ap rank z in omega (arith, f d d₂ (r .1 .0), run-low rank T (piece T d .next) d₂ m ds f (r .1))) in
     let here : stretch (piece (setPiece T e₂ q) d) ≡ x = ap stretch (getD-set-other (T .pieces) e₂ d q blank ne) ∙ old ∙ sym w ∙ first in
-    let i = covers-last rank T B (piece T d .next) d₂ m ds x₂ xs ys (suc n - (y .len - 0)) f b (r .1) (g .3) olds rest (omega arith) in
+    let i = covers-last rank T Z B (piece T d .next) d₂ m ds x₂ xs ys (suc n - (y .len - 0)) f b (r .1) (g .3) olds rest (omega arith) in
     λ j. here j ∷ i j
 
 -- ---- what keep leaves
@@ -180,8 +181,8 @@ record Stays (S : State) (s : ℕ) (own : List ℕ) (xs rest : List Stretch) : T
   end : ℕ
   run : Run (S .tables) (headOf (S .tables) s) own end
   ones : Ones (S .tables) own
-  good : Good (bufferTotal (S .tables)) xs
-  rest-good : Good (bufferTotal (S .tables)) rest
+  good : Good (S .tables .stock) (bufferTotal (S .tables)) xs
+  rest-good : Good (S .tables .stock) (bufferTotal (S .tables)) rest
   room : length rest ≤ length (freePieces (S .tables))
   all-own : length rest ≡ 0 → stretches (shortened (S .tables) own xs) own ≡ xs
   replaced : 0 < length rest → stretches (S .tables) own ++ rest ≡ xs
@@ -227,13 +228,13 @@ kept-gives S s own xs (y ∷ ys) h =
     ((λ i. a i ++ (m .1 ∙ no-more T (y ∷ ys)) i) ∙ h .replaced (omega arith)) g)
 
 -- where all that stay are own, the shortened pieces cover them
-shortened-covers : (T : Tables) (s : ℕ) (own : List ℕ) (xs ys : List Stretch) (m n : ℕ) → SoundNow T → OwnList T (headOf T s) own → Run T (headOf T s) own m → Good (bufferTotal T) ys
+shortened-covers : (T : Tables) (s : ℕ) (own : List ℕ) (xs ys : List Stretch) (m n : ℕ) → SoundNow T → OwnList T (headOf T s) own → Run T (headOf T s) own m → Good (T .stock) (bufferTotal T) ys
     → stretches T own ≡ take (length own) ys → cutOut ys 0 n ≡ xs → length xs ≡ length own → stretches (shortened T own xs) own ≡ xs
 unfolding shortened stretches
 shortened-covers T s [] [] ys m n h i r g f c l = refl
 shortened-covers T s [] (x ∷ xs) ys m n h i r g f c l = absurd (omega arith)
 shortened-covers T s (d ∷ ds) [] ys m n h i r g f c l = absurd (omega arith)
-shortened-covers T s (d ∷ ds) (x ∷ xs) ys m n (rank, h) i r g f c l = covers-last rank T (bufferTotal T) (headOf T s) d m ds x xs ys n (h .falls) (used-in-range T (lastOf d ds) (omega (arith, own-last (i .0) T (headOf T s) (lastOf d ds) (i .1)))) r g f c (omega arith)
+shortened-covers T s (d ∷ ds) (x ∷ xs) ys m n (rank, h) i r g f c l = covers-last rank T (T .stock) (bufferTotal T) (headOf T s) d m ds x xs ys n (h .falls) (used-in-range T (lastOf d ds) (omega (arith, own-last (i .0) T (headOf T s) (lastOf d ds) (i .1)))) r g f c (omega arith)
 
 -- keep of a part of the chain
 pub keep-gives : (s n : ℕ) (S : State) → s < slipTotal (S .tables) → 0 < slip (S .tables) s → SoundNow (S .tables) → length (keptNotOwn (S .tables) s n) ≤ length (freePieces (S .tables))
@@ -258,10 +259,10 @@ keep-gives s n S b z h r =
       run = run .1;
       ones = own-ones (length xs) (headOf T s) T;
       good = g;
-      rest-good = good-drop (bufferTotal T) (length own) xs g;
+      rest-good = good-drop (T .stock) (bufferTotal T) (length own) xs g;
       room = r;
       all-own = λ e. shortened-covers T s own xs (spans T s) (run .0) n h ol (run .1) (spans-good T s h) front refl (omega arith);
-      replaced = λ l. ap {B = List Stretch} (λ ys. ys ++ drop (length own) xs) (front ∙ sym (cut-front (bufferTotal T) (length own) (spans T s) n (spans-good T s h) (omega arith))) ∙ take-append-drop (length own) xs;
+      replaced = λ l. ap {B = List Stretch} (λ ys. ys ++ drop (length own) xs) (front ∙ sym (cut-front (T .stock) (bufferTotal T) (length own) (spans T s) n (spans-good T s h) (omega arith))) ∙ take-append-drop (length own) xs;
     })
 
 -- ---- keep is lawful
@@ -298,8 +299,8 @@ keep-leaves s n S h f al =
     let st = kept-storage S s (keptOwn T s n) (kept T s n) (keptNotOwn T s n) in
     let r : length (keptNotOwn T s n) ≤ length (freePieces T) = omega (arith, al .pieces-room, if-F (eqb n (lengthOf T s)) 0 (length (keptNotOwn T s n)) ne) in
     gives-reading S _ s _ _ (take n (reads S s)) (keep-gives s n S b z h r) h h′
-    (λ u. ap (λ (q : List ℕ). contents q (spans T u)) st)
-    (ap (λ (q : List ℕ). contents q (kept T s n)) st ∙ cutOut-contents (bufferTotal T) (S .storage) (spans T s) 0 n f (spans-good T s h))))
+    (λ u. ap (λ (q : List ℕ). contents (T .stock) q (spans T u)) st)
+    (ap (λ (q : List ℕ). contents (T .stock) q (kept T s n)) st ∙ cutOut-contents (T .stock) (bufferTotal T) (S .storage) (spans T s) 0 n f (spans-good T s h))))
 
 keep-takes : (s n : ℕ) → Taking (keepCall s n)
 unfolding keepAfter

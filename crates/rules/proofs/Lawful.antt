@@ -31,7 +31,7 @@ Known T ns (c ∷ cs) = (Among ns (c .slip) ⊎ Is (isVacant T (c .slip))) × Kn
 
 -- Once it is done and has left sound tables, the slips that it changes are as it says; and what it wants is what it takes.
 abbrev pub Leaving : Meaning → Type 0
-Leaving m = (S : State) → SoundNow (S .tables) → Fit (bufferTotal (S .tables)) (S .storage) → Allowed (m .rule S) (S .tables)
+Leaving m = (S : State) → SoundNow (S .tables) → Fit (S .tables .stock) (bufferTotal (S .tables)) (S .storage) → Allowed (m .rule S) (S .tables)
     → SoundNow (m .rule S .after .tables) → Reading S (m .rule S .after) (m .changes S)
 
 abbrev pub Taking : Meaning → Type 0
@@ -44,7 +44,7 @@ pub record Lawful (m : Meaning) : Type 0 where
   pub codes : (S : State) → InOrder (m .rule S .judged)
   -- tables and storage stay as long as they were, and so does every byte of a buffer that was held
   pub sizes : (S : State) → Sizes (S .tables) (m .rule S .after .tables)
-  pub stays : (S : State) → Fit (bufferTotal (S .tables)) (S .storage) → StorageStays S (m .rule S .after)
+  pub stays : (S : State) → Fit (S .tables .stock) (bufferTotal (S .tables)) (S .storage) → StorageStays S (m .rule S .after)
   -- once it is done: soundness is kept, and only slips that it names or takes are changed
   pub sound : (S : State) → SoundNow (S .tables) → Allowed (m .rule S) (S .tables) → SoundNow (m .rule S .after .tables)
   pub known : (S : State) → Allowed (m .rule S) (S .tables) → Known (S .tables) (m .names) (m .changes S)

@@ -14,7 +14,7 @@ use Rattle.rules.proofs.After.{reads-length}
 use Rattle.rules.proofs.Lawful.{Lawful, looks-lawful}
 
 -- the answer is how many bytes the slip reads
-pub length-is : (s : ℕ) (S : State) → SoundNow (S .tables) → Fit (bufferTotal (S .tables)) (S .storage) → rule (Length s) S .number ≡ length (reads S s)
+pub length-is : (s : ℕ) (S : State) → SoundNow (S .tables) → Fit (S .tables .stock) (bufferTotal (S .tables)) (S .storage) → rule (Length s) S .number ≡ length (reads S s)
 unfolding rule
 length-is s S h f = sym (reads-length S h f s)
 

@@ -13,16 +13,16 @@ use Rattle.rules.proofs.Lawful.{Lawful, looks-lawful}
 use Rattle.rules.proofs.Read.{copied-front, copied-rest, copied-length}
 
 -- a record has two numbers
-pub records-length : (xs : List Stretch) → length (records xs) ≡ 2 * length xs
+pub records-length : (Z : List ℕ) (xs : List Stretch) → length (records Z xs) ≡ 2 * length xs
 unfolding records
-records-length [] = refl
-records-length (x ∷ xs) = omega (arith, records-length xs)
+records-length Z [] = refl
+records-length Z (x ∷ xs) = omega (arith, records-length Z xs)
 
 -- What list gives: a record for each piece in chain order, at the front of the list, whose rest is unchanged.
 pub record ListExact (s : ℕ) (list : List ℕ) (S : State) : Type 0 where
   pub one-each : rule (WireList s list) S .number ≡ length (chain (S .tables) s)
   pub as-long : length (rule (WireList s list) S .output) ≡ length list
-  pub front : take (2 * rule (WireList s list) S .number) (rule (WireList s list) S .output) ≡ records (spans (S .tables) s)
+  pub front : take (2 * rule (WireList s list) S .number) (rule (WireList s list) S .output) ≡ records (S .tables .stock) (spans (S .tables) s)
   pub rest : drop (2 * rule (WireList s list) S .number) (rule (WireList s list) S .output) ≡ drop (2 * rule (WireList s list) S .number) list
 
 -- a done list gives that
@@ -31,12 +31,13 @@ unfolding rule
 list-exact s list S a =
     let c = simp no-cause at (a .early) in
     let xs = spans (S .tables) s in
-    let e = records-length xs in
+    let Z = S .tables .stock in
+    let e = records-length Z xs in
     record {
       one-each = stretches-length (S .tables) (chain (S .tables) s);
-      as-long = copied-length (2 * length xs) (records xs) list e (omega arith);
-      front = copied-front (2 * length xs) (records xs) list e;
-      rest = copied-rest (2 * length xs) (records xs) list e;
+      as-long = copied-length (2 * length xs) (records Z xs) list e (omega arith);
+      front = copied-front (2 * length xs) (records Z xs) list e;
+      rest = copied-rest (2 * length xs) (records Z xs) list e;
     }
 
 -- ---- list only looks

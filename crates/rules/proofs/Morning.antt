@@ -4,12 +4,13 @@ use mathlib.Core.List.{List}
 use Prim.Native.Nat.{ℕ}
 use lib.ListN.{length, replicate}
 use Rattle.word.specs.Word.{get16}
+use Rattle.kinds.specs.Sizes.{classOf}
 use Rattle.rules.specs.Basics.{if_then_else_, allTo, places}
 use Rattle.rules.specs.Bytes.{decode, encode}
 use Rattle.rules.specs.Chain.{follow, walk, ownPieces, stretches, total, cutOut, contents}
 use Rattle.rules.specs.Sound.{heads, nexts, lying, headerOk, acyclic, soundTables, sound, lent}
 use Rattle.rules.specs.Release.{releaseIn, release, turned, relinked}
-use Rattle.rules.specs.Build.{builtLink, built, underNew, underOld, behindOwn, laid, filled, stored}
+use Rattle.rules.specs.Build.{builtLink, built, underNew, underOld, behindOwn, laid, filledAt, stored}
 use Rattle.rules.specs.Rule.{firstCode}
 use Rattle.rules.specs.Open.{openable}
 use Rattle.rules.specs.Put.{putAfter}
@@ -25,12 +26,12 @@ use Rattle.rules.specs.Morning.{rows, fresh4, given, edges, tried}
 
 -- unfolding this unfolds every rule
 every-rule : Unit {0}
-unfolding get16 if_then_else_ allTo places decode encode follow walk ownPieces stretches total cutOut contents heads nexts lying headerOk acyclic soundTables sound releaseIn release turned relinked builtLink built underNew underOld behindOwn laid filled stored firstCode putAfter dupPlan dupAfter cutAfter joined appendAfter dropHere dropPlan dropAfter shortened keptBy keepAfter pullupAfter pullupWants packAfter packWants rule done perform step
+unfolding get16 classOf if_then_else_ allTo places decode encode follow walk ownPieces stretches total cutOut contents heads nexts lying headerOk acyclic soundTables sound releaseIn release turned relinked builtLink built underNew underOld behindOwn laid filledAt stored firstCode putAfter dupPlan dupAfter cutAfter joined appendAfter dropHere dropPlan dropAfter shortened keptBy keepAfter pullupAfter pullupWants packAfter packWants rule done perform step
 every-rule = tt
 
 -- fresh4 is what open 4, 6, 4 leaves of any 87 bytes over zeroed storage
 pub fresh4-open : (q : List ℕ) → length q ≡ 87 → next (Open 4 6 4) (lent q (replicate 2048 0)) ≡ fresh4
-unfolding step openable if_then_else_
+unfolding step openable if_then_else_ classOf
 fresh4-open q e = rw e
 
 -- along the calls of the ten rows the rules give every column of the ten rows

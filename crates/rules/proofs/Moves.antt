@@ -10,7 +10,7 @@ use native.Mathlib.Omega.{arith}
 use lib.ListN.{length, getD, set, length-set, List·getD-eq-default}
 use lib.Seq.{getD-set-same, getD-set-other}
 use lib.Dec.{eqb, eqb→eq, eqb-refl, lt→ltb}
-use Rattle.kinds.specs.Limits.{sizeOf}
+use Rattle.kinds.specs.Sizes.{sizeOf}
 use Rattle.rules.specs.Basics.{if_then_else_, bit, sumTo}
 use Rattle.rules.specs.Tables.{Piece, Tables, blank, piece, bufferCount, headOf, setSlip, setPiece, setPieceCount, withCount, withNext, withPlace, withBoth}
 use Rattle.rules.specs.Sound.{inUse, leads, heads, lying}
@@ -39,9 +39,9 @@ occ [] d = 0
 occ (n ∷ ns) d = hit n d + occ ns d
 
 -- a piece covers at least one byte, inside its buffer
-pub record Fits (p : Piece) : Type 0 where
+pub record Fits (Z : List ℕ) (p : Piece) : Type 0 where
   pub some-bytes : 1 ≤ p .len
-  pub inside : p .offset + p .len ≤ sizeOf (p .buffer)
+  pub inside : p .offset + p .len ≤ sizeOf Z (p .buffer)
 
 -- The tables are sound but for the references fl, which the operation under way holds itself;
 -- `rank` falls along every next. Indices are unbounded: past its end a table reads as zero, so
@@ -50,7 +50,7 @@ pub record SoundBy (rank : ℕ → ℕ) (fl : List ℕ) (T : Tables) : Type 0 wh
   pub counted : (d : ℕ) → piece T d .count ≡ heads T d + links T d + occ fl d
   pub lain : (b : ℕ) → bufferCount T b ≡ lying T b
   pub empty : (d : ℕ) → piece T d .count ≡ 0 → piece T d ≡ blank
-  pub fits : (d : ℕ) → 0 < piece T d .count → Fits (piece T d)
+  pub fits : (d : ℕ) → 0 < piece T d .count → Fits (T .stock) (piece T d)
   pub falls : (d e : ℕ) → piece T d .next ≡ suc e → rank e < rank d
 
 abbrev pub SoundWith : List ℕ → Tables → Type 0
@@ -140,7 +140,7 @@ pub record Replaces (rank rank′ : ℕ → ℕ) (fl fl′ : List ℕ) (T : Tabl
   pub itself : p .count + occ fl i + hit (piece T i .next) i ≡ piece T i .count + occ fl′ i + hit (p .next) i
   pub buffers : (b : ℕ) → getD cs b 0 + lies (piece T i) b ≡ bufferCount T b + lies p b
   pub p-empty : p .count ≡ 0 → p ≡ blank
-  pub p-fits : 0 < p .count → Fits p
+  pub p-fits : 0 < p .count → Fits (T .stock) p
   pub old-falls : (d e : ℕ) → d ≢ i → piece T d .next ≡ suc e → rank′ e < rank′ d
   pub p-falls : (e : ℕ) → p .next ≡ suc e → rank′ e < rank′ i
 
@@ -158,7 +158,7 @@ replace {rank} {rank′} {fl} {fl′} {T} {i} {p} {cs} S R =
           (λ d e. omega (arith, sn d, S .counted d, R .others d e));
       lain = λ b. omega (arith, sum-set (T .pieces) i p blank (λ q. lies q b) (R .there), S .lain b, R .buffers b);
       empty = all (λ q d. q .count ≡ 0 → q ≡ blank) (R .p-empty) (λ d e. S .empty d);
-      fits = all (λ q d. 0 < q .count → Fits q) (R .p-fits) (λ d e. S .fits d);
+      fits = all (λ q d. 0 < q .count → Fits (T .stock) q) (R .p-fits) (λ d e. S .fits d);
       falls = all (λ q d. (e : ℕ) → q .next ≡ suc e → rank′ e < rank′ d) (R .p-falls) (λ d n e. R .old-falls d e n);
     }
 
@@ -268,7 +268,7 @@ above-new rank i n z e k =
 
 -- a free piece is taken: it uses up a held reference to its next, and is held
 pub take-move : {rank : ℕ → ℕ} {fl : List ℕ} {T : Tables} (i : ℕ) (p : Piece) → i < length (T .pieces) → piece T i .count ≡ 0
-    → p .count ≡ 1 → p .buffer < length (T .counts) → Fits p
+    → p .count ≡ 1 → p .buffer < length (T .counts) → Fits (T .stock) p
     → SoundBy rank (p .next ∷ fl) T → SoundBy (above rank i (p .next)) (suc i ∷ fl) (taken T i p)
 take-move {rank} {fl} {T} i p l z one bl ft S =
     let pos : 0 < p .count = omega arith in
@@ -310,7 +310,7 @@ relink-move {rank} {fl} {T} i n one S =
     })
 
 -- a piece in use is trimmed where it lies
-pub trim-move : {rank : ℕ → ℕ} {fl : List ℕ} {T : Tables} (i : ℕ) (off len : ℕ) → 0 < piece T i .count → 1 ≤ len → off + len ≤ sizeOf (piece T i .buffer)
+pub trim-move : {rank : ℕ → ℕ} {fl : List ℕ} {T : Tables} (i : ℕ) (off len : ℕ) → 0 < piece T i .count → 1 ≤ len → off + len ≤ sizeOf (T .stock) (piece T i .buffer)
     → SoundBy rank fl T
     → SoundBy rank fl (setPiece T i (withPlace (piece T i) off len))
 trim-move {rank} {fl} {T} i off len pos h1 h2 S = replace S (record {

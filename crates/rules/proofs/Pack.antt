@@ -30,20 +30,20 @@ pub pack-sound : (s : ℕ) (S : State) → s < slipTotal (S .tables) → SoundNo
 unfolding packAfter
 pack-sound s S l h =
     let T = S .tables in
-    let xs = laid (newBuffers T (buffersFor (lengthOf T s))) (lengthOf T s) in
+    let xs = laid (T .stock) (newBuffers T (buffersFor (lengthOf T s))) (lengthOf T s) in
     if-either (λ (X : State). SoundNow (X .tables)) (leb (length (chain T s)) 1) _ _ (λ _. h)
     (λ _. old-sound _ (plain T xs) (freePieces T) s (plain-planned T xs (new-good T (lengthOf T s)) h) (free-pieces T) l)
 
 -- what pack leaves, where it changes anything: new pieces on new buffers
 pub pack-gives : (s : ℕ) (S S₁ : State) → s < slipTotal (S .tables) → SoundNow (S .tables)
     → buffersFor (lengthOf (S .tables) s) ≤ length (freePieces (S .tables)) → buffersFor (lengthOf (S .tables) s) ≤ length (freeBuffers (S .tables))
-    → Gives (S .tables) (underOld S₁ (plain (S .tables) (laid (newBuffers (S .tables) (buffersFor (lengthOf (S .tables) s))) (lengthOf (S .tables) s))) (freePieces (S .tables)) s .tables) s
-    (take (buffersFor (lengthOf (S .tables) s)) (freePieces (S .tables))) (laid (newBuffers (S .tables) (buffersFor (lengthOf (S .tables) s))) (lengthOf (S .tables) s))
+    → Gives (S .tables) (underOld S₁ (plain (S .tables) (laid (S .tables .stock) (newBuffers (S .tables) (buffersFor (lengthOf (S .tables) s))) (lengthOf (S .tables) s))) (freePieces (S .tables)) s .tables) s
+    (take (buffersFor (lengthOf (S .tables) s)) (freePieces (S .tables))) (laid (S .tables .stock) (newBuffers (S .tables) (buffersFor (lengthOf (S .tables) s))) (lengthOf (S .tables) s))
 unfolding stretches
 pack-gives s S S₁ b h rp rb =
     let T = S .tables in
     let n = lengthOf T s in
-    let xs = laid (newBuffers T (buffersFor n)) n in
+    let xs = laid (T .stock) (newBuffers T (buffersFor n)) n in
     let c = new-count T (buffersFor n) n rb in
     gives-as (append-nil (take (length xs) (freePieces T)) ∙ ap (λ k. take k (freePieces T)) c) (append-nil xs)
     (old-gives (plain T xs) (freePieces T) [] (plain-planned T xs (new-good T n) h) (free-pieces T) (omega (arith, c)) stop S₁ s b (λ u _. same-refl T _))
@@ -64,12 +64,12 @@ pack-leaves s S h f al =
     let rp : k ≤ length (freePieces T) = omega (arith, al .pieces-room, ap (λ (x : Wants). x .pieces) w) in
     let rb : k ≤ length (freeBuffers T) = omega (arith, al .buffers-room, ap (λ (x : Wants). x .buffers) w) in
     let bs = newBuffers T k in
-    let S₁ = withStorage S (stored (S .storage) bs (reads S s)) in
-    let st = old-storage S₁ (plain T (laid bs n)) (freePieces T) s in
+    let S₁ = withStorage S (stored (T .stock) (S .storage) bs (reads S s)) in
+    let st = old-storage S₁ (plain T (laid (T .stock) bs n)) (freePieces T) s in
     let long = reads-length S h f s in
     gives-reading S _ s _ _ (reads S s) (pack-gives s S S₁ b h rp rb) h h′
-    (λ u. ap (λ (q : List ℕ). contents q (spans T u)) st ∙ new-others S h f k (reads S s) u)
-    (ap (λ (q : List ℕ). contents q (laid bs n)) st ∙ ap (λ i. contents (S₁ .storage) (laid bs i)) (sym long) ∙ new-here S h f k (reads S s) rb (omega arith))))
+    (λ u. ap (λ (q : List ℕ). contents (T .stock) q (spans T u)) st ∙ new-others S h f k (reads S s) u)
+    (ap (λ (q : List ℕ). contents (T .stock) q (laid (T .stock) bs n)) st ∙ ap (λ i. contents (T .stock) (S₁ .storage) (laid (T .stock) bs i)) (sym long) ∙ new-here S h f k (reads S s) rb (omega arith))))
 
 pack-takes : (s : ℕ) → Taking (packCall s)
 unfolding packAfter packWants
@@ -93,8 +93,8 @@ pack-lawful s = record {
       let n = lengthOf T s in
       let k = buffersFor n in
       let bs = newBuffers T k in
-      let S₁ = withStorage S (stored (S .storage) bs (reads S s)) in
-      maybe-stays S _ (leb (length (chain T s)) 1) (stays-new S _ k (reads S s) f (old-storage S₁ (plain T (laid bs n)) (freePieces T) s)));
+      let S₁ = withStorage S (stored (T .stock) (S .storage) bs (reads S s)) in
+      maybe-stays S _ (leb (length (chain T s)) 1) (stays-new S _ k (reads S s) f (old-storage S₁ (plain T (laid (T .stock) bs n)) (freePieces T) s)));
   sound = λ S h a. pack-sound s S (first-named (S .tables) s _ (a .early) .0) h;
   known = λ S _. (inl refl, tt);
   leaves = pack-leaves s;

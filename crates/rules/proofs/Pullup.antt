@@ -32,13 +32,13 @@ use Rattle.rules.proofs.Put.{new-count}
 use Rattle.rules.proofs.Drop.{dropped-planned, dropped-leaves, plan-sizes}
 
 -- n bytes on one new buffer
-pub one-good : (T : Tables) (n : ℕ) → 1 ≤ n → Good (bufferTotal T) (laid (newBuffers T 1) n)
-one-good T n h = laid-good (isUnheld T) 0 (bufferTotal T) (newBuffers T 1) n (new-buffers-in T 1) (omega (arith, length-take 1 (freeBuffers T)))
+pub one-good : (T : Tables) (n : ℕ) → 1 ≤ n → Good (T .stock) (bufferTotal T) (laid (T .stock) (newBuffers T 1) n)
+one-good T n h = laid-good (T .stock) (isUnheld T) 0 (bufferTotal T) (newBuffers T 1) n (new-buffers-in T 1) (omega (arith, length-take 1 (freeBuffers T)))
 
 pub pulled-planned : (T : Tables) (s n : ℕ) → 1 ≤ n → SoundNow T → Planned T (pulled T s n)
 pulled-planned T s n h S =
     let d = dropped-planned T s n S in
-    record { still = d .still; good = good-append (bufferTotal T) (laid (newBuffers T 1) n) (dropped T s n .more) (one-good T n h) (d .good); held = d .held }
+    record { still = d .still; good = good-append (T .stock) (bufferTotal T) (laid (T .stock) (newBuffers T 1) n) (dropped T s n .more) (one-good T n h) (d .good); held = d .held }
 
 pub pullup-sound : (s n : ℕ) (S : State) → s < slipTotal (S .tables) → SoundNow (S .tables) → SoundNow (pullupAfter s n S .tables)
 unfolding pullupAfter
@@ -49,16 +49,16 @@ pullup-sound s n S l h =
 
 -- what pullup leaves, where it changes anything: a new piece on a new buffer, before what drop leaves
 pub pulled-count : (T : Tables) (s n : ℕ) → 1 ≤ length (freeBuffers T) → length (pulled T s n .more) ≡ 1 + length (dropped T s n .more)
-pulled-count T s n h = omega (arith, length-append (laid (newBuffers T 1) n) (dropped T s n .more), new-count T 1 n h)
+pulled-count T s n h = omega (arith, length-append (laid (T .stock) (newBuffers T 1) n) (dropped T s n .more), new-count T 1 n h)
 
 pub pullup-gives : (s n : ℕ) (S S₁ : State) (b : s < slipTotal (S .tables)) (h : SoundNow (S .tables)) → 1 ≤ n → length (pulled (S .tables) s n .more) ≤ length (freePieces (S .tables))
     → Gives (S .tables) (underOld S₁ (pulled (S .tables) s n) (freePieces (S .tables)) s .tables) s
     (take (length (pulled (S .tables) s n .more)) (freePieces (S .tables)) ++ dropped-leaves (S .tables) s n b h .rest)
-    (laid (newBuffers (S .tables) 1) n ++ dropOut (spans (S .tables) s) n)
+    (laid (S .tables .stock) (newBuffers (S .tables) 1) n ++ dropOut (spans (S .tables) s) n)
 pullup-gives s n S S₁ b h p r =
     let T = S .tables in
     let v = dropped-leaves T s n b h in
-    let xs = laid (newBuffers T 1) n in
+    let xs = laid (T .stock) (newBuffers T 1) n in
     gives-as refl (append-assoc xs (dropped T s n .more) (stretches (dropped T s n .base) (v .rest)) ∙ ap {B = List Stretch} (λ ys. xs ++ ys) (v .covers))
     (old-gives (pulled T s n) (freePieces T) (v .rest) (pulled-planned T s n p h) (free-pieces T) r (v .meets) S₁ s b (v .others))
 
@@ -70,11 +70,11 @@ off-drop bs [] n o = tt
 off-drop bs (x ∷ xs) n o =
     if-either (Off bs) (leb (x .len) n) _ _ (λ _. off-drop bs xs (n - x .len) (o .1)) (λ _. (o .0, o .1))
 
-good-dropOut : (B : ℕ) (xs : List Stretch) (n : ℕ) → Good B xs → Good B (dropOut xs n)
+good-dropOut : (Z : List ℕ) (B : ℕ) (xs : List Stretch) (n : ℕ) → Good Z B xs → Good Z B (dropOut xs n)
 unfolding dropOut
-good-dropOut B [] n g = tt
-good-dropOut B (x ∷ xs) n g =
-    if-either (Good B) (leb (x .len) n) _ _ (λ _. good-dropOut B xs (n - x .len) (g .3))
+good-dropOut Z B [] n g = tt
+good-dropOut Z B (x ∷ xs) n g =
+    if-either (Good Z B) (leb (x .len) n) _ _ (λ _. good-dropOut Z B xs (n - x .len) (g .3))
     (λ t. (let k = not-most (x .len) n t in (g .0, omega arith, omega (arith, g .2), g .3)))
 
 pullup-leaves : (s n : ℕ) → Leaving (pullupCall s n)
@@ -90,18 +90,18 @@ pullup-leaves s n S h f al =
     let rp : suc (length (dropped T s n .more)) ≤ length (freePieces T) = omega (arith, al .pieces-room, ap (λ (x : Wants). x .pieces) w) in
     let rb : 1 ≤ length (freeBuffers T) = omega (arith, al .buffers-room, ap (λ (x : Wants). x .buffers) w) in
     let front = take n (reads S s) in
-    let S₁ = withStorage S (stored (S .storage) (newBuffers T 1) front) in
+    let S₁ = withStorage S (stored (T .stock) (S .storage) (newBuffers T 1) front) in
     let st = old-storage S₁ (pulled T s n) (freePieces T) s in
     let long : length front ≡ n = omega (arith, length-take n (reads S s), reads-length S h f s) in
     let bs = newBuffers T 1 in
-    let fst : contents (S₁ .storage) (laid bs n) ≡ front = ap (λ k. contents (S₁ .storage) (laid bs k)) (sym long) ∙ new-here S h f 1 front rb (omega arith) in
-    let rst : contents (S₁ .storage) (dropOut (spans T s) n) ≡ drop n (reads S s) =
-    stored-others (isUnheld T) 0 (bufferTotal T) bs (S .storage) front (dropOut (spans T s) n) (new-buffers-in T 1) f (good-dropOut (bufferTotal T) (spans T s) n (spans-good T s h)) (off-drop bs (spans T s) n (spans-off T 1 s h))
-    ∙ dropOut-contents (bufferTotal T) (S .storage) (spans T s) n f (spans-good T s h) in
+    let fst : contents (T .stock) (S₁ .storage) (laid (T .stock) bs n) ≡ front = ap (λ k. contents (T .stock) (S₁ .storage) (laid (T .stock) bs k)) (sym long) ∙ new-here S h f 1 front rb (omega arith) in
+    let rst : contents (T .stock) (S₁ .storage) (dropOut (spans T s) n) ≡ drop n (reads S s) =
+    stored-others (T .stock) (isUnheld T) 0 (bufferTotal T) bs (S .storage) front (dropOut (spans T s) n) (new-buffers-in T 1) f (good-dropOut (T .stock) (bufferTotal T) (spans T s) n (spans-good T s h)) (off-drop bs (spans T s) n (spans-off T 1 s h))
+    ∙ dropOut-contents (T .stock) (bufferTotal T) (S .storage) (spans T s) n f (spans-good T s h) in
     let g = pullup-gives s n S S₁ b h (omega (arith, not-most n (firstLength (spans T s)) ne)) (omega (arith, pulled-count T s n rb)) in
     gives-reading S _ s _ _ (reads S s) g h h′
-    (λ u. ap (λ (q : List ℕ). contents q (spans T u)) st ∙ new-others S h f 1 front u)
-    (ap (λ (q : List ℕ). contents q (laid bs n ++ dropOut (spans T s) n)) st ∙ contents-append (S₁ .storage) (laid bs n) (dropOut (spans T s) n)
+    (λ u. ap (λ (q : List ℕ). contents (T .stock) q (spans T u)) st ∙ new-others S h f 1 front u)
+    (ap (λ (q : List ℕ). contents (T .stock) q (laid (T .stock) bs n ++ dropOut (spans T s) n)) st ∙ contents-append (T .stock) (S₁ .storage) (laid (T .stock) bs n) (dropOut (spans T s) n)
     ∙ (λ j. fst j ++ rst j) ∙ take-append-drop n (reads S s))))
 
 pullup-takes : (s n : ℕ) → Taking (pullupCall s n)
@@ -111,7 +111,7 @@ pullup-takes s n S h a h″ =
     let (b, z) = first-named T s _ (a .early) in
     let k = length (dropped T s n .more) in
     let v = dropped-leaves T s n b h in
-    let xs = laid (newBuffers T 1) n in
+    let xs = laid (T .stock) (newBuffers T 1) n in
     let ys = dropOut (spans T s) n in
     if-both (λ (X : State) (w : Wants). SoundNow (X .tables) → Roomy T w → Took T (X .tables) w s) (leb n (firstLength (spans T s))) _ _ (want 0 0 0) (want 0 (suc k) 1)
     (λ _ _ _. nothing-taken T s h)
@@ -132,7 +132,7 @@ pullup-lawful s n = record {
       maybe-sizes S _ (leb n (firstLength (spans T s))) (old-sizes _ (pulled T s n) (freePieces T) s (plan-sizes T true (chain T s) n)));
   stays = λ S f. (
       let T = S .tables in
-      let S₁ = withStorage S (stored (S .storage) (newBuffers T 1) (take n (reads S s))) in
+      let S₁ = withStorage S (stored (T .stock) (S .storage) (newBuffers T 1) (take n (reads S s))) in
       maybe-stays S _ (leb n (firstLength (spans T s))) (stays-new S _ 1 (take n (reads S s)) f (old-storage S₁ (pulled T s n) (freePieces T) s)));
   sound = λ S h a. pullup-sound s n S (first-named (S .tables) s _ (a .early) .0) h;
   known = λ S _. (inl refl, tt);

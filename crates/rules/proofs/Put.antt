@@ -23,29 +23,29 @@ use Rattle.rules.proofs.Takes.{new-laid, new-pass, roomy, took-new}
 use Rattle.rules.proofs.Lawful.{Lawful, new-vacant, Leaving, Taking}
 
 -- n bytes on the lowest free buffers
-pub new-good : (T : Tables) (n : ℕ) → Good (bufferTotal T) (laid (newBuffers T (buffersFor n)) n)
+pub new-good : (T : Tables) (n : ℕ) → Good (T .stock) (bufferTotal T) (laid (T .stock) (newBuffers T (buffersFor n)) n)
 new-good T n =
-    laid-good (isUnheld T) 0 (bufferTotal T) (newBuffers T (buffersFor n)) n (new-buffers-in T (buffersFor n)) (omega (arith, length-take (buffersFor n) (freeBuffers T)))
+    laid-good (T .stock) (isUnheld T) 0 (bufferTotal T) (newBuffers T (buffersFor n)) n (new-buffers-in T (buffersFor n)) (omega (arith, length-take (buffersFor n) (freeBuffers T)))
 
 pub put-sound : (input : List ℕ) (S : State) → 0 < length (vacantSlips (S .tables)) → SoundNow (S .tables) → SoundNow (putAfter input S .tables)
 unfolding putAfter
 put-sound input S h s =
     let T = S .tables in
-    let xs = laid (newBuffers T (buffersFor (length input))) (length input) in
+    let xs = laid (T .stock) (newBuffers T (buffersFor (length input))) (length input) in
     new-sound (plain T xs) (freePieces T) (newSlip T) (plain-planned T xs (new-good T (length input)) s) (free-pieces T) (new-slip-ok T h .0) (new-slip-ok T h .1)
 
-pub new-count : (T : Tables) (k n : ℕ) → k ≤ length (freeBuffers T) → length (laid (newBuffers T k) n) ≡ k
-new-count T k n h = omega (arith, laid-count (newBuffers T k) n, length-take k (freeBuffers T))
+pub new-count : (T : Tables) (k n : ℕ) → k ≤ length (freeBuffers T) → length (laid (T .stock) (newBuffers T k) n) ≡ k
+new-count T k n h = omega (arith, laid-count (T .stock) (newBuffers T k) n, length-take k (freeBuffers T))
 
 -- what put leaves: the new slip holds new pieces on new buffers
 pub put-gives : (input : List ℕ) (S : State) → SoundNow (S .tables) → 0 < length (vacantSlips (S .tables))
     → buffersFor (length input) ≤ length (freePieces (S .tables)) → buffersFor (length input) ≤ length (freeBuffers (S .tables))
-    → Gives (S .tables) (putAfter input S .tables) (newSlip (S .tables)) (take (buffersFor (length input)) (freePieces (S .tables))) (laid (newBuffers (S .tables) (buffersFor (length input))) (length input))
+    → Gives (S .tables) (putAfter input S .tables) (newSlip (S .tables)) (take (buffersFor (length input)) (freePieces (S .tables))) (laid (S .tables .stock) (newBuffers (S .tables) (buffersFor (length input))) (length input))
 unfolding putAfter stretches
 put-gives input S s v rp rb =
     let T = S .tables in
     let n = length input in
-    let xs = laid (newBuffers T (buffersFor n)) n in
+    let xs = laid (T .stock) (newBuffers T (buffersFor n)) n in
     let c = new-count T (buffersFor n) n rb in
     let fs = freePieces T in
     gives-as (append-nil (take (length xs) fs) ∙ ap (λ k. take k fs) c) (append-nil xs)

@@ -37,7 +37,7 @@ pub record ReadExact (s off n : ℕ) (out : List ℕ) (S : State) : Type 0 where
   pub rest : drop n (rule (Read s off n out) S .output) ≡ drop n out
 
 -- a done read gives that
-pub read-exact : (s off n : ℕ) (out : List ℕ) (S : State) → SoundNow (S .tables) → Fit (bufferTotal (S .tables)) (S .storage) → Allowed (rule (Read s off n out) S) (S .tables) → ReadExact s off n out S
+pub read-exact : (s off n : ℕ) (out : List ℕ) (S : State) → SoundNow (S .tables) → Fit (S .tables .stock) (bufferTotal (S .tables)) (S .storage) → Allowed (rule (Read s off n out) S) (S .tables) → ReadExact s off n out S
 unfolding rule
 read-exact s off n out S h f a =
     let c = simp no-cause at (a .early) in

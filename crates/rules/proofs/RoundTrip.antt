@@ -119,12 +119,12 @@ list-gather s list out m e =
       | yes h ↦ (
           let c = judged ∙ first-yes (Narrow ⇐ ltb (length out) n) _ (lt→ltb (length out) n h) in
           let r = alters-nothing (Do o) m (λ z. omega arith) in
-          gather-short (bufferTotal T) (m .storage) out xs f g h ∙ sym (λ i. record { code = c i; number = r i .number; output = r i .output }))
+          gather-short (T .stock) (bufferTotal T) (m .storage) out xs f g h ∙ sym (λ i. record { code = c i; number = r i .number; output = r i .output }))
       | no h ↦ (
           let l : n ≤ length out = omega arith in
           let c = judged ∙ first-no (Narrow ⇐ ltb (length out) n) _ (λ q. omega (arith, ltb→lt (length out) n q)) ∙ none-full (room T) in
           let whole : take n (reads S s) ≡ reads S s = ap (λ (k : ℕ). take k (reads S s)) (sym (reads-length S (sound-now m t) f s)) ∙ take-length (reads S s) in
-          gather-records (bufferTotal T) (m .storage) out xs f g l
+          gather-records (T .stock) (bufferTotal T) (m .storage) out xs f g l
           ∙ sym (λ i. record { code = c i; number = number-is o m c i; output = (output-is o m c ∙ ap (λ (q : List ℕ). copied q out) whole) i }))
     ]
 

@@ -33,23 +33,23 @@ seen-either true p n st xs scratch ys f g = f tt
 seen-either false p n st xs scratch ys f g = g (λ t. t)
 
 -- the view of stretches shows their first n bytes
-seen-first : (B : ℕ) (st scratch : List ℕ) (xs : List Stretch) (n : ℕ) → Fit B st → Good B xs → n ≤ total xs → length (take n (contents st xs)) ≡ n
-    → seen (viewOf xs n) n st (if scattered xs n then copied (take n (contents st xs)) scratch else scratch) ≡ take n (contents st xs)
+seen-first : (Z : List ℕ) (B : ℕ) (st scratch : List ℕ) (xs : List Stretch) (n : ℕ) → Fit Z B st → Good Z B xs → n ≤ total xs → length (take n (contents Z st xs)) ≡ n
+    → seen (viewOf Z xs n) n st (if scattered xs n then copied (take n (contents Z st xs)) scratch else scratch) ≡ take n (contents Z st xs)
 unfolding viewOf contents total
-seen-first B st scratch [] zero f g l e = refl
-seen-first B st scratch [] (suc n) f g l e = absurd (omega arith)
-seen-first B st scratch (x ∷ xs) zero f g l e = refl
-seen-first B st scratch (x ∷ xs) (suc n) f g l e =
-    let c = contents st (x ∷ xs) in
+seen-first Z B st scratch [] zero f g l e = refl
+seen-first Z B st scratch [] (suc n) f g l e = absurd (omega arith)
+seen-first Z B st scratch (x ∷ xs) zero f g l e = refl
+seen-first Z B st scratch (x ∷ xs) (suc n) f g l e =
+    let c = contents Z st (x ∷ xs) in
     let b = scattered (x ∷ xs) (suc n) in
     ap (λ (v : View). seen v (suc n) st (if b then copied (take (suc n) c) scratch else scratch)) (if-F (eqb (suc n) 0) _ _ (λ t. omega (arith, eqb→eq (suc n) 0 t)))
-    ∙ seen-either b (positionOf x) (suc n) st (copied (take (suc n) c) scratch) scratch (take (suc n) c) (λ _. copied-front (suc n) (take (suc n) c) scratch e)
+    ∙ seen-either b (positionOf Z x) (suc n) st (copied (take (suc n) c) scratch) scratch (take (suc n) c) (λ _. copied-front (suc n) (take (suc n) c) scratch e)
     (λ t. (
     let u = leb→le (suc n) (x .len) (not-not (leb (suc n) (x .len)) t) in
-    let k = bytes-length B st x f (g .0) (g .2) in
-    sym (take-append-le (suc n) (bytesOf st x) (contents st xs) (omega arith) ∙ take-take (suc n) (x .len) (drop (positionOf x) st) u)))
+    let k = bytes-length Z B st x f (g .0) (g .2) in
+    sym (take-append-le (suc n) (bytesOf Z st x) (contents Z st xs) (omega arith) ∙ take-take (suc n) (x .len) (drop (positionOf Z x) st) u)))
 
-module _ (s n : ℕ) (scratch : List ℕ) (S : State) (h : SoundNow (S .tables)) (f : Fit (bufferTotal (S .tables)) (S .storage)) (a : Allowed (rule (Show s n scratch) S) (S .tables)) where
+module _ (s n : ℕ) (scratch : List ℕ) (S : State) (h : SoundNow (S .tables)) (f : Fit (S .tables .stock) (bufferTotal (S .tables)) (S .storage)) (a : Allowed (rule (Show s n scratch) S) (S .tables)) where
   -- a done show stays within the chain: it shows n bytes, not fewer
   pub show-exact : length (take n (reads S s)) ≡ n
   unfolding rule
@@ -58,7 +58,7 @@ module _ (s n : ℕ) (scratch : List ℕ) (S : State) (h : SoundNow (S .tables))
   -- the view shows the first n bytes
   pub show-seen : seen (rule (Show s n scratch) S .view) n (S .storage) (rule (Show s n scratch) S .output) ≡ take n (reads S s)
   unfolding rule
-  show-seen = let c = simp no-cause at (a .early) in seen-first (bufferTotal (S .tables)) (S .storage) scratch (spans (S .tables) s) n f (spans-good (S .tables) s h) (omega arith) show-exact
+  show-seen = let c = simp no-cause at (a .early) in seen-first (S .tables .stock) (bufferTotal (S .tables)) (S .storage) scratch (spans (S .tables) s) n f (spans-good (S .tables) s h) (omega arith) show-exact
 
   -- the scratch keeps its length
   pub show-length : length (rule (Show s n scratch) S .output) ≡ length scratch

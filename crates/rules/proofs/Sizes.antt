@@ -23,15 +23,17 @@ pub record Sizes (T T′ : Tables) : Type 0 where
   pub slips-size : length (T′ .slips) ≡ length (T .slips)
   pub pieces-size : length (T′ .pieces) ≡ length (T .pieces)
   pub counts-size : length (T′ .counts) ≡ length (T .counts)
+  pub stock-kept : T′ .stock ≡ T .stock
 
 pub same-sizes : (T : Tables) → Sizes T T
-same-sizes T = record { slips-size = refl; pieces-size = refl; counts-size = refl }
+same-sizes T = record { slips-size = refl; pieces-size = refl; counts-size = refl; stock-kept = refl }
 
 pub then-sizes : {A B C : Tables} → Sizes A B → Sizes B C → Sizes A C
 then-sizes s t = record {
   slips-size = t .slips-size ∙ s .slips-size;
   pieces-size = t .pieces-size ∙ s .pieces-size;
   counts-size = t .counts-size ∙ s .counts-size;
+  stock-kept = t .stock-kept ∙ s .stock-kept;
 }
 
 -- where it may be that nothing changes
@@ -41,13 +43,13 @@ maybe-sizes S X b h = if-either (λ (Y : State). Sizes (S .tables) (Y .tables)) 
 -- the stores
 
 pub slip-set : (T : Tables) (s v : ℕ) → Sizes T (setSlip T s v)
-slip-set T s v = record { slips-size = length-set (T .slips) s v; pieces-size = refl; counts-size = refl }
+slip-set T s v = record { slips-size = length-set (T .slips) s v; pieces-size = refl; counts-size = refl; stock-kept = refl }
 
 pub piece-set : (T : Tables) (d : ℕ) (p : Piece) → Sizes T (setPiece T d p)
-piece-set T d p = record { slips-size = refl; pieces-size = length-set (T .pieces) d p; counts-size = refl }
+piece-set T d p = record { slips-size = refl; pieces-size = length-set (T .pieces) d p; counts-size = refl; stock-kept = refl }
 
 both-set : (T : Tables) (d : ℕ) (p : Piece) (b n : ℕ) → Sizes T (setPieceCount T d p b n)
-both-set T d p b n = record { slips-size = refl; pieces-size = length-set (T .pieces) d p; counts-size = length-set (T .counts) b n }
+both-set T d p b n = record { slips-size = refl; pieces-size = length-set (T .pieces) d p; counts-size = length-set (T .counts) b n; stock-kept = refl }
 
 -- the steps that the operations share
 
@@ -72,7 +74,7 @@ turned-sizes S s v = then-sizes (slip-set (S .tables) s v) (release-sizes (withT
 pub built-sizes : (T : Tables) (fs : List ℕ) (xs : List Stretch) (tail : ℕ) → Sizes T (built T fs xs tail)
 built-sizes T fs xs tail =
     let k = built-kept T fs xs tail in
-    record { slips-size = ap length (k .slips-kept); pieces-size = k .pieces-size; counts-size = k .counts-size }
+    record { slips-size = ap length (k .slips-kept); pieces-size = k .pieces-size; counts-size = k .counts-size; stock-kept = k .stock-kept }
 
 pub new-sizes : {T : Tables} (p : Plan) (fs : List ℕ) (t : ℕ) → Sizes T (p .base) → Sizes T (underNew p fs t)
 unfolding underNew
@@ -97,9 +99,9 @@ shared-sizes T (suc d) = piece-set T d _
 
 -- ---- storage: what is written stays inside its buffers
 
-pub new-length : (S : State) (k : ℕ) (xs : List ℕ) → length (S .storage) ≡ storageLength (bufferTotal (S .tables))
-    → length (stored (S .storage) (newBuffers (S .tables) k) xs) ≡ length (S .storage)
-new-length S k xs h = let T = S .tables in stored-length (isUnheld T) 0 (bufferTotal T) (newBuffers T k) (S .storage) xs (new-buffers-in T k) h
+pub new-length : (S : State) (k : ℕ) (xs : List ℕ) → length (S .storage) ≡ storageLength (S .tables .stock) (bufferTotal (S .tables))
+    → length (stored (S .tables .stock) (S .storage) (newBuffers (S .tables) k) xs) ≡ length (S .storage)
+new-length S k xs h = let T = S .tables in stored-length (T .stock) (isUnheld T) 0 (bufferTotal T) (newBuffers T k) (S .storage) xs (new-buffers-in T k) h
 
 pub old-storage : (S : State) (p : Plan) (fs : List ℕ) (s : ℕ) → underOld S p fs s .storage ≡ S .storage
 unfolding underOld

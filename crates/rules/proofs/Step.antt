@@ -1,7 +1,7 @@
 -- Any call on any bytes: a no alters nothing, a done call is its rule on bytes, and soundness is kept. Assumes nothing.
-use mathlib.Core.Path.{_≡_, refl, sym, ap, subst, _∙_}
+use mathlib.Core.Path.{_≡_, refl, sym, ap, ap₂, subst, _∙_}
 use mathlib.Core.Logic.{_≢_, _↔_, ⊎-elim}
-use mathlib.Core.List.{List, []}
+use mathlib.Core.List.{List, [], _∷_}
 use Prim.Native.Nat.{ℕ, _≤_, _<_}
 use native.Mathlib.Decide.{ℕ-discrete}
 use native.Mathlib.Omega.{arith}
@@ -14,8 +14,8 @@ use Rattle.kinds.specs.Refusal.{refusalCode}
 use Rattle.rules.specs.Basics.{Is}
 use Rattle.rules.specs.Layout.{storageLength}
 use Rattle.rules.specs.Tables.{Tables, slipTotal, pieceTotal, bufferTotal, blank, freshTables, bufferCount}
-use Rattle.rules.specs.Bytes.{decode, encode}
-use Rattle.rules.specs.Chain.{State, reads, bytesOf, stateOf}
+use Rattle.rules.specs.Bytes.{stockIn, decode, encode}
+use Rattle.rules.specs.Chain.{State, reads, stateOf}
 use Rattle.rules.specs.Sound.{Lent, headerOk, soundTables, sound, lent, countsOk}
 use Rattle.rules.specs.Room.{isVacant}
 use Rattle.rules.specs.Rule.{codeIn}
@@ -27,7 +27,7 @@ use Rattle.rules.proofs.Logic.{if-T, if-F, if-either, and-intro, and-0,
 use Rattle.rules.proofs.Moves.{SoundNow}
 use Rattle.rules.proofs.Audit.{tables-pass, sound-now, fresh-sound}
 use Rattle.rules.proofs.Codes.{allowed, first-listed}
-use Rattle.rules.proofs.After.{wholeOf}
+use Rattle.rules.proofs.After.{heldBytes}
 use Rattle.rules.proofs.Calls.{held-stays, reads-ok, rule-sizes, rule-sound, rule-storage, takes}
 use Rattle.rules.proofs.Bounds.{small}
 use Rattle.rules.proofs.Bytes.{Sized, header-facts, decode-slips, decode-pieces, decode-counts, decode-encode, encode-header, and-is, eqb-is, InRange, counts-facts}
@@ -121,8 +121,8 @@ code-listed (Do o) m n =
 -- ---- soundness in bytes
 
 -- every entry of sound tables within the limits fits 16 bits
-pub sized : (T : Tables) → SoundNow T → bufferTotal T ≤ mostBuffers → pieceTotal T ≤ mostPieces → slipTotal T ≤ mostSlips → Sized T
-sized T h b p s =
+pub sized : (T : Tables) → SoundNow T → bufferTotal T ≤ mostBuffers → pieceTotal T ≤ mostPieces → slipTotal T ≤ mostSlips → T .stock ≡ bufferTotal T ∷ [] → Sized T
+sized T h b p s k₀ =
     let k = small T h in
     record {
       slips-small = λ i. omega (arith, k .slips-small i);
@@ -131,6 +131,7 @@ sized T h b p s =
       few-slips = omega arith;
       few-pieces = omega arith;
       few-buffers = omega arith;
+      stock-is = k₀;
     }
 
 counted-is : (most n : ℕ) → 1 ≤ n → n ≤ most → Is (counted most n)
@@ -139,10 +140,11 @@ counted-is most n a b = and-intro (leb 1 n) (leb n most) (le→leb 1 n a) (le→
 -- the sizes that open takes
 pub record Within (T : Tables) (st : List ℕ) : Type 0 where
   pub counts : InRange (bufferTotal T) (pieceTotal T) (slipTotal T)
-  pub storage-fits : length st ≡ storageLength (bufferTotal T)
+  pub storage-fits : length st ≡ storageLength (T .stock) (bufferTotal T)
+  pub stock-is : T .stock ≡ bufferTotal T ∷ []
 
 pub within-sized : {T : Tables} {st : List ℕ} → SoundNow T → Within T st → Sized T
-within-sized {T} h w = (let c = w .counts in sized T h (c .most-buffers) (c .most-pieces) (c .most-slips))
+within-sized {T} h w = (let c = w .counts in sized T h (c .most-buffers) (c .most-pieces) (c .most-slips) (w .stock-is))
 
 -- the bytes of sound tables are a sound pool
 pub encode-sound : (T : Tables) (st : List ℕ) → SoundNow T → Within T st → Is (sound (lent (encode T) st))
@@ -155,13 +157,17 @@ encode-sound T st h w =
 
 -- a sound pool is within the sizes
 pub sound-within : (m : Lent) → Is (sound m) → Within (decode (m .pool)) (m .storage)
-unfolding sound
+unfolding sound decode
 sound-within m t =
     let h = header-facts m (and-0 (headerOk m) (soundTables (decode (m .pool))) t) in
     let b = decode-counts (m .pool) in
     let p = decode-pieces (m .pool) in
     let s = decode-slips (m .pool) in
-    record { counts = omega (arith, h .counts); storage-fits = h .storage-long ∙ ap storageLength (sym b) }
+    record {
+      counts = omega (arith, h .counts);
+      storage-fits = h .storage-long ∙ ap (storageLength (stockIn (m .pool))) (sym b);
+      stock-is = ap (λ (n : ℕ). n ∷ []) (sym b);
+    }
 
 -- an operation that is done leaves the sizes
 pub rule-within : (o : Operation) (S : State) → Within (S .tables) (S .storage) → Within (rule o S .after .tables) (rule o S .after .storage)
@@ -172,7 +178,8 @@ rule-within o S w =
     let s = z .slips-size in
     record {
       counts = omega (arith, w .counts);
-      storage-fits = rule-storage o S (w .storage-fits) ∙ w .storage-fits ∙ ap storageLength (sym b);
+      storage-fits = rule-storage o S (w .storage-fits) ∙ w .storage-fits ∙ ap₂ storageLength (sym (z .stock-kept)) (sym b);
+      stock-is = z .stock-kept ∙ w .stock-is ∙ ap (λ (n : ℕ). n ∷ []) (sym b);
     }
 
 -- The pool that a done open writes is sound.
@@ -185,7 +192,11 @@ open-sound B P S m t =
     let b = length-replicate {A = ℕ} B 0 in
     let p = length-replicate P blank in
     let s = length-replicate {A = ℕ} S 0 in
-    encode-sound (freshTables B P S) (m .storage) (fresh-sound B P S) (record { counts = omega arith; storage-fits = f .1 ∙ ap storageLength (sym b) })
+    encode-sound (freshTables B P S) (m .storage) (fresh-sound B P S) (record {
+      counts = omega arith;
+      storage-fits = f .1 ∙ ap (storageLength (B ∷ [])) (sym b);
+      stock-is = ap (λ (n : ℕ). n ∷ []) (sym b);
+    })
 
 -- ---- every call
 
@@ -262,8 +273,8 @@ slips-took o m e =
 
 -- A done operation leaves every byte of a buffer that was held.
 pub storage-stays : (o : Operation) (m : Lent) → step (Do o) m .code ≡ 0 → (b : ℕ) → b < bufferTotal (decode (m .pool)) → 0 < bufferCount (decode (m .pool)) b
-    → bytesOf (next (Do o) m .storage) (wholeOf b) ≡ bytesOf (m .storage) (wholeOf b)
+    → heldBytes (decode (m .pool)) (next (Do o) m .storage) b ≡ heldBytes (decode (m .pool)) (m .storage) b
 storage-stays o m e b l h =
     let d = did o m e in
-    ap (λ (x : State). bytesOf (x .storage) (wholeOf b)) (after-state o m e)
+    ap (λ (x : State). heldBytes (decode (m .pool)) (x .storage) b) (after-state o m e)
     ∙ held-stays (stateIn m) (sound-within m (d .was-sound) .storage-fits) b l h o

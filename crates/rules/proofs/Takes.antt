@@ -198,8 +198,8 @@ took-new T T′ l xs h h′ g k m r = took-gives T T′ (newSlip T) l xs h h′ 
 pub new-front : (T : Tables) (k : ℕ) (l : List ℕ) → AllUsed T l → passing (isFree T) (take k (freePieces T) ++ l) ≡ take k (freePieces T)
 new-front T k l u = passing-back (isFree T) (take k (freePieces T)) l (used-none T l u) ∙ new-pass (isFree T) (pieceTotal T) k
 
-pub new-laid : (T : Tables) (k n : ℕ) → passing (isUnheld T) (buffersOf (laid (newBuffers T k) n)) ≡ newBuffers T k
-new-laid T k n = ap (passing (isUnheld T)) (laid-buffers (newBuffers T k) n) ∙ new-pass (isUnheld T) (bufferTotal T) k
+pub new-laid : (T : Tables) (k n : ℕ) → passing (isUnheld T) (buffersOf (laid (T .stock) (newBuffers T k) n)) ≡ newBuffers T k
+new-laid T k n = ap (passing (isUnheld T)) (laid-buffers (T .stock) (newBuffers T k) n) ∙ new-pass (isUnheld T) (bufferTotal T) k
 
 -- a done call has room for what it wants
 pub roomy : {r : Rule} {T : Tables} → Allowed r T → Roomy T (r .wants)

@@ -2,7 +2,8 @@
 use mathlib.Core.List.{List, [], _∷_, _++_}
 use Prim.Native.Nat.{ℕ, suc, _+_, _-_, _/_, min}
 use lib.ListN.{length, take, drop, replicate}
-use Rattle.kinds.specs.Limits.{bufferSize, sizeOf, startOf}
+use Rattle.kinds.specs.Limits.{bufferSize}
+use Rattle.kinds.specs.Sizes.{sizeOf, startOf}
 use Rattle.rules.specs.Basics.{lastOf}
 use Rattle.rules.specs.Tables.{Piece, Tables, bufferCount, holding, setSlip, setPieceCount}
 use Rattle.rules.specs.Chain.{State, Stretch, withTables}
@@ -67,16 +68,19 @@ abbrev pub buffersFor : ℕ → ℕ
 buffersFor n = (n + (bufferSize - 1)) / bufferSize
 
 -- n bytes on the buffers bs: from offset 0, each full but the last
-unfoldable pub laid : List ℕ → ℕ → List Stretch
-laid [] n = []
-laid (b ∷ bs) n = record { buffer = b; offset = 0; len = min (sizeOf b) n } ∷ laid bs (n - sizeOf b)
+unfoldable pub laid : List ℕ → List ℕ → ℕ → List Stretch
+laid Z [] n = []
+laid Z (b ∷ bs) n = record { buffer = b; offset = 0; len = min (sizeOf Z b) n } ∷ laid Z bs (n - sizeOf Z b)
 
--- Storage with buffer b set to xs and then zeros: only its own stretch is written.
-unfoldable pub filled : List ℕ → ℕ → List ℕ → List ℕ
-filled st b xs =
-    take (startOf b) st ++ ((take (sizeOf b) xs ++ replicate (sizeOf b - length xs) 0) ++ drop (startOf b + sizeOf b) st)
+-- Storage with the z bytes from byte a on set to xs and then zeros: only they are written.
+unfoldable pub filledAt : List ℕ → ℕ → ℕ → List ℕ → List ℕ
+filledAt st a z xs = take a st ++ ((take z xs ++ replicate (z - length xs) 0) ++ drop (a + z) st)
+
+-- storage with buffer b set to xs and then zeros
+abbrev pub filled : List ℕ → List ℕ → ℕ → List ℕ → List ℕ
+filled Z st b xs = filledAt st (startOf Z b) (sizeOf Z b) xs
 
 -- the bytes xs over the buffers bs, in order
-unfoldable pub stored : List ℕ → List ℕ → List ℕ → List ℕ
-stored st [] xs = st
-stored st (b ∷ bs) xs = stored (filled st b xs) bs (drop (sizeOf b) xs)
+unfoldable pub stored : List ℕ → List ℕ → List ℕ → List ℕ → List ℕ
+stored Z st [] xs = st
+stored Z st (b ∷ bs) xs = stored Z (filled Z st b xs) bs (drop (sizeOf Z b) xs)

@@ -13,6 +13,10 @@ versionIn p = get16 p versionAt
 abbrev pub buffersIn : List ℕ → ℕ
 buffersIn p = get16 p buffersAt
 
+-- the count of buffers of each size
+abbrev pub stockIn : List ℕ → List ℕ
+stockIn p = buffersIn p ∷ []
+
 abbrev pub piecesIn : List ℕ → ℕ
 piecesIn p = get16 p piecesAt
 
@@ -35,6 +39,7 @@ decode p = record {
   slips = table (slipsIn p) (λ s. get16 p (slipAt s));
   pieces = table (piecesIn p) (λ d. pieceIn p (pieceAt (slipsIn p) d));
   counts = table (buffersIn p) (λ b. get16 p (countAt (piecesIn p) (slipsIn p) b));
+  stock = stockIn p;
 }
 
 abbrev pub pieceBytes : List Piece → List ℕ

@@ -3,7 +3,7 @@ use mathlib.Core.List.{List, [], _∷_, _++_}
 use Prim.Native.Nat.{ℕ, zero, suc, _+_, _-_, min}
 use lib.ListN.{take, drop}
 use lib.Dec.{eqb, leb}
-use Rattle.kinds.specs.Limits.{startOf}
+use Rattle.kinds.specs.Sizes.{startOf}
 use Rattle.rules.specs.Basics.{if_then_else_}
 use Rattle.rules.specs.Tables.{Piece, Tables, piece, headOf, pieceTotal}
 
@@ -69,15 +69,15 @@ cutOut (x ∷ xs) off (suc n) =
     else (record { buffer = x .buffer; offset = x .offset + off; len = min (suc n) (x .len - off) } ∷ cutOut xs 0 (suc n - (x .len - off)))
 
 -- where a stretch starts in storage, and its bytes there
-abbrev pub positionOf : Stretch → ℕ
-positionOf x = startOf (x .buffer) + x .offset
+abbrev pub positionOf : List ℕ → Stretch → ℕ
+positionOf Z x = startOf Z (x .buffer) + x .offset
 
-abbrev pub bytesOf : List ℕ → Stretch → List ℕ
-bytesOf st x = take (x .len) (drop (positionOf x) st)
+abbrev pub bytesOf : List ℕ → List ℕ → Stretch → List ℕ
+bytesOf Z st x = take (x .len) (drop (positionOf Z x) st)
 
-unfoldable pub contents : List ℕ → List Stretch → List ℕ
-contents st [] = []
-contents st (x ∷ xs) = bytesOf st x ++ contents st xs
+unfoldable pub contents : List ℕ → List ℕ → List Stretch → List ℕ
+contents Z st [] = []
+contents Z st (x ∷ xs) = bytesOf Z st x ++ contents Z st xs
 
 -- What a call works on: the tables and the storage.
 pub record State : Type 0 where
@@ -96,4 +96,4 @@ withStorage S st = stateOf (S .tables) st
 
 -- the bytes of the chain of slip s: its pieces' bytes in order
 abbrev pub reads : State → ℕ → List ℕ
-reads S s = contents (S .storage) (spans (S .tables) s)
+reads S s = contents (S .tables .stock) (S .storage) (spans (S .tables) s)

@@ -1,7 +1,7 @@
 -- How a pool lies in bytes: its mark, its version, its lengths, and where each entry stands.
 use mathlib.Core.List.{List, [], _∷_}
 use Prim.Native.Nat.{ℕ, _+_, _*_}
-use Rattle.kinds.specs.Limits.{startOf}
+use Rattle.kinds.specs.Sizes.{startOf}
 
 -- `SLP`
 abbrev pub mark : List ℕ
@@ -51,5 +51,5 @@ abbrev pub poolLength : ℕ → ℕ → ℕ → ℕ
 poolLength B P S = countAt P S B
 
 -- the exact length of its storage: where a buffer B would start
-abbrev pub storageLength : ℕ → ℕ
-storageLength B = startOf B
+abbrev pub storageLength : List ℕ → ℕ → ℕ
+storageLength Z B = startOf Z B

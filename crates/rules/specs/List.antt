@@ -9,19 +9,19 @@ use Rattle.rules.specs.Rule.{Rule, _⇐_, unnamed, want, noView, Meaning
 use Rattle.rules.specs.Read.{copied}
 
 -- the records of stretches, two numbers each: the position in storage, then the length (a scatter list)
-unfoldable pub records : List Stretch → List ℕ
-records [] = []
-records (x ∷ xs) = positionOf x ∷ x .len ∷ records xs
+unfoldable pub records : List ℕ → List Stretch → List ℕ
+records Z [] = []
+records Z (x ∷ xs) = positionOf Z x ∷ x .len ∷ records Z xs
 
 abbrev pub wireList : ℕ → List ℕ → State → Rule
 wireList s list S =
     let xs = spans (S .tables) s in
     record {
-      judged = (Slip ⇐ unnamed (S .tables) s) ∷ (Narrow ⇐ ltb (length list) (length (records xs))) ∷ [];
+      judged = (Slip ⇐ unnamed (S .tables) s) ∷ (Narrow ⇐ ltb (length list) (length (records (S .tables .stock) xs))) ∷ [];
       wants = want 0 0 0;
       after = S;
       number = length xs;
-      output = copied (records xs) list;
+      output = copied (records (S .tables .stock) xs) list;
       view = noView;
     }
 

@@ -29,7 +29,7 @@ abbrev pub p : ℕ → ℕ → ℕ → ℕ → ℕ → Piece
 p c b o l n = record { count = c; buffer = b; offset = o; len = l; next = n }
 
 abbrev pub state : List ℕ → List Piece → List ℕ → Tables
-state s ps c = record { slips = s; pieces = ps; counts = c }
+state s ps c = record { slips = s; pieces = ps; counts = c; stock = 4 ∷ [] }
 
 abbrev pub row : Operation → ℕ → Tables → ℕ → List ℕ → Row
 row o n T s xs = record { call = o; code = 0; number = n; tables = T; slip = s; bytes = xs }

@@ -21,7 +21,7 @@ packAfter s S =
     let T = S .tables in
     let bs = newBuffers T (buffersFor (lengthOf T s)) in
     if inOne T s then S
-    else underOld (withStorage S (stored (S .storage) bs (reads S s))) (plain T (laid bs (lengthOf T s))) (freePieces T) s
+    else underOld (withStorage S (stored (T .stock) (S .storage) bs (reads S s))) (plain T (laid (T .stock) bs (lengthOf T s))) (freePieces T) s
 
 unfoldable pub packWants : Tables → ℕ → Wants
 packWants T s = if inOne T s then want 0 0 0 else want 0 (buffersFor (lengthOf T s)) (buffersFor (lengthOf T s))

@@ -18,7 +18,7 @@ use Rattle.rules.specs.Drop.{dropped}
 abbrev pub pulled : Tables → ℕ → ℕ → Plan
 pulled T s n =
     let p = dropped T s n in
-    record { base = p .base; more = laid (newBuffers T 1) n ++ p .more; tail = p .tail }
+    record { base = p .base; more = laid (T .stock) (newBuffers T 1) n ++ p .more; tail = p .tail }
 
 -- the first piece has the n bytes, or n is 0: nothing changes
 abbrev pub inFirst : Tables → ℕ → ℕ → Bool
@@ -29,7 +29,7 @@ unfoldable pub pullupAfter : ℕ → ℕ → State → State
 pullupAfter s n S =
     let T = S .tables in
     if inFirst T s n then S
-    else underOld (withStorage S (stored (S .storage) (newBuffers T 1) (take n (reads S s)))) (pulled T s n) (freePieces T) s
+    else underOld (withStorage S (stored (T .stock) (S .storage) (newBuffers T 1) (take n (reads S s)))) (pulled T s n) (freePieces T) s
 
 unfoldable pub pullupWants : Tables → ℕ → ℕ → Wants
 pullupWants T s n = if inFirst T s n then want 0 0 0 else want 0 (suc (length (dropped T s n .more))) 1

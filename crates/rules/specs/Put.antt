@@ -11,7 +11,7 @@ unfoldable pub putAfter : List ℕ → State → State
 putAfter input S =
     let T = S .tables in
     let bs = newBuffers T (buffersFor (length input)) in
-    stateOf (underNew (plain T (laid bs (length input))) (freePieces T) (newSlip T)) (stored (S .storage) bs input)
+    stateOf (underNew (plain T (laid (T .stock) bs (length input))) (freePieces T) (newSlip T)) (stored (T .stock) (S .storage) bs input)
 
 abbrev pub put : List ℕ → State → Rule
 put input S =

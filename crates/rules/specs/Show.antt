@@ -16,12 +16,12 @@ abbrev pub scattered : List Stretch → ℕ → Bool
 scattered xs n = not (leb n (firstLength xs))
 
 -- where the first n bytes are seen: for n 0 at the empty start of storage
-unfoldable pub viewOf : List Stretch → ℕ → View
-viewOf [] n = noView
-viewOf (x ∷ xs) n =
+unfoldable pub viewOf : List ℕ → List Stretch → ℕ → View
+viewOf Z [] n = noView
+viewOf Z (x ∷ xs) n =
     if eqb n 0 then noView
     else if scattered (x ∷ xs) n then record { inScratch = 1; start = 0 }
-    else record { inScratch = 0; start = positionOf x }
+    else record { inScratch = 0; start = positionOf Z x }
 
 abbrev pub show : ℕ → ℕ → List ℕ → State → Rule
 show s n scratch S =
@@ -33,7 +33,7 @@ show s n scratch S =
       after = S;
       number = n;
       output = if scattered (spans T s) n then copied (take n (reads S s)) scratch else scratch;
-      view = viewOf (spans T s) n;
+      view = viewOf (T .stock) (spans T s) n;
     }
 
 -- it changes nothing, and is lent the scratch

@@ -1,11 +1,12 @@
 -- When a pool is sound: document 01's list, and the same list as a test that computes.
 use mathlib.Core.Path.{_≡_}
 use mathlib.Core.Bool.{Bool, true, false, _&&_}
-use mathlib.Core.List.{List}
+use mathlib.Core.List.{List, [], _∷_}
 use Prim.Native.Nat.{ℕ, zero, suc, _+_, _<_}
 use lib.ListN.{length, getD}
 use lib.Dec.{ltb, eqb, leb}
-use Rattle.kinds.specs.Limits.{mostBuffers, mostPieces, mostSlips, counted, sizeOf}
+use Rattle.kinds.specs.Limits.{mostBuffers, mostPieces, mostSlips, counted}
+use Rattle.kinds.specs.Sizes.{sizeOf}
 use Rattle.rules.specs.Basics.{Is, if_then_else_, bit, sumTo, allTo}
 use Rattle.rules.specs.Layout.{version, poolLength, storageLength, mark}
 use Rattle.rules.specs.Tables.{Piece, Tables, piece, bufferCount, isBlank, headOf, slipTotal, pieceTotal, bufferTotal}
@@ -54,7 +55,7 @@ abbrev pub pieceOk : Tables → Piece → Bool
 pieceOk T p =
     if eqb (p .count) 0
     then isBlank p
-    else (ltb (p .buffer) (bufferTotal T) && (leb 1 (p .len) && (leb (p .offset + p .len) (sizeOf (p .buffer)) && linkOk T (p .next))))
+    else (ltb (p .buffer) (bufferTotal T) && (leb 1 (p .len) && (leb (p .offset + p .len) (sizeOf (T .stock) (p .buffer)) && linkOk T (p .next))))
 
 -- the mark and the version are a pool's
 abbrev pub marked : List ℕ → Bool
@@ -66,7 +67,7 @@ countsOk B P S = counted mostBuffers B && (counted mostPieces P && counted mostS
 
 -- a pool of n bytes and a storage of k have the lengths that B, P and S ask
 abbrev pub lengthsOk : ℕ → ℕ → ℕ → ℕ → ℕ → Bool
-lengthsOk B P S n k = eqb n (poolLength B P S) && eqb k (storageLength B)
+lengthsOk B P S n k = eqb n (poolLength B P S) && eqb k (storageLength (B ∷ []) B)
 
 -- mark, version, counts and both lengths fit: of a pool p whose header states B, P and S, beside k bytes of storage
 unfoldable pub headed : List ℕ → ℕ → ℕ → ℕ → ℕ → Bool

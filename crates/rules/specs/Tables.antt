@@ -1,6 +1,6 @@
 -- The pool's three tables as lists, and their entries.
 use mathlib.Core.Bool.{Bool, _&&_}
-use mathlib.Core.List.{List}
+use mathlib.Core.List.{List, [], _∷_}
 use Prim.Native.Nat.{ℕ, suc, pred}
 use lib.ListN.{length, getD, set, replicate}
 use lib.Dec.{eqb}
@@ -17,11 +17,13 @@ pub record Piece : Type 0 where
   pub next : ℕ
 
 -- A slip is a handle, the caller's one name for a chain. Its entry is 0 vacant, 1 empty,
--- 2 + d heading piece d. `counts` has the reference count of each buffer.
+-- 2 + d heading piece d. `counts` has the reference count of each buffer,
+-- `stock` the count of buffers of each size, smallest first.
 pub record Tables : Type 0 where
   pub slips : List ℕ
   pub pieces : List Piece
   pub counts : List ℕ
+  pub stock : List ℕ
 
 -- a free piece: its ten bytes are zero
 abbrev pub blank : Piece
@@ -62,13 +64,13 @@ bufferTotal T = length (T .counts)
 
 -- T with other slips, with other pieces, with other buffer counts, and with other pieces and counts
 abbrev pub withSlips : Tables → List ℕ → Tables
-withSlips T ss = record { slips = ss; pieces = T .pieces; counts = T .counts }
+withSlips T ss = record { slips = ss; pieces = T .pieces; counts = T .counts; stock = T .stock }
 
 abbrev pub withPieces : Tables → List Piece → Tables
-withPieces T ps = record { slips = T .slips; pieces = ps; counts = T .counts }
+withPieces T ps = record { slips = T .slips; pieces = ps; counts = T .counts; stock = T .stock }
 
 abbrev pub withCounts : Tables → List ℕ → Tables
-withCounts T cs = record { slips = T .slips; pieces = T .pieces; counts = cs }
+withCounts T cs = record { slips = T .slips; pieces = T .pieces; counts = cs; stock = T .stock }
 
 abbrev pub withBoth : Tables → List Piece → List ℕ → Tables
 withBoth T ps cs = withCounts (withPieces T ps) cs
@@ -97,4 +99,4 @@ withPlace p off n = record { count = p .count; buffer = p .buffer; offset = off;
 
 -- the tables that open writes
 abbrev pub freshTables : ℕ → ℕ → ℕ → Tables
-freshTables B P S = record { slips = replicate S vacant; pieces = replicate P blank; counts = replicate B 0 }
+freshTables B P S = record { slips = replicate S vacant; pieces = replicate P blank; counts = replicate B 0; stock = B ∷ [] }

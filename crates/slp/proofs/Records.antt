@@ -16,13 +16,13 @@ use Rattle.slp.specs.Numbers.{numbers}
 
 -- ---- records and their numbers
 
--- the record of a stretch
-abbrev pub entry : chain.Stretch → Stretch
-entry x = record { position = positionOf x; length = x .len }
+-- the record of a stretch, in the storage of a pool with the stock Z
+abbrev pub entry : List ℕ → chain.Stretch → Stretch
+entry Z x = record { position = positionOf Z x; length = x .len }
 
 -- the first k records are written, and the rest of the list is as it was
-abbrev pub written : List chain.Stretch → List Stretch → ℕ → List Stretch
-written xs ys k = map entry (take k xs) ++ drop k ys
+abbrev pub written : List ℕ → List chain.Stretch → List Stretch → ℕ → List Stretch
+written Z xs ys k = map (entry Z) (take k xs) ++ drop k ys
 
 numbers-append : (xs ys : List Stretch) → numbers (xs ++ ys) ≡ numbers xs ++ numbers ys
 unfolding numbers
@@ -40,39 +40,39 @@ numbers-drop zero ys = refl
 numbers-drop (suc k) [] = sym (drop-nil (2 * suc k))
 numbers-drop (suc k) (y ∷ ys) = let e : 2 * suc k ≡ suc (suc (2 * k)) = omega arith in numbers-drop k ys ∙ sym (ap (λ (j : ℕ). drop j (y .position ∷ y .length ∷ numbers ys)) e)
 
-numbers-entries : (xs : List chain.Stretch) → numbers (map entry xs) ≡ records xs
+numbers-entries : (Z : List ℕ) (xs : List chain.Stretch) → numbers (map (entry Z) xs) ≡ records Z xs
 unfolding numbers records
-numbers-entries [] = refl
-numbers-entries (x ∷ xs) = ap (λ (l : List ℕ). positionOf x ∷ x .len ∷ l) (numbers-entries xs)
+numbers-entries Z [] = refl
+numbers-entries Z (x ∷ xs) = ap (λ (l : List ℕ). positionOf Z x ∷ x .len ∷ l) (numbers-entries Z xs)
 
 -- all of them are what list writes
-pub written-all : (xs : List chain.Stretch) (ys : List Stretch) → numbers (written xs ys (length xs)) ≡ copied (records xs) (numbers ys)
-written-all xs ys =
-    numbers-append (map entry (take (length xs) xs)) (drop (length xs) ys)
-    ∙ ap₂ _++_ (ap (λ l. numbers (map entry l)) (take-length xs) ∙ numbers-entries xs) (numbers-drop (length xs) ys ∙ ap (λ j. drop j (numbers ys)) (sym (records-length xs)))
+pub written-all : (Z : List ℕ) (xs : List chain.Stretch) (ys : List Stretch) → numbers (written Z xs ys (length xs)) ≡ copied (records Z xs) (numbers ys)
+written-all Z xs ys =
+    numbers-append (map (entry Z) (take (length xs) xs)) (drop (length xs) ys)
+    ∙ ap₂ _++_ (ap (λ l. numbers (map (entry Z) l)) (take-length xs) ∙ numbers-entries Z xs) (numbers-drop (length xs) ys ∙ ap (λ j. drop j (numbers ys)) (sym (records-length Z xs)))
 
 -- ---- one record more
 
-entries-length : (k : ℕ) (xs : List chain.Stretch) → k ≤ length xs → length (map entry (take k xs)) ≡ k
-entries-length zero xs h = refl
-entries-length (suc k) [] h = absurd (omega arith)
-entries-length (suc k) (x ∷ xs) h = ap suc (entries-length k xs (omega arith))
+entries-length : (Z : List ℕ) (k : ℕ) (xs : List chain.Stretch) → k ≤ length xs → length (map (entry Z) (take k xs)) ≡ k
+entries-length Z zero xs h = refl
+entries-length Z (suc k) [] h = absurd (omega arith)
+entries-length Z (suc k) (x ∷ xs) h = ap suc (entries-length Z k xs (omega arith))
 
-pub written-length : (xs : List chain.Stretch) (ys : List Stretch) (k : ℕ) → k ≤ length xs → k ≤ length ys → length (written xs ys k) ≡ length ys
-written-length xs ys k h l = length-append (map entry (take k xs)) (drop k ys) ∙ omega (arith, entries-length k xs h, length-drop k ys)
+pub written-length : (Z : List ℕ) (xs : List chain.Stretch) (ys : List Stretch) (k : ℕ) → k ≤ length xs → k ≤ length ys → length (written Z xs ys k) ≡ length ys
+written-length Z xs ys k h l = length-append (map (entry Z) (take k xs)) (drop k ys) ∙ omega (arith, entries-length Z k xs h, length-drop k ys)
 
-entries-more : (k : ℕ) (xs : List chain.Stretch) (x : chain.Stretch) (zs : List chain.Stretch) → drop k xs ≡ x ∷ zs → map entry (take (suc k) xs) ≡ map entry (take k xs) ++ (entry x ∷ [])
-entries-more zero [] x zs e = absurd (omega (arith, ap length e))
-entries-more zero (y ∷ ys) x zs e = ap (λ (z : chain.Stretch). entry z ∷ []) (head-eq-of-cons-eq e)
-entries-more (suc k) [] x zs e = absurd (omega (arith, ap length e))
-entries-more (suc k) (y ∷ ys) x zs e = ap (λ (l : List Stretch). entry y ∷ l) (entries-more k ys x zs e)
+entries-more : (Z : List ℕ) (k : ℕ) (xs : List chain.Stretch) (x : chain.Stretch) (zs : List chain.Stretch) → drop k xs ≡ x ∷ zs → map (entry Z) (take (suc k) xs) ≡ map (entry Z) (take k xs) ++ (entry Z x ∷ [])
+entries-more Z zero [] x zs e = absurd (omega (arith, ap length e))
+entries-more Z zero (y ∷ ys) x zs e = ap (λ (z : chain.Stretch). entry Z z ∷ []) (head-eq-of-cons-eq e)
+entries-more Z (suc k) [] x zs e = absurd (omega (arith, ap length e))
+entries-more Z (suc k) (y ∷ ys) x zs e = ap (λ (l : List Stretch). entry Z y ∷ l) (entries-more Z k ys x zs e)
 
-pub written-more : (xs : List chain.Stretch) (ys : List Stretch) (k : ℕ) (x : chain.Stretch) (zs : List chain.Stretch) → drop k xs ≡ x ∷ zs → k < length ys
-    → set (written xs ys k) k (entry x) ≡ written xs ys (k + 1)
-written-more xs ys k x zs e h =
+pub written-more : (Z : List ℕ) (xs : List chain.Stretch) (ys : List Stretch) (k : ℕ) (x : chain.Stretch) (zs : List chain.Stretch) → drop k xs ≡ x ∷ zs → k < length ys
+    → set (written Z xs ys k) k (entry Z x) ≡ written Z xs ys (k + 1)
+written-more Z xs ys k x zs e h =
     let few : k ≤ length xs = omega (arith, ap length e, length-drop k xs) in
-    ap (λ (d : List Stretch). set (map entry (take k xs) ++ d) k (entry x)) (drop-cons ys k (entry x) h)
-    ∙ set-at (map entry (take k xs)) (getD ys k (entry x)) (drop (suc k) ys) (entry x) k (entries-length k xs few)
-    ∙ sym (append-snoc (map entry (take k xs)) (entry x) (drop (suc k) ys))
-    ∙ ap (λ (l : List Stretch). l ++ drop (suc k) ys) (sym (entries-more k xs x zs e))
-    ∙ ap (λ (j : ℕ). written xs ys j) (sym (add-one k))
+    ap (λ (d : List Stretch). set (map (entry Z) (take k xs) ++ d) k (entry Z x)) (drop-cons ys k (entry Z x) h)
+    ∙ set-at (map (entry Z) (take k xs)) (getD ys k (entry Z x)) (drop (suc k) ys) (entry Z x) k (entries-length Z k xs few)
+    ∙ sym (append-snoc (map (entry Z) (take k xs)) (entry Z x) (drop (suc k) ys))
+    ∙ ap (λ (l : List Stretch). l ++ drop (suc k) ys) (sym (entries-more Z k xs x zs e))
+    ∙ ap (λ (j : ℕ). written Z xs ys j) (sym (add-one k))

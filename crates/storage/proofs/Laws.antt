@@ -1,14 +1,14 @@
 -- What a loop that stores a byte at each place in turn leaves, and what a part that was lent leaves of the whole.
 use mathlib.Core.Path.{_≡_, refl, sym, ap, _∙_}
 use mathlib.Core.List.{List, [], _∷_, _++_, append-nil, append-assoc}
-use Prim.Native.Nat.{ℕ, zero, suc, _+_, _-_, _≤_, _<_}
+use Prim.Native.Nat.{ℕ, zero, suc, _+_, _-_, _*_, _≤_, _<_}
 use native.Mathlib.Nat.{add-sub-cancel-left}
 use native.Mathlib.Numerals.{add-one}
 use native.Mathlib.Omega.{arith}
 use lib.ListN.{length, take, drop, getD, set, replicate, length-take, length-replicate, length-append, length-drop, drop-of-length-le, take-append-drop}
 use lib.Seq.{drop-cons, take-all, take-at, take-take, take-add, take-suc, set-at, append-snoc, drop-drop, drop-append-le, take-append-seam}
-use Rattle.kinds.specs.Limits.{sizeOf, startOf}
-use Rattle.rules.specs.Build.{filled}
+use Rattle.kinds.specs.Limits.{bufferSize}
+use Rattle.rules.specs.Build.{filledAt}
 
 -- ---- loops
 
@@ -46,13 +46,13 @@ pub length-middle : (l : List ℕ) (a e : ℕ) → a ≤ e → e ≤ length l �
 length-middle l a e h k = simp (length-take, length-drop) (omega arith)
 
 -- the stretch of buffer b, from its start a on, put back as y, which is xs and then zeros
-pub lent-filled : (st xs y : List ℕ) (b a : ℕ) → a ≡ startOf b → startOf b + sizeOf b ≤ length st → length xs ≤ sizeOf b
-    → y ≡ xs ++ replicate (length (take (a + sizeOf b - a) (drop a st)) - length xs) 0
-    → take a st ++ (y ++ drop (a + sizeOf b - a) (drop a st)) ≡ filled st b xs
-unfolding filled
+pub lent-filled : (st xs y : List ℕ) (b a : ℕ) → a ≡ bufferSize * b → bufferSize * b + bufferSize ≤ length st → length xs ≤ bufferSize
+    → y ≡ xs ++ replicate (length (take (a + bufferSize - a) (drop a st)) - length xs) 0
+    → take a st ++ (y ++ drop (a + bufferSize - a) (drop a st)) ≡ filledAt st (bufferSize * b) bufferSize xs
+unfolding filledAt
 lent-filled st xs y b a e h k f =
-    let n : length (take (a + sizeOf b - a) (drop a st)) ≡ sizeOf b = length-middle st a (a + sizeOf b) (omega arith) (omega arith) ∙ add-sub-cancel-left a (sizeOf b) in
-    middle st y a (a + sizeOf b) (omega arith) ∙ rw (f, n, e, take-all (sizeOf b) xs k)
+    let n : length (take (a + bufferSize - a) (drop a st)) ≡ bufferSize = length-middle st a (a + bufferSize) (omega arith) (omega arith) ∙ add-sub-cancel-left a bufferSize in
+    middle st y a (a + bufferSize) (omega arith) ∙ rw (f, n, e, take-all bufferSize xs k)
 
 -- the n bytes from a on put back as y, which is the n bytes of s from f on
 pub lent-copied : (l s y : List ℕ) (a f n : ℕ) → y ≡ take (f + n - f) (drop f s) → take a l ++ (y ++ drop (a + n - a) (drop a l)) ≡ take a l ++ (take n (drop f s) ++ drop (a + n) l)
@@ -81,24 +81,24 @@ inner-write l x a s t n h k =
     simp append-assoc (rw back (sym (append-assoc (take a l) (take t (take s D)) _) ∙ ap (λ (q : List ℕ). q ++ (x ++ drop (a + t + n) l)) front))
 
 -- the stretch of buffer b, from its start a on, put back as y, which has the n bytes of st from f on, by way of the block w, t bytes into it
-pub lent-part : (st y z w : List ℕ) (b a t f n : ℕ) → a ≡ startOf b → startOf b + sizeOf b ≤ length st → t + n ≤ sizeOf b → f + n ≤ length st
+pub lent-part : (st y z w : List ℕ) (b a t f n : ℕ) → a ≡ bufferSize * b → bufferSize * b + bufferSize ≤ length st → t + n ≤ bufferSize → f + n ≤ length st
     → w ≡ take 0 z ++ (take n (drop f st) ++ drop (0 + n) z)
-    → y ≡ take t (take (a + sizeOf b - a) (drop a st)) ++ (take n (drop 0 w) ++ drop (t + n) (take (a + sizeOf b - a) (drop a st)))
-    → take a st ++ (y ++ drop (a + sizeOf b - a) (drop a st)) ≡ take (startOf b + t) st ++ (take n (drop f st) ++ drop (startOf b + t + n) st)
+    → y ≡ take t (take (a + bufferSize - a) (drop a st)) ++ (take n (drop 0 w) ++ drop (t + n) (take (a + bufferSize - a) (drop a st)))
+    → take a st ++ (y ++ drop (a + bufferSize - a) (drop a st)) ≡ take (bufferSize * b + t) st ++ (take n (drop f st) ++ drop (bufferSize * b + t + n) st)
 lent-part st y z w b a t f n e h k i ew ey =
     let x = take n (drop f st) in
     let l : length x ≡ n = simp (length-take, length-drop) (omega arith) in
     let v : take n (drop 0 w) ≡ x = ap (take n) ew ∙ take-at x (drop (0 + n) z) n l in
-    let m : a + sizeOf b - a ≡ sizeOf b = add-sub-cancel-left a (sizeOf b) in
-    middle st y a (a + sizeOf b) (omega arith) ∙ rw (ey, v, m, e) (inner-write st x (startOf b) (sizeOf b) t n k h)
+    let m : a + bufferSize - a ≡ bufferSize = add-sub-cancel-left a bufferSize in
+    middle st y a (a + bufferSize) (omega arith) ∙ rw (ey, v, m, e) (inner-write st x (bufferSize * b) bufferSize t n k h)
 
 -- the stretch of buffer b from its byte n on, put back as z, which is zeros
-pub lent-rest : (st z : List ℕ) (b a n : ℕ) → a ≡ startOf b → startOf b + sizeOf b ≤ length st → n ≤ sizeOf b
-    → z ≡ replicate (length (take (a + sizeOf b - (a + n)) (drop (a + n) st))) 0
-    → take (a + n) st ++ (z ++ drop (a + sizeOf b - (a + n)) (drop (a + n) st)) ≡ take (startOf b + n) st ++ (replicate (sizeOf b - n) 0 ++ drop (startOf b + sizeOf b) st)
+pub lent-rest : (st z : List ℕ) (b a n : ℕ) → a ≡ bufferSize * b → bufferSize * b + bufferSize ≤ length st → n ≤ bufferSize
+    → z ≡ replicate (length (take (a + bufferSize - (a + n)) (drop (a + n) st))) 0
+    → take (a + n) st ++ (z ++ drop (a + bufferSize - (a + n)) (drop (a + n) st)) ≡ take (bufferSize * b + n) st ++ (replicate (bufferSize - n) 0 ++ drop (bufferSize * b + bufferSize) st)
 lent-rest st z b a n e h k f =
-    let m : length (take (a + sizeOf b - (a + n)) (drop (a + n) st)) ≡ sizeOf b - n = length-middle st (a + n) (a + sizeOf b) (omega arith) (omega arith) ∙ omega arith in
-    middle st z (a + n) (a + sizeOf b) (omega arith) ∙ rw (f, m, e)
+    let m : length (take (a + bufferSize - (a + n)) (drop (a + n) st)) ≡ bufferSize - n = length-middle st (a + n) (a + bufferSize) (omega arith) (omega arith) ∙ omega arith in
+    middle st z (a + n) (a + bufferSize) (omega arith) ∙ rw (f, m, e)
 
 -- what stands from n on put back as z, which is zeros
 pub lent-zeroed : (l z : List ℕ) (n : ℕ) → n ≤ length l → z ≡ replicate (length (take (length l - n) (drop n l))) 0

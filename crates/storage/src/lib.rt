@@ -2,10 +2,10 @@
 use kinds::BufferNumber;
 ghost use mathlib.Core.Path.{_≡_};
 ghost use mathlib.Core.List.{_++_};
-ghost use Prim.Native.Nat.{_+_, _-_, _≤_};
+ghost use Prim.Native.Nat.{_+_, _-_, _*_, _≤_};
 ghost use lib.ListN.{length, take, drop, replicate};
-ghost use Rattle.kinds.specs.Limits.{bufferSize, sizeOf, startOf};
-ghost use Rattle.rules.specs.Build.{filled};
+ghost use Rattle.kinds.specs.Limits.{bufferSize};
+ghost use Rattle.rules.specs.Build.{filledAt};
 
 // The bytes of a buffer, to count and to index by.
 const SIZE: usize = BufferNumber::SIZE as usize;
@@ -49,8 +49,8 @@ pub fn fill(part: &mut [u8], input: &[u8])
 
 // Fills buffer `b` with `input` and then zeros: only its stretch of storage is lent (a cluster write).
 pub fn fill_buffer(storage: &mut [u8], b: BufferNumber, input: &[u8])
-    requires { ⌜ (startOf (b .0) + sizeOf (b .0) ≤ length (now storage)) × (length (now input) ≤ sizeOf (b .0)) ⌝ }
-    ensures { λ _. ⌜ now (storage .exit) ≡ filled (now (storage .entry)) (b .0) (now (input .entry)) ⌝ }
+    requires { ⌜ (bufferSize * b .0 + bufferSize ≤ length (now storage)) × (length (now input) ≤ bufferSize) ⌝ }
+    ensures { λ _. ⌜ now (storage .exit) ≡ filledAt (now (storage .entry)) (bufferSize * b .0) bufferSize (now (input .entry)) ⌝ }
 {
     let start = b.start();
     let end = start + SIZE;
@@ -73,10 +73,10 @@ pub fn copy_part(dst: &mut [u8], at: usize, src: &[u8], from: usize, n: usize)
 // Sets the bytes of buffer `b` from `at` on to the `n` bytes of storage from `from` on, by way of a local array,
 // as copy_part: only the buffer's stretch is lent to be written (a cluster write from another).
 pub fn fill_part(storage: &mut [u8], b: BufferNumber, at: usize, from: usize, n: usize)
-    requires { ⌜ (startOf (b .0) + sizeOf (b .0) ≤ length (now storage)) × (at + n ≤ sizeOf (b .0)) × (from + n ≤ length (now storage)) ⌝ }
+    requires { ⌜ (bufferSize * b .0 + bufferSize ≤ length (now storage)) × (at + n ≤ bufferSize) × (from + n ≤ length (now storage)) ⌝ }
     ensures { λ _. ⌜ now (storage .exit)
-        ≡ take (startOf (b .0) + at) (now (storage .entry))
-        ++ (take n (drop from (now (storage .entry))) ++ drop (startOf (b .0) + at + n) (now (storage .entry))) ⌝ }
+        ≡ take (bufferSize * b .0 + at) (now (storage .entry))
+        ++ (take n (drop from (now (storage .entry))) ++ drop (bufferSize * b .0 + at + n) (now (storage .entry))) ⌝ }
 {
     let start = b.start();
     let end = start + SIZE;
@@ -87,10 +87,10 @@ pub fn fill_part(storage: &mut [u8], b: BufferNumber, at: usize, from: usize, n:
 
 // Sets the bytes of buffer `b` from `n` on to zero: only its stretch is lent (the rest of a cluster cleared).
 pub fn fill_rest(storage: &mut [u8], b: BufferNumber, n: usize)
-    requires { ⌜ (startOf (b .0) + sizeOf (b .0) ≤ length (now storage)) × (n ≤ sizeOf (b .0)) ⌝ }
+    requires { ⌜ (bufferSize * b .0 + bufferSize ≤ length (now storage)) × (n ≤ bufferSize) ⌝ }
     ensures { λ _. ⌜ now (storage .exit)
-        ≡ take (startOf (b .0) + n) (now (storage .entry))
-        ++ (replicate (sizeOf (b .0) - n) 0 ++ drop (startOf (b .0) + sizeOf (b .0)) (now (storage .entry))) ⌝ }
+        ≡ take (bufferSize * b .0 + n) (now (storage .entry))
+        ++ (replicate (bufferSize - n) 0 ++ drop (bufferSize * b .0 + bufferSize) (now (storage .entry))) ⌝ }
 {
     let start = b.start();
     let from = start + n;

@@ -1,9 +1,9 @@
 -- Where the entries of a pool stand: what a load gives, and what a store leaves.
 use Prim.Native.Nat.{ℕ, zero, suc, _+_, _-_, _*_, _<_, _≤_}
-use mathlib.Core.Path.{_≡_, refl, sym, ap, _∙_}
+use mathlib.Core.Path.{_≡_, refl, sym, ap, ap₂, _∙_}
 use mathlib.Core.Logic.{_≢_}
 use mathlib.Core.Bool.{Bool, true, false}
-use mathlib.Core.List.{List, _∷_, _++_}
+use mathlib.Core.List.{List, [], _∷_, _++_}
 use native.Mathlib.Omega.{arith}
 use lib.Dec.{eqb}
 use lib.ListN.{getD, set, length-set}
@@ -12,13 +12,14 @@ use borrow.Author.Tests.{eqb-true, eqb-false}
 use Rattle.word.specs.Word.{get16, set16}
 use Rattle.word.proofs.Laws.{Apart, length-set16, get16-same, get16-other}
 use Rattle.rules.specs.Basics.{table, Is}
-use Rattle.rules.specs.Layout.{slipAt, pieceAt, countAt, versionAt, buffersAt, piecesAt, slipsAt, headerLength}
+use Rattle.rules.specs.Layout.{slipAt, pieceAt, countAt, versionAt, buffersAt, piecesAt, slipsAt, headerLength, storageLength}
 use Rattle.rules.specs.Tables.{Piece, Tables, blank, slip, piece, bufferCount, slipTotal, pieceTotal, bufferTotal, setSlip, setPiece, setCount, withPieces}
 use Rattle.rules.specs.Bytes.{buffersIn, piecesIn, slipsIn, pieceIn, decode, encode}
 use Rattle.rules.specs.Sound.{marked}
+use Rattle.rules.specs.Sound.{marked}
 use Rattle.rules.proofs.Bytes.{AllBytes, getD-table, table-same, table-set, decode-slips, decode-pieces, decode-counts, encode-decode}
 use Rattle.layout.specs.declared.Shape.{Shape}
-use Rattle.tables.specs.Shape.{Fits, Shaped, Holds}
+use Rattle.tables.specs.Shape.{Fits, Shaped, Holds, stockOf}
 
 -- ---- the fields of a piece by number: field k stands 2 * k bytes into the entry
 
@@ -128,6 +129,17 @@ module _ {p : List ℕ} {h : Shape} where
     pub total-buffers : bufferTotal T ≡ h .buffers
     total-buffers = sym (ap bufferTotal (was .is)) ∙ decode-counts p ∙ sym (was .shaped .buffers)
 
+    pub total-stock : T .stock ≡ stockOf h
+    unfolding decode
+    total-stock = sym (ap (λ (U : Tables). U .stock) (was .is)) ∙ ap (λ (n : ℕ). n ∷ []) (sym (was .shaped .buffers))
+
+    -- storage as long as the shape asks is as long as the tables ask, and the other way
+    pub storage-fits : {n : ℕ} → n ≡ storageLength (stockOf h) (h .buffers) → n ≡ storageLength (T .stock) (bufferTotal T)
+    storage-fits e = e ∙ ap₂ storageLength (sym total-stock) (sym total-buffers)
+
+    pub storage-shaped : {n : ℕ} → n ≡ storageLength (T .stock) (bufferTotal T) → n ≡ storageLength (stockOf h) (h .buffers)
+    storage-shaped e = e ∙ ap₂ storageLength total-stock total-buffers
+
     -- what a later pool holds, said of the tables that this one holds
     pub onward : {q : List ℕ} (f : Tables → Tables) → Holds q h (f (decode p)) → Holds q h (f T)
     onward f now = record { shaped = now .shaped; is = now .is ∙ ap f (was .is) }
@@ -154,6 +166,7 @@ tablesOf B P S p = record {
   slips = table S (λ s. get16 p (slipAt s));
   pieces = table P (λ d. pieceIn p (pieceAt S d));
   counts = table B (λ b. get16 p (countAt P S b));
+  stock = B ∷ [];
 }
 
 -- a store past the header keeps the header
@@ -209,6 +222,7 @@ module _ (p : List ℕ) (v : ℕ) {h : Shape} (is : Shaped p h) (small : v < 655
           slips = table-set S (λ t. get16 p (slipAt t)) (λ t. get16 (set16 p a v) (slipAt t)) s v (get16-same p a v (omega arith) small) (λ t z m. get16-other p a v (slipAt t) (omega arith)) i;
           pieces = pieces-kept p a v B P S (λ d k y z. omega arith) i;
           counts = counts-kept p a v B P S (omega arith) i;
+          stock = B ∷ [];
         });
       }
 
@@ -231,6 +245,7 @@ module _ (p : List ℕ) (v : ℕ) {h : Shape} (is : Shaped p h) (small : v < 655
           slips = slips-kept p a v B P S (omega arith) i;
           pieces = table-set P (λ e. pieceIn p (pieceAt S e)) (λ e. pieceIn q (pieceAt S e)) d _ here (λ e y m. piece-kept p a v (pieceAt S e) (λ j z. omega arith)) i;
           counts = counts-kept p a v B P S (omega arith) i;
+          stock = B ∷ [];
         });
       }
 
@@ -248,6 +263,7 @@ module _ (p : List ℕ) (v : ℕ) {h : Shape} (is : Shaped p h) (small : v < 655
           slips = slips-kept p a v B P S (omega arith) i;
           pieces = pieces-kept p a v B P S (λ d k y z. omega arith) i;
           counts = table-set B (λ t. get16 p (countAt P S t)) (λ t. get16 (set16 p a v) (countAt P S t)) b v (get16-same p a v (omega arith) small) (λ t z m. get16-other p a v (countAt P S t) (omega arith)) i;
+          stock = B ∷ [];
         });
       }
 

@@ -1,6 +1,6 @@
 -- A pool's shape: its three counts, read once from the header and handed on by value.
 use mathlib.Core.Path.{_≡_}
-use mathlib.Core.List.{List}
+use mathlib.Core.List.{List, [], _∷_}
 use Prim.Native.Nat.{ℕ}
 use lib.ListN.{length}
 use Rattle.rules.specs.Basics.{Is}
@@ -14,6 +14,10 @@ use Rattle.layout.specs.declared.Shape.{Shape}
 pub record Fits (p : List ℕ) : Type 0 where
   pub is-marked : Is (marked p)
   pub long : length p ≡ poolLength (buffersIn p) (piecesIn p) (slipsIn p)
+
+-- the stock of a pool of the shape h: all its buffers have the one size
+abbrev pub stockOf : Shape → List ℕ
+stockOf h = h .buffers ∷ []
 
 -- the pool p has the shape h
 pub record Shaped (p : List ℕ) (h : Shape) : Type 0 where

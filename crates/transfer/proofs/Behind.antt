@@ -30,19 +30,21 @@ use Rattle.transfer.specs.Behind.{InPiece, behind, advanced}
 pub record Behind (T : Tables) (c : Cursor) (n : ℕ) (r : Cursor) : Type 0 where
   pub good : Is (linkOk T (r .link))
   pub inside : InPiece T r
-  pub rest : (st : List ℕ) → length st ≡ storageLength (bufferTotal T) → drop (c .into + n) (contents st (stretchesFrom T (c .link))) ≡ drop (r .into) (contents st (stretchesFrom T (r .link)))
+  pub rest : (st : List ℕ) → length st ≡ storageLength (T .stock) (bufferTotal T)
+      → drop (c .into + n) (contents (T .stock) st (stretchesFrom T (c .link))) ≡ drop (r .into) (contents (T .stock) st (stretchesFrom T (r .link)))
   pub lengths : total (stretchesFrom T (c .link)) + r .into ≡ total (stretchesFrom T (r .link)) + (c .into + n)
 
 -- the place that is found is one
 pub behind-found : (T : Tables) (c : Cursor) (n : ℕ) → SoundTables T → Is (linkOk T (c .link)) → Behind T c n (behind T c n)
 unfolding behind
 behind-found T c n S t =
+    let Z = T .stock in
     let B = bufferTotal T in
     let f = found T S true (c .link) (c .into + n) t in
     record {
       good = f .good;
       inside = f .inside;
-      rest = λ st s. (sym (dropOut-contents B st _ _ s (stretches-in T (c .link) S t)) ∙ ap (contents st) (f .stays) ∙ dropOut-contents B st _ _ s (stretches-in T _ S (f .good)));
+      rest = λ st s. (sym (dropOut-contents Z B st _ _ s (stretches-in T (c .link) S t)) ∙ ap (contents Z st) (f .stays) ∙ dropOut-contents Z B st _ _ s (stretches-in T _ S (f .good)));
       lengths = f .lengths;
     }
 

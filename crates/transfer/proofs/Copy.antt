@@ -7,6 +7,7 @@ use native.Mathlib.Omega.{arith}
 use lib.ListN.{length, take, drop, length-append, length-take, length-drop, drop-of-length-le, take-append-drop}
 use lib.Seq.{length-take-le, take-all, take-at, drop-at, take-take, drop-drop, take-add, take-append-le, drop-append-le}
 use Rattle.kinds.specs.Limits.{bufferSize}
+use Rattle.kinds.proofs.Sizes.{start-step}
 use Rattle.rules.specs.Basics.{Is}
 use Rattle.rules.specs.Tables.{Tables, piece, pieceTotal, bufferTotal}
 use Rattle.rules.specs.Chain.{Stretch, stretch, total, positionOf, bytesOf, contents}
@@ -54,21 +55,22 @@ two-writes out w v t n m e h b =
 
 -- the n bytes of a chain from the place c on
 abbrev pub bytesFrom : Tables → List ℕ → Cursor → ℕ → List ℕ
-bytesFrom T st c n = take n (drop (c .into) (contents st (stretchesFrom T (c .link))))
+bytesFrom T st c n = take n (drop (c .into) (contents (T .stock) st (stretchesFrom T (c .link))))
 
 -- there are n of them, where the chain has as many
-pub bytes-count : (T : Tables) (st : List ℕ) (c : Cursor) (n : ℕ) → SoundTables T → Fit (bufferTotal T) st → Is (linkOk T (c .link)) → c .into + n ≤ total (stretchesFrom T (c .link))
+pub bytes-count : (T : Tables) (st : List ℕ) (c : Cursor) (n : ℕ) → SoundTables T → Fit (T .stock) (bufferTotal T) st → Is (linkOk T (c .link)) → c .into + n ≤ total (stretchesFrom T (c .link))
     → length (bytesFrom T st c n) ≡ n
 bytes-count T st c n sound s t h =
-    length-take-le n _ (simp length-drop (omega (arith, contents-length (bufferTotal T) st (stretchesFrom T (c .link)) s (stretches-in T (c .link) sound t))))
+    length-take-le n _ (simp length-drop (omega (arith, contents-length (T .stock) (bufferTotal T) st (stretchesFrom T (c .link)) s (stretches-in T (c .link) sound t))))
 
 -- the k bytes from i on of stretches of which the first has them all
-first-bytes : (st : List ℕ) (x : Stretch) (xs : List Stretch) (i k : ℕ) → length (bytesOf st x) ≡ x .len → i + k ≤ x .len → take k (drop i (contents st (x ∷ xs))) ≡ take k (drop (positionOf x + i) st)
+first-bytes : (Z st : List ℕ) (x : Stretch) (xs : List Stretch) (i k : ℕ) → length (bytesOf Z st x) ≡ x .len → i + k ≤ x .len
+    → take k (drop i (contents Z st (x ∷ xs))) ≡ take k (drop (positionOf Z x + i) st)
 unfolding contents
-first-bytes st x xs i k l h =
-    let a = bytesOf st x in
-    ap (take k) (drop-append-le i a (contents st xs) (omega arith)) ∙ take-append-le k (drop i a) (contents st xs) (simp length-drop (omega arith))
-    ∙ ap (take k) (drop-take i (x .len) (drop (positionOf x) st)) ∙ take-take k (x .len - i) _ (omega arith) ∙ ap (take k) (drop-drop i (positionOf x) st)
+first-bytes Z st x xs i k l h =
+    let a = bytesOf Z st x in
+    ap (take k) (drop-append-le i a (contents Z st xs) (omega arith)) ∙ take-append-le k (drop i a) (contents Z st xs) (simp length-drop (omega arith))
+    ∙ ap (take k) (drop-take i (x .len) (drop (positionOf Z x) st)) ∙ take-take k (x .len - i) _ (omega arith) ∙ ap (take k) (drop-drop i (positionOf Z x) st)
 
 -- ---- a copy under way
 
@@ -82,7 +84,7 @@ pub record Going (T : Tables) (st goal : List ℕ) (end g : Cursor) (n t : ℕ) 
   pub same : take t out ++ (bytesFrom T st g n ++ drop (t + n) out) ≡ goal
 
 -- all of them go to the front
-pub going-first : (T : Tables) (st : List ℕ) (c : Cursor) (n : ℕ) (out : List ℕ) → SoundTables T → Fit (bufferTotal T) st → Is (linkOk T (c .link)) → InPiece T c → c .into + n ≤ total (stretchesFrom T (c .link)) → n ≤ length out
+pub going-first : (T : Tables) (st : List ℕ) (c : Cursor) (n : ℕ) (out : List ℕ) → SoundTables T → Fit (T .stock) (bufferTotal T) st → Is (linkOk T (c .link)) → InPiece T c → c .into + n ≤ total (stretchesFrom T (c .link)) → n ≤ length out
     → Going T st (copied (bytesFrom T st c n) out) (behind T c n) c n 0 out
 going-first T st c n out sound s t i h r =
     let e : 0 + n ≡ n = omega arith in
@@ -114,9 +116,9 @@ module _ {T : Tables} {st goal : List ℕ} {end g : Cursor} {n t : ℕ} {out : L
     pub going-before : g .into < piece T (g .link - 1) .len
     going-before = w .inside going-some
 
-    module _ (fit : Fit (bufferTotal T) st) {x : Extent} (ex : x ≡ extentAt T g n) where
+    module _ (fit : Fit (T .stock) (bufferTotal T) st) {x : Extent} (ex : x ≡ extentAt T g n) where
       -- the next extent: where it starts, and its bytes
-      pub going-start : x .start ≡ positionOf (stretch (piece T (g .link - 1))) + g .into
+      pub going-start : x .start ≡ positionOf (T .stock) (stretch (piece T (g .link - 1))) + g .into
       going-start = ap (λ (q : Extent). q .start) ex
 
       going-size : x .count ≡ min n (piece T (g .link - 1) .len - g .into)
@@ -124,14 +126,16 @@ module _ {T : Tables} {st goal : List ℕ} {end g : Cursor} {n t : ℕ} {out : L
 
       -- it has some, no more than are left, and no more than a buffer
       pub going-count : (0 < x .count) × (x .count ≤ n) × (x .count ≤ bufferSize)
-      going-count = (omega (arith, going-size, going-before), omega (arith, going-size), omega (arith, going-size, going-piece .inside))
+      going-count = (omega (arith, going-size, going-before), omega (arith, going-size), omega (arith, going-size, going-piece .most))
 
       -- they are of the piece, and so lie in the storage
       pub going-within : g .into + x .count ≤ piece T (g .link - 1) .len
       going-within = omega (arith, going-size, going-before)
 
       pub going-lies : x .start + x .count ≤ length st
-      going-lies = omega (arith, going-start, going-within, going-piece .in-store, going-piece .inside)
+      going-lies =
+          let u = going-piece in
+          omega (arith, going-start, going-within, u .inside, start-step (T .stock) (piece T (g .link - 1) .buffer) (bufferTotal T) (u .in-store))
 
       -- once they are copied, the copy goes on behind them
       pub going-on : {g′ : Cursor} {out′ : List ℕ} → g′ ≡ advanced T g (x .count) → out′ ≡ take t out ++ (take (x .count) (drop (x .start) st) ++ drop (t + x .count) out)
@@ -144,11 +148,11 @@ module _ {T : Tables} {st goal : List ℕ} {end g : Cursor} {n t : ℕ} {out : L
           let l = going-count .1 in
           let b = subst (Behind T g k) (sym eg) (advanced-behind T g k sound (w .good) going-some i) in
           let e : k + (n - k) ≡ n = omega arith in
-          let D = drop (g .into) (contents st (stretchesFrom T (g .link))) in
+          let D = drop (g .into) (contents (T .stock) st (stretchesFrom T (g .link))) in
           let part : take k D ≡ take k (drop (x .start) st) =
-          ap (λ (q : List Stretch). take k (drop (g .into) (contents st q))) (stretches-on T (g .link) sound (w .good) going-some)
-          ∙ first-bytes st y _ (g .into) k (bytes-length (bufferTotal T) st y fit (u .in-store) (u .inside)) i ∙ ap (λ j. take k (drop j st)) (sym going-start) in
-          let rest : drop k D ≡ drop (g′ .into) (contents st (stretchesFrom T (g′ .link))) = drop-drop k (g .into) _ ∙ b .rest st fit in
+          ap (λ (q : List Stretch). take k (drop (g .into) (contents (T .stock) st q))) (stretches-on T (g .link) sound (w .good) going-some)
+          ∙ first-bytes (T .stock) st y _ (g .into) k (bytes-length (T .stock) (bufferTotal T) st y fit (u .in-store) (u .inside)) i ∙ ap (λ j. take k (drop j st)) (sym going-start) in
+          let rest : drop k D ≡ drop (g′ .into) (contents (T .stock) st (stretchesFrom T (g′ .link))) = drop-drop k (g .into) _ ∙ b .rest st fit in
           let w₀ = take k (drop (x .start) st) in
           let all : bytesFrom T st g n ≡ w₀ ++ bytesFrom T st g′ (n - k) = ap (λ j. take j D) (sym e) ∙ take-add k (n - k) D ∙ ap₂ _++_ part (ap (take (n - k)) rest) in
           let count : length w₀ ≡ k = sym (ap length part) ∙ bytes-count T st g k sound fit (w .good) (omega (arith, w .enough)) in

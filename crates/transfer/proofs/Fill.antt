@@ -2,21 +2,24 @@
 use mathlib.Core.Path.{_≡_, sym, ap, _∙_}
 use mathlib.Core.Bool.{Bool}
 use mathlib.Core.List.{List, _∷_}
-use Prim.Native.Nat.{ℕ, suc, _+_, _-_, _≤_, _<_, min}
+use Prim.Native.Nat.{ℕ, suc, _+_, _-_, _*_, _≤_, _<_, min}
 use native.Mathlib.Numerals.{add-one}
 use native.Mathlib.Decide.{decLt}
 use native.Mathlib.Omega.{arith}
 use lib.ListN.{length, take, drop, length-take, length-drop}
 use lib.Seq.{take-take, drop-drop}
 use lib.Dec.{ltb, lt→ltb, ltb→lt}
-use Rattle.kinds.specs.Limits.{bufferSize, sizeOf}
+use Rattle.kinds.specs.Limits.{bufferSize}
+use Rattle.kinds.specs.Sizes.{sizeOf}
+use Rattle.kinds.proofs.Sizes.{size-one}
 use Rattle.rules.specs.Basics.{Is, places}
-use Rattle.rules.specs.Build.{buffersFor, filled, stored}
+use Rattle.rules.specs.Build.{buffersFor, filledAt, filled, stored}
 use Rattle.rules.proofs.Logic.{if-T, if-F}
 use Rattle.rules.proofs.Contents.{Fit, filled-length}
 use Rattle.room.specs.Free.{firstFrom, lowestFor}
 use Rattle.room.proofs.Free.{places-first, first-lies, lowest-all}
 use Rattle.transfer.proofs.Copy.{take-most, drop-most}
+use Rattle.transfer.proofs.Place.{place-one, place-filled}
 
 -- ---- how many buffers
 
@@ -35,11 +38,11 @@ for-one n h k = omega arith
 -- ---- one buffer
 
 -- a buffer takes no more bytes than its size
-filled-first : (st : List ℕ) (b : ℕ) (xs : List ℕ) → filled st b (take (sizeOf b) xs) ≡ filled st b xs
-unfolding filled
-filled-first st b xs =
-    let l : sizeOf b - length (take (sizeOf b) xs) ≡ sizeOf b - length xs = simp length-take (omega arith) in
-    rw (l, take-take (sizeOf b) (sizeOf b) xs (omega arith))
+filled-first : (st : List ℕ) (a z : ℕ) (xs : List ℕ) → filledAt st a z (take z xs) ≡ filledAt st a z xs
+unfolding filledAt
+filled-first st a z xs =
+    let l : z - length (take z xs) ≡ z - length xs = simp length-take (omega arith) in
+    rw (l, take-take z z xs (omega arith))
 
 -- the part from a to e, which ends after a buffer's bytes or with the list, and what comes behind it
 pub next-part : (xs : List ℕ) (a e : ℕ) → a ≤ length xs → e ≡ min (a + bufferSize) (length xs)
@@ -65,17 +68,17 @@ lowest f i n h =
 -- ---- a fill under way
 
 -- xs is still to go to the lowest buffers from i on that pass, and then the storage is `goal`
-pub record Filling (f : ℕ → Bool) (B : ℕ) (goal : List ℕ) (i : ℕ) (st xs : List ℕ) : Type 0 where
-  pub fits : Fit B st
+pub record Filling (Z : List ℕ) (f : ℕ → Bool) (B : ℕ) (goal : List ℕ) (i : ℕ) (st xs : List ℕ) : Type 0 where
+  pub fits : Fit Z B st
   pub room : buffersFor (length xs) ≤ length (places f i (B - i))
-  pub same : stored st (take (buffersFor (length xs)) (places f i (B - i))) xs ≡ goal
+  pub same : stored Z st (take (buffersFor (length xs)) (places f i (B - i))) xs ≡ goal
 
 -- all of xs goes to the lowest, from the first of them on
-pub filling-first : (f : ℕ → Bool) (B : ℕ) (st xs : List ℕ) {i : ℕ} → i ≡ lowestFor f (buffersFor (length xs)) B → Fit B st → buffersFor (length xs) ≤ length (places f 0 B)
-    → Filling f B (stored st (take (buffersFor (length xs)) (places f 0 B)) xs) i st xs
-filling-first f B st xs {i} q s h = let e : places f i (B - i) ≡ places f 0 B = lowest-all f (buffersFor (length xs)) B q in record { fits = s; room = rw e h; same = rw e }
+pub filling-first : (Z : List ℕ) (f : ℕ → Bool) (B : ℕ) (st xs : List ℕ) {i : ℕ} → i ≡ lowestFor f (buffersFor (length xs)) B → Fit Z B st → buffersFor (length xs) ≤ length (places f 0 B)
+    → Filling Z f B (stored Z st (take (buffersFor (length xs)) (places f 0 B)) xs) i st xs
+filling-first Z f B st xs {i} q s h = let e : places f i (B - i) ≡ places f 0 B = lowest-all f (buffersFor (length xs)) B q in record { fits = s; room = rw e h; same = rw e }
 
-module _ {f : ℕ → Bool} {B : ℕ} {goal : List ℕ} {i : ℕ} {st xs : List ℕ} (w : Filling f B goal i st xs) where
+module _ {Z : List ℕ} {f : ℕ → Bool} {B : ℕ} {goal : List ℕ} {i : ℕ} {st xs : List ℕ} (w : Filling Z f B goal i st xs) where
   -- where nothing is left, the storage is the goal
   pub filling-done : length xs ≡ 0 → st ≡ goal
   unfolding stored
@@ -94,15 +97,18 @@ module _ {f : ℕ → Bool} {B : ℕ} {goal : List ℕ} {i : ℕ} {st xs : List 
     filling-passes e = rw e (lowest f i B some-left .1)
 
     -- and the fill goes on behind it
-    pub filling-on : {b : ℕ} {st′ part xs′ : List ℕ} → b ≡ firstFrom f i B → part ≡ take bufferSize xs → xs′ ≡ drop bufferSize xs → st′ ≡ filled st b part → Filling f B goal (b + 1) st′ xs′
+    pub filling-on : {b : ℕ} {st′ part xs′ : List ℕ} → b ≡ firstFrom f i B → part ≡ take bufferSize xs → xs′ ≡ drop bufferSize xs → st′ ≡ filledAt st (bufferSize * b) bufferSize part
+        → Filling Z f B goal (b + 1) st′ xs′
     unfolding stored
     filling-on {b} {st′} {part} {xs′} eb ep ex es =
         let l : length xs′ ≡ length xs - bufferSize = ap length ex ∙ length-drop bufferSize xs in
         let n : buffersFor (length xs) ≡ suc (buffersFor (length xs′)) = for-some (length xs) h ∙ ap (λ j. suc (buffersFor j)) (sym l) in
         let p : places f i (B - i) ≡ b ∷ places f (b + 1) (B - (b + 1)) = rw eb (lowest f i B some-left .2) in
-        let s : st′ ≡ filled st b xs = es ∙ ap (filled st b) ep ∙ filled-first st b xs in
+        let s : st′ ≡ filled Z st b xs = es ∙ ap (filledAt st (bufferSize * b) bufferSize) ep ∙ filled-first st (bufferSize * b) bufferSize xs ∙ place-filled (place-one Z b) st xs in
+        let left = take (buffersFor (length xs′)) (places f (b + 1) (B - (b + 1))) in
+        let d : drop (sizeOf Z b) xs ≡ xs′ = ap (λ (z : ℕ). drop z xs) (size-one Z b) ∙ sym ex in
         record {
-          fits = ap length s ∙ filled-length B st b xs (w .fits) (filling-below eb) ∙ w .fits;
+          fits = ap length s ∙ filled-length Z B st b xs (w .fits) (filling-below eb) ∙ w .fits;
           room = omega (arith, w .room, ap length p, n);
-          same = rw (s, ex) (rw (n, p, ex) at (w .same));
+          same = (λ j. stored Z (s j) left (sym d j)) ∙ (rw (n, p) at (w .same));
         }

@@ -1,6 +1,7 @@
 -- The laws of transfer.
 pub mod Behind
 pub mod Copy
+pub mod Place
 pub mod Move
 pub mod Fill
 pub mod Afresh

@@ -24,7 +24,7 @@ behind T c n =
 abbrev pub extentAt : Tables → Cursor → ℕ → Extent
 extentAt T c n =
     let p = piece T (c .link - 1) in
-    record { start = positionOf (stretch p) + c .into; count = min n (p .len - c .into) }
+    record { start = positionOf (T .stock) (stretch p) + c .into; count = min n (p .len - c .into) }
 
 -- the place k bytes behind the place c, which are of its piece; at its end, the start of the next
 abbrev pub advanced : Tables → Cursor → ℕ → Cursor

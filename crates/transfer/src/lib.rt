@@ -15,7 +15,7 @@ ghost use Rattle.rules.specs.Sound.{linkOk};
 ghost use Rattle.rules.specs.Room.{isUnheld, freeBuffers, newBuffers};
 ghost use Rattle.rules.specs.Build.{buffersFor, filled, stored};
 ghost use Rattle.rules.specs.Read.{copied};
-ghost use Rattle.tables.specs.Shape.{Shaped};
+ghost use Rattle.tables.specs.Shape.{Shaped, stockOf};
 ghost use Rattle.chain.specs.Opened.{Opened};
 ghost use Rattle.chain.specs.Length.{stretchesFrom};
 ghost use Rattle.room.specs.Free.{lowestFor};
@@ -39,7 +39,7 @@ struct Extent {
 // The byte of storage at which the stretch of piece `d` starts: its data pointer.
 pub fn position(pool: &[u8], shape: Shape, d: PieceNumber) -> usize
     requires { ⌜ Shaped (now pool) shape × (d .0 < shape .pieces) ⌝ }
-    ensures { λ r. ⌜ r ≡ positionOf (stretch (piece (decode (now (pool .entry))) (d .0))) ⌝ }
+    ensures { λ r. ⌜ r ≡ positionOf (decode (now (pool .entry)) .stock) (stretch (piece (decode (now (pool .entry))) (d .0))) ⌝ }
 {
     let start = tables::piece_buffer(pool, shape, d).start();
     start + tables::piece_offset(pool, shape, d) as usize
@@ -91,10 +91,11 @@ pub fn copy_out(
     output: &mut [u8],
 ) -> Cursor
     requires { ⌜ Opened (now pool) shape × Is (linkOk (decode (now pool)) (c .link)) × InPiece (decode (now pool)) c ⌝ }
-    requires { ⌜ length (now storage) ≡ storageLength (shape .buffers) ⌝ }
+    requires { ⌜ length (now storage) ≡ storageLength (stockOf shape) (shape .buffers) ⌝ }
     requires { ⌜ (c .into + n ≤ total (stretchesFrom (decode (now pool)) (c .link))) × (n ≤ length (now output)) ⌝ }
     ensures { λ _. ⌜ now (output .exit)
-        ≡ copied (take n (drop (c .into) (contents (now (storage .entry)) (stretchesFrom (decode (now (pool .entry))) (c .link))))) (now (output .entry)) ⌝ }
+        ≡ copied (take n (drop (c .into)
+        (contents (decode (now (pool .entry)) .stock) (now (storage .entry)) (stretchesFrom (decode (now (pool .entry))) (c .link))))) (now (output .entry)) ⌝ }
     ensures { λ r. ⌜ r ≡ behind (decode (now (pool .entry))) c n ⌝ }
 {
     let mut g = c;
@@ -123,11 +124,12 @@ fn part_end(at: usize, length: usize) -> usize
 
 // Fills the lowest free buffers, from `buffer` on, with `input`, in order, and the rest of the last with zeros: a scatter to fresh clusters.
 pub fn fill_free(pool: &[u8], shape: Shape, storage: &mut [u8], input: &[u8], buffer: u16)
-    requires { ⌜ Shaped (now pool) shape × (length (now storage) ≡ storageLength (shape .buffers)) ⌝ }
+    requires { ⌜ Shaped (now pool) shape × (length (now storage) ≡ storageLength (stockOf shape) (shape .buffers)) ⌝ }
     requires { ⌜ buffersFor (length (now input)) ≤ length (freeBuffers (decode (now pool))) ⌝ }
     requires { ⌜ buffer ≡ lowestFor (isUnheld (decode (now pool))) (buffersFor (length (now input))) (bufferTotal (decode (now pool))) ⌝ }
     ensures { λ _. ⌜ now (storage .exit)
-        ≡ stored (now (storage .entry)) (newBuffers (decode (now (pool .entry))) (buffersFor (length (now (input .entry))))) (now (input .entry)) ⌝ }
+        ≡ stored (decode (now (pool .entry)) .stock) (now (storage .entry)) (newBuffers (decode (now (pool .entry))) (buffersFor (length (now (input .entry)))))
+        (now (input .entry)) ⌝ }
 {
     let mut at = 0;
     let mut from = buffer;
@@ -151,11 +153,13 @@ fn refill_buffer(
     b: BufferNumber,
 ) -> Cursor
     requires { ⌜ Opened (now pool) shape × Is (linkOk (decode (now pool)) (c .link)) × InPiece (decode (now pool)) c ⌝ }
-    requires { ⌜ (length (now storage) ≡ storageLength (shape .buffers)) × (b .0 < shape .buffers) × Is (isUnheld (decode (now pool)) (b .0)) ⌝ }
+    requires { ⌜ (length (now storage) ≡ storageLength (stockOf shape) (shape .buffers)) × (b .0 < shape .buffers)
+        × Is (isUnheld (decode (now pool)) (b .0)) ⌝ }
     requires { ⌜ (c .into + n ≤ total (stretchesFrom (decode (now pool)) (c .link))) × (n ≤ bufferSize) ⌝ }
     ensures { λ _. ⌜ now (storage .exit)
-        ≡ filled (now (storage .entry)) (b .0)
-        (take n (drop (c .into) (contents (now (storage .entry)) (stretchesFrom (decode (now (pool .entry))) (c .link))))) ⌝ }
+        ≡ filled (decode (now (pool .entry)) .stock) (now (storage .entry)) (b .0)
+        (take n (drop (c .into) (contents (decode (now (pool .entry)) .stock) (now (storage .entry))
+        (stretchesFrom (decode (now (pool .entry))) (c .link))))) ⌝ }
     ensures { λ r. ⌜ r ≡ behind (decode (now (pool .entry))) c n ⌝ }
 {
     let mut g = c;
@@ -176,12 +180,12 @@ fn refill_buffer(
 // `link`, in order, and the rest of the last with zeros: a gather into fresh clusters.
 pub fn refill(pool: &[u8], shape: Shape, storage: &mut [u8], link: u16, n: u32, buffer: u16)
     requires { ⌜ Opened (now pool) shape × Is (linkOk (decode (now pool)) link) ⌝ }
-    requires { ⌜ (length (now storage) ≡ storageLength (shape .buffers)) × (n ≤ total (stretchesFrom (decode (now pool)) link)) ⌝ }
+    requires { ⌜ (length (now storage) ≡ storageLength (stockOf shape) (shape .buffers)) × (n ≤ total (stretchesFrom (decode (now pool)) link)) ⌝ }
     requires { ⌜ buffersFor n ≤ length (freeBuffers (decode (now pool))) ⌝ }
     requires { ⌜ buffer ≡ lowestFor (isUnheld (decode (now pool))) (buffersFor n) (bufferTotal (decode (now pool))) ⌝ }
     ensures { λ _. ⌜ now (storage .exit)
-        ≡ stored (now (storage .entry)) (newBuffers (decode (now (pool .entry))) (buffersFor n))
-        (take n (contents (now (storage .entry)) (stretchesFrom (decode (now (pool .entry))) link))) ⌝ }
+        ≡ stored (decode (now (pool .entry)) .stock) (now (storage .entry)) (newBuffers (decode (now (pool .entry))) (buffersFor n))
+        (take n (contents (decode (now (pool .entry)) .stock) (now (storage .entry)) (stretchesFrom (decode (now (pool .entry))) link))) ⌝ }
 {
     let mut c = Cursor {
         link: link,

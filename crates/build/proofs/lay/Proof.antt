@@ -18,7 +18,7 @@ use Rattle.build.proofs.lay.Tie as tie
 abbrev Inv-loop : tie.InvT-loop
 Inv-loop pool₀ shape n count first buffer c₀ more₀ pool c more =
     let T = decode pool₀ in
-    (length pool ≡ length pool₀) × Shaped pool shape × Lays (built T (freePieces T) (laid (newBuffers T count) n) 0) (decode pool) c more
+    (length pool ≡ length pool₀) × Shaped pool shape × Lays (built T (freePieces T) (laid (T .stock) (newBuffers T count) n) 0) (decode pool) c more
 
 abbrev μ-loop : tie.MeasureT-loop
 μ-loop pool₀ shape n count first buffer c₀ more₀ pool c more = more
@@ -27,7 +27,7 @@ returns : tie.Need-returns Inv-loop μ-loop
 returns c =
     let z = c .before .before in
     let T = decode (z .args .pool .now) in
-    let e = built-none T (freePieces T) (laid (newBuffers T (z .args .count)) (z .args .n)) 0 (laid-all T (z .args .n) (z .args .count) (z .pre .1 .0 .1) ∙ c .if1 .taken) in
+    let e = built-none T (freePieces T) (laid (T .stock) (newBuffers T (z .args .count)) (z .args .n)) 0 (laid-all T (z .args .n) (z .args .count) (z .pre .1 .0 .1) ∙ c .if1 .taken) in
     (record { shaped = z .pre .0 .shaped; is = sym (e .0) }, sym (e .1))
 
 -- the first piece to take is the lowest free one
@@ -77,7 +77,7 @@ returns-2 c =
     let a = z .args in
     let T = decode (a .pool .now) in
     let w = l .inv .2 in
-    let xs = laid (newBuffers T (a .count)) (a .n) in
+    let xs = laid (T .stock) (newBuffers T (a .count)) (a .n) in
     let e = laid-all T (a .n) (a .count) (z .pre .1 .0 .1) in (
       record { shaped = l .inv .1; is = lays-done w (c .loop-test .left) },
       ap (λ (n : ℕ). n + 1) (first-is i) ∙ line-link T xs 0 (omega (arith, e, i .if1 .left)) (omega (arith, e, z .pre .1 .0 .0)),

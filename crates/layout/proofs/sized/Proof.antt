@@ -1,7 +1,9 @@
 -- `layout::sized` meets its contract. Assumes nothing.
 use mathlib.Core.Path.{sym, _∙_}
+use mathlib.Core.List.{[], _∷_}
 use borrow.Author.Needs.{needs}
 use borrow.Author.Tests.{eq-eqb, ne-eqb, not-true, not-false}
+use Rattle.kinds.proofs.Sizes.{start-one}
 use Rattle.layout.proofs.sized.Statement.{statement}
 use Rattle.layout.proofs.sized.Tie as tie
 
@@ -56,12 +58,13 @@ returns-5 c =
     let x = w .before .before in
     let y = x .before .before in
     let z = y .before .before in
+    let B = z .before .before .args .shape .buffers in
     rw (
       sym (z .before .counted .ensures) ∙ not-false _ (z .if1 .left),
       sym (y .before .counted2 .ensures) ∙ not-false _ (y .if2 .left),
       sym (x .before .counted3 .ensures) ∙ not-false _ (x .if3 .left),
       eq-eqb (z .before .before .args .pool) _ (w .if4 .left ∙ w .before .pool-length .ensures),
-      c .start .ensures,
+      c .start .ensures ∙ sym (start-one (B ∷ []) B),
     )
 
 pub sized-spec : {M : Type 1} → statement M

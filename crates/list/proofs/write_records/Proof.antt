@@ -3,6 +3,7 @@ use mathlib.Core.Path.{_≡_, refl}
 use Prim.Native.Nat.{ℕ, _+_, _-_, _*_, _≤_, _<_}
 use native.Mathlib.Omega.{arith}
 use lib.ListN.{length, length-set}
+use Rattle.kinds.proofs.Sizes.{start-one}
 use Rattle.rules.specs.Tables.{Tables, piece}
 use Rattle.rules.specs.Bytes.{decode}
 use Rattle.rules.specs.Chain.{stretch, positionOf}
@@ -45,8 +46,8 @@ module _ (c : tie.In-loop Inv-loop μ-loop) where
   below = omega (arith, used .below, total-pieces (whole (z .pre .0 .0 .shaped)))
 
   -- its stretch lies in storage, whose bytes 32 bits count
-  near : positionOf (stretch (piece T (at - 1))) < 65536 + 512
-  near = let o = z .pre .0 .0 in omega (arith, used .in-store, used .inside, total-buffers (whole (o .shaped)), o .few-buffers)
+  near : positionOf (T .stock) (stretch (piece T (at - 1))) < 65536 + 512
+  near = let o = z .pre .0 .0 in omega (arith, used .in-store, used .most, total-buffers (whole (o .shaped)), o .few-buffers, start-one (T .stock) (piece T (at - 1) .buffer))
 
   -- it is one of at most P
   early : c .before .loop .k < 256

@@ -7,14 +7,14 @@ use lib.ListN.{take}
 use borrow.Author.Needs.{needs}
 use borrow.Author.Tests.{not-true, not-false}
 use Rattle.rules.specs.Basics.{Is}
-use Rattle.rules.specs.Layout.{storageLength}
 use Rattle.rules.specs.Tables.{Tables, headOf, slipTotal}
 use Rattle.rules.specs.Bytes.{decode}
 use Rattle.rules.specs.Chain.{lengthOf}
 use Rattle.rules.specs.Sound.{linkOk}
+use Rattle.rules.specs.Sound.{linkOk}
 use Rattle.rules.specs.Rule.{unnamed}
 use Rattle.rules.specs.Read.{copied}
-use Rattle.tables.proofs.Laws.{whole, total-slips, total-buffers, fits-decode}
+use Rattle.tables.proofs.Laws.{whole, total-slips, fits-decode, storage-fits}
 use Rattle.chain.proofs.Spots.{Found, found-at, found-bytes}
 use Rattle.chain.proofs.Parts.{range-short, range-there, first-there}
 use Rattle.answer.proofs.Perform.{is-unnamed, is-named, named-below}
@@ -132,7 +132,7 @@ returns-4 c =
     let p = a .pool .now in
     let st = a .storage .now in
     let T = tables e in
-    let fit = z .pre .1 ∙ ap storageLength (sym (total-buffers (whole (z .pre .0 .shaped)))) in
+    let fit = storage-fits (whole (z .pre .0 .shaped)) (z .pre .1) in
     let bytes = found-bytes T (z .pre .0 .sound) (headOf T (a .s .0)) (a .off) (f .find .result) (good e) (place f) st fit in
     let same = fits-decode p (λ i. omega (arith, y .shared-slice-known .given i)) (z .pre .0 .shaped .fits) in (
       read-done p st (a .output .now) (a .s .0) (a .off) (a .n) (named-here e) (in-range (r .before)) (c .done .ensures) (omega (arith, r .if3 .left)) same

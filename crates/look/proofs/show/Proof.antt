@@ -7,7 +7,6 @@ use borrow.Author.Needs.{needs}
 use borrow.Author.Tests.{leb-true, leb-false, not-true, not-false}
 use Rattle.kinds.specs.Limits.{bufferSize}
 use Rattle.rules.specs.Basics.{Is}
-use Rattle.rules.specs.Layout.{storageLength}
 use Rattle.rules.specs.Tables.{Tables, bufferTotal}
 use Rattle.rules.specs.Bytes.{decode, encode}
 use Rattle.rules.specs.Chain.{spans, total, firstLength, lengthOf, contents}
@@ -17,7 +16,7 @@ use Rattle.rules.specs.Read.{copied}
 use Rattle.rules.specs.Show.{viewOf}
 use Rattle.rules.proofs.Chain.{spans-good}
 use Rattle.rules.proofs.Audit.{tables-now}
-use Rattle.tables.proofs.Laws.{whole, total-slips, total-buffers, fits-decode}
+use Rattle.tables.proofs.Laws.{whole, total-slips, fits-decode, storage-fits}
 use Rattle.chain.specs.Length.{stretchesFrom}
 use Rattle.chain.proofs.Links.{link-leads}
 use Rattle.chain.proofs.Parts.{first-short, first-there}
@@ -124,8 +123,8 @@ returns-3 c =
     let has : a .n ≤ firstLength (spans T (a .s .0)) = omega (arith, first-has t, ap (λ (l : ℕ). firstLength (stretchesFrom T l)) (h .head-link .ensures)) in
     show-storage (a .pool .now) (a .storage .now) (a .scratch .now) (a .s .0) (a .n) (named-here e) (short (h .before)) (omega (arith, has, first-most (spans T (a .s .0))))
     (c .before .done .ensures) (whole-pool e)
-    (bufferTotal T) _ (z .pre .1 ∙ ap storageLength (sym (total-buffers (whole (z .pre .0 .shaped))))) (spans-good T (a .s .0) (tables-now T (z .pre .0 .sound))) has
-    (c .start-of .ensures ∙ ap (λ (l : ℕ). viewOf (stretchesFrom T l) (a .n)) (h .head-link .ensures))
+    (bufferTotal T) _ (storage-fits (whole (z .pre .0 .shaped)) (z .pre .1)) (spans-good T (a .s .0) (tables-now T (z .pre .0 .sound))) has
+    (c .start-of .ensures ∙ ap (λ (l : ℕ). viewOf (T .stock) (stretchesFrom T l) (a .n)) (h .head-link .ensures))
 
 -- the first piece has not the bytes
 abbrev lacked : tie.Else3 → tie.After-head-link
@@ -211,7 +210,7 @@ returns-6 c =
     let T = tables e in
     show-scratch (a .pool .now) (a .storage .now) (a .scratch .now) (a .s .0) (a .n) (named-here e) (short (h .before)) (enough r) (c .done2 .ensures) (whole-pool e)
     _ (first-lacks (counted r .before)) (omega (arith, q .if5 .left)) (g .copy-out .kept .1 .1 .1 .1 .1 .0)
-    (g .copy-out .ensures .0 ∙ ap (λ (l : ℕ). copied (take (a .n) (contents (a .storage .now) (stretchesFrom T l))) (a .scratch .now)) (h .head-link .ensures))
+    (g .copy-out .ensures .0 ∙ ap (λ (l : ℕ). copied (take (a .n) (contents (T .stock) (a .storage .now) (stretchesFrom T l))) (a .scratch .now)) (h .head-link .ensures))
 
 pub show-spec : {M : Type 1} → statement M
 show-spec =

@@ -9,7 +9,7 @@ use Rattle.look.proofs.start_of.Statement.{statement}
 use Rattle.look.proofs.start_of.Tie as tie
 
 returns : tie.Need-returns
-returns c = view-none _ _ (c .if1 .taken)
+returns c = view-none _ _ _ (c .if1 .taken)
 
 -- there is a link to the first piece
 on : (c : tie.Else1) → c .before .before .args .link ≡ 0 → ⊥

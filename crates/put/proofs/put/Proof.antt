@@ -184,7 +184,7 @@ under-new-requires c κs =
     let s = whole (z .pre .0 .shaped) in (
       y .lay .ensures .0 .shaped,
       omega (arith, new (found b) .0, total-slips s),
-      omega (arith, new-link T (laid (newBuffers T (b .buffers-for .result)) (length (z .args .input .now))) 0 (y .lay .ensures .1) (omega arith), total-pieces s, z .pre .0 .few-pieces),
+      omega (arith, new-link T (laid (T .stock) (newBuffers T (b .buffers-for .result)) (length (z .args .input .now))) 0 (y .lay .ensures .1) (omega arith), total-pieces s, z .pre .0 .few-pieces),
     )
 
 same-length-4 : tie.Need-same-length-4
@@ -207,7 +207,7 @@ returns-4 c =
     let t = from b .next-vacant .result in
     let n = length (a .input .now) in
     let k = b .buffers-for .ensures in
-    let xs : ℕ → List Stretch = λ m. laid (newBuffers T m) n in
+    let xs : ℕ → List Stretch = λ m. laid (T .stock) (newBuffers T m) n in
     let made = under-made (plain T (xs (b .buffers-for .result))) (freePieces T) t (y .lay .ensures .0) (y .lay .ensures .1) (u .under-new .ensures .0) in
     let is : Holds _ (a .shape) _ = record { shaped = made .shaped; is = made .is ∙ ap (λ (m : ℕ). underNew (plain T (xs m)) (freePieces T) t) k } in (
       put-done (a .pool .now) (a .storage .now) (a .input .now) (new (found b) .2) (omega (arith, pieces-room e2, k)) (omega (arith, buffers-room e3, k)) (new (found b) .1) (u .under-new .ensures .1)

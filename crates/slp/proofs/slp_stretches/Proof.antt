@@ -192,7 +192,7 @@ module _ {M : Type 1} (𝓤 : URA M) (H : Heap 𝓤) (A : Atoms 𝓤) (W : Given
 
     -- the list after k records, and the link reached
     abbrev l : ℕ → List Stretch
-    l k = written xs ys k
+    l k = written (U .stock) xs ys k
 
     abbrev link : ℕ → ℕ
     link k = chain.follow U k (y .link)
@@ -223,15 +223,15 @@ module _ {M : Type 1} (𝓤 : URA M) (H : Heap 𝓤) (A : Atoms 𝓤) (W : Given
           owned ! Sh.the-row (Is Sh.the-row) (LL.makes Sh.the-type Sh′.the-plain 𝓤 H A) (y .shape) _ shape-is $ fjoin ! $
           move ! (1 ∷ 0 ∷ []) $ fjoin ! $ done !
 
-      said-first : (z : Record) → ent 𝓤 (ensured 𝓤 H A fst.ended (fst.clauses 𝓤 H A at-mem run) (κ₀, tt) (pl, (y .shape, (link k, tt))) tt z) (fact 𝓤 (z ≡ recordOf (next-piece k)))
-      said-first z = exE 𝓤 _ (λ ws. snd∗ 𝓤 (sem 𝓤 H A (lasts fst.ended (κ₀, tt) (pl, (y .shape, (link k, tt))) ws)) (fact 𝓤 (z ≡ recordOf (next-piece k))))
+      said-first : (z : Record) → ent 𝓤 (ensured 𝓤 H A fst.ended (fst.clauses 𝓤 H A at-mem run) (κ₀, tt) (pl, (y .shape, (link k, tt))) tt z) (fact 𝓤 (z ≡ recordOf (U .stock) (next-piece k)))
+      said-first z = exE 𝓤 _ (λ ws. snd∗ 𝓤 (sem 𝓤 H A (lasts fst.ended (κ₀, tt) (pl, (y .shape, (link k, tt))) ws)) (fact 𝓤 (z ≡ recordOf (U .stock) (next-piece k))))
 
       -- with it the list has one record more
-      written-on : (z : Record) → z ≡ recordOf (next-piece k) → set (l k) k (z .stretch) ≡ l (k + 1)
-      written-on z e = ap (λ (d : Record). set (l k) k (d .stretch)) e ∙ written-more xs ys k (chain.stretch (next-piece k)) _ (reached-piece U (y .link) (opened .sound) (bs .good) k h) (omega (arith, short))
+      written-on : (z : Record) → z ≡ recordOf (U .stock) (next-piece k) → set (l k) k (z .stretch) ≡ l (k + 1)
+      written-on z e = ap (λ (d : Record). set (l k) k (d .stretch)) e ∙ written-more (U .stock) xs ys k (chain.stretch (next-piece k)) _ (reached-piece U (y .link) (opened .sound) (bs .good) k h) (omega (arith, short))
 
       -- and the link behind it is reached
-      link-on : (z : Record) → z ≡ recordOf (next-piece k) → z .next ≡ link (k + 1)
+      link-on : (z : Record) → z ≡ recordOf (U .stock) (next-piece k) → z .next ≡ link (k + 1)
       link-on z e = ap (λ (d : Record). d .next) e ∙ reached-next U (y .link) (opened .sound) (bs .good) k h
 
     -- what the walk has between two turns beside its locals
@@ -240,8 +240,8 @@ module _ {M : Type 1} (𝓤 : URA M) (H : Heap 𝓤) (A : Atoms 𝓤) (W : Given
 
     exits : (k : ℕ) → k ≡ n → ent 𝓤 (⋆ 𝓤 H A (Ghosts k)) (Post (An′.lowered (y .answer)))
     exits k e =
-        let same : length (l k) ≡ length ys = written-length xs ys k (omega arith) (omega (arith, short)) in
-        let numbered = ap (λ (j : ℕ). numbers (l j)) e ∙ written-all xs ys in
+        let same : length (l k) ≡ length ys = written-length (U .stock) xs ys k (omega arith) (omega (arith, short)) in
+        let numbered = ap (λ (j : ℕ). numbers (l j)) e ∙ written-all (U .stock) xs ys in
         qed W (Ghosts k) ∵
         suffices ! _ (ends-at 𝓤 H A stretches.ended stayed (stretches.clauses 𝓤 H A at-mem run) W (((κ₀, (κ₁, (κ₂, tt))), (q₀, (q₁, (q₂, tt))), tt, x, at), tt) (An′.lowered (y .answer)) (y .answer) (tt, (tt, (tt, (l k, tt)))) (tt, (tt, (tt, (same, tt))))) $
         says ! (ap (λ (l : List ℕ). resultOf (y .answer) (now pl) (now st) l noView) numbered ∙ bs .answers (numbers ys) (numbers-length ys)) $
@@ -291,7 +291,7 @@ module _ {M : Type 1} (𝓤 : URA M) (H : Heap 𝓤) (A : Atoms 𝓤) (W : Given
         unfolding afterTurn
         more t k e h =
             let inside : k < length ys = omega (arith, short) in
-            let inlist : k < length (l k) = omega (arith, written-length xs ys k (omega arith) (omega arith)) in
+            let inlist : k < length (l k) = omega (arith, written-length (U .stock) xs ys k (omega arith) (omega arith)) in
             assigns ! (bin ! (load ! (from ! (stop !)) (look ! 13 refl)) (lit ! tt) tt) (from ! (stop !)) (init ! 17 refl (tt, tt)) $
             rewrite ! 17 (λ (z : Bool). ‵ (fat fullShare tyBool l₁₁ 0 (vbool z))) (ap not (ne-eqb (link k) 0 (reached U (y .link) (opened k h .sound) (bs .good) k h))) refl $
             stays ! (load ! (from ! (stop !)) (look ! 17 refl)) $
@@ -300,7 +300,7 @@ module _ {M : Type 1} (𝓤 : URA M) (H : Heap 𝓤) (A : Atoms 𝓤) (W : Given
             -- [what first asks; what the pool owns; obs; the borrow; the tokens of list and storage; what storage owns; _1; …]
             calls-at ! fm (First 𝓤 H A at-mem run) known (to-first k h) (and-then ! (load ! (from ! (stop !)) (look ! 7 refl)) (and-then ! (load ! (from ! (stop !)) (look ! 12 refl)) (and-then ! (load ! (from ! (stop !)) (look ! 13 refl)) (no-more !)))) (λ u.
             use1 W (later (some (λ (z : Record). ((‵ (flft κ₀ q₀) ⊛ ‵ ftrue) ⊛ ‵ (R.the-row .own z (u ∷ []))) ⊛ raw (ensured 𝓤 H A fst.ended (fst.clauses 𝓤 H A at-mem run) (κ₀, tt) (pl, (y .shape, (link k, tt))) tt z)))) (id⊢ 𝓤 _) $ await ! tt $ pick ! (λ z.
-            split ! $ move ! (1 ∷ []) $ use1 W (raw (fact 𝓤 (z ≡ recordOf (next-piece k)))) (said-first k h z) $ heard ! (z ≡ recordOf (next-piece k)) (λ its. split ! $ move ! (1 ∷ []) $
+            split ! $ move ! (1 ∷ []) $ use1 W (raw (fact 𝓤 (z ≡ recordOf (U .stock) (next-piece k)))) (said-first k h z) $ heard ! (z ≡ recordOf (U .stock) (next-piece k)) (λ its. split ! $ move ! (1 ∷ []) $
             -- [what the record owns; the pool's token; what the pool owns; obs; the borrow; …]
             peeks ! R.the-row (Is R.the-row) (shows 𝓤 H A R.the-row) z (u ∷ []) (λ is.
             land ! (from ! (stop !)) (init ! 16 refl (LL.lawful R.the-type R′.the-laws 𝓤 H A W .typed z (u ∷ []) is .0)) $

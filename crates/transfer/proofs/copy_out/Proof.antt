@@ -1,16 +1,15 @@
 -- `transfer::copy_out` meets its contract: the bytes from the place `g` on are still to go to the place `at` of the output. Assumes nothing.
-use mathlib.Core.Path.{_≡_, refl, sym, ap, _∙_}
+use mathlib.Core.Path.{_≡_, refl, _∙_}
 use Prim.Native.Nat.{_+_, _-_, _≤_, _<_}
 use native.Mathlib.Omega.{arith}
 use borrow.Author.Needs.{needs}
 use lib.ListN.{length}
 use Rattle.kinds.specs.Limits.{bufferSize}
-use Rattle.rules.specs.Layout.{storageLength}
 use Rattle.rules.specs.Tables.{piece, bufferTotal}
 use Rattle.rules.specs.Bytes.{decode}
 use Rattle.rules.specs.Read.{copied}
 use Rattle.rules.proofs.Contents.{Fit}
-use Rattle.tables.proofs.Laws.{whole, total-pieces, total-buffers}
+use Rattle.tables.proofs.Laws.{whole, total-pieces, storage-fits}
 use Rattle.transfer.specs.Behind.{behind}
 use Rattle.transfer.proofs.Copy.{bytesFrom, Going, going-first, going-some, going-piece, going-before, going-count, going-within, going-lies, going-on, going-done, going-end}
 use Rattle.transfer.proofs.copy_out.Statement.{statement}
@@ -25,8 +24,8 @@ abbrev μ-loop : tie.MeasureT-loop
 μ-loop pool shape storage n output₀ g₀ left₀ at₀ output g left at = left
 
 -- the storage has the pool's buffers
-fits : (c : tie.Start Inv-loop μ-loop) → Fit (bufferTotal (decode (c .args .pool .now))) (c .args .storage .now)
-fits c = c .pre .1 .0 ∙ ap storageLength (sym (total-buffers (whole (c .pre .0 .0 .shaped))))
+fits : (c : tie.Start Inv-loop μ-loop) → Fit (decode (c .args .pool .now) .stock) (bufferTotal (decode (c .args .pool .now))) (c .args .storage .now)
+fits c = storage-fits (whole (c .pre .0 .0 .shaped)) (c .pre .1 .0)
 
 loop-holds : tie.Need-loop-holds Inv-loop μ-loop
 loop-holds c =

@@ -3,6 +3,7 @@ use mathlib.Core.Path.{_≡_, ap}
 use Prim.Native.Nat.{_+_, _-_, min}
 use native.Mathlib.Omega.{arith}
 use borrow.Author.Needs.{needs}
+use Rattle.kinds.proofs.Sizes.{start-one}
 use Rattle.rules.specs.Tables.{piece}
 use Rattle.rules.specs.Bytes.{decode}
 use Rattle.rules.specs.Chain.{stretch, positionOf}
@@ -36,7 +37,8 @@ add-start c =
     let a = c .before .before .before .before .before .before in
     let z = a .before in
     let small = decode-sized (z .args .pool .now) (λ i. omega (arith, a .shared-slice-known .given i)) .pieces-small (z .args .c .link - 1) in
-    omega (arith, c .before .position .ensures, small .small-buffer, small .small-offset)
+    let T = decode (z .args .pool .now) in
+    omega (arith, c .before .position .ensures, small .small-buffer, small .small-offset, start-one (T .stock) (piece T (z .args .c .link - 1) .buffer))
 
 returns : tie.Need-returns
 returns c =
@@ -44,7 +46,7 @@ returns c =
     let l = k .before .before in
     let z = l .before .before .before in
     let p = piece (decode (z .args .pool .now)) (z .args .c .link - 1) in
-    let s : c .before .position .result + z .args .c .into ≡ positionOf (stretch p) + z .args .c .into = ap (λ i. i + z .args .c .into) (c .before .position .ensures) in
+    let s : c .before .position .result + z .args .c .into ≡ positionOf (decode (z .args .pool .now) .stock) (stretch p) + z .args .c .into = ap (λ i. i + z .args .c .into) (c .before .position .ensures) in
     let n : k .lesser .result ≡ min (z .args .most) (p .len - z .args .c .into) = omega (arith, k .lesser .ensures, l .piece-length .ensures) in
     λ j. record { start = s j; count = n j }
 

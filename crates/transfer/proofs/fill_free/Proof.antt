@@ -1,15 +1,15 @@
 -- `transfer::fill_free` meets its contract: what stands from `at` on is still to go to the lowest free buffers from `from` on. Assumes nothing.
-use mathlib.Core.Path.{sym, ap, _∙_}
+use mathlib.Core.Path.{sym, _∙_}
 use Prim.Native.Nat.{_-_, _≤_, _<_}
 use native.Mathlib.Omega.{arith}
 use lib.ListN.{length, drop, length-take, length-drop}
-use Rattle.rules.specs.Layout.{storageLength}
 use Rattle.rules.specs.Tables.{bufferTotal}
 use Rattle.rules.specs.Bytes.{decode}
 use Rattle.rules.specs.Room.{isUnheld, newBuffers}
 use Rattle.rules.specs.Build.{buffersFor, stored}
 use Rattle.rules.proofs.Contents.{Fit}
-use Rattle.tables.proofs.Laws.{whole, total-buffers}
+use Rattle.tables.proofs.Laws.{whole, total-buffers, storage-fits}
+use Rattle.transfer.proofs.Place.{place-one, place-inside}
 use Rattle.transfer.proofs.Fill.{Filling, next-part, filling-first, filling-done, filling-below, filling-on}
 use Rattle.transfer.proofs.fill_free.Statement.{statement}
 use Rattle.transfer.proofs.fill_free.Tie as tie
@@ -17,20 +17,20 @@ use Rattle.transfer.proofs.fill_free.Tie as tie
 abbrev Inv-loop : tie.InvT-loop
 Inv-loop pool shape storage₀ input buffer at₀ from₀ storage at from =
     let T = decode pool in
-    (at ≤ length input) × Filling (isUnheld T) (bufferTotal T) (stored storage₀ (newBuffers T (buffersFor (length input))) input) from storage (drop at input)
+    (at ≤ length input) × Filling (T .stock) (isUnheld T) (bufferTotal T) (stored (T .stock) storage₀ (newBuffers T (buffersFor (length input))) input) from storage (drop at input)
 
 abbrev μ-loop : tie.MeasureT-loop
 μ-loop pool shape storage₀ input buffer at₀ from₀ storage at from = length input - at
 
 -- the storage has the pool's buffers
-fits : (c : tie.Start Inv-loop μ-loop) → Fit (bufferTotal (decode (c .args .pool .now))) (c .args .storage .now)
-fits c = c .pre .0 .1 ∙ ap storageLength (sym (total-buffers (whole (c .pre .0 .0))))
+fits : (c : tie.Start Inv-loop μ-loop) → Fit (decode (c .args .pool .now) .stock) (bufferTotal (decode (c .args .pool .now))) (c .args .storage .now)
+fits c = storage-fits (whole (c .pre .0 .0)) (c .pre .0 .1)
 
 loop-holds : tie.Need-loop-holds Inv-loop μ-loop
 loop-holds c =
     let z = c .before .before .before in
     let T = decode (z .args .pool .now) in
-    (omega arith, filling-first (isUnheld T) (bufferTotal T) (z .args .storage .now) (z .args .input .now) (z .pre .1 .1) (fits z) (z .pre .1 .0))
+    (omega arith, filling-first (T .stock) (isUnheld T) (bufferTotal T) (z .args .storage .now) (z .args .input .now) (z .pre .1 .1) (fits z) (z .pre .1 .0))
 
 -- some bytes are left
 some : (c : tie.In-loop Inv-loop μ-loop) → 0 < length (drop (c .before .loop .at) (c .before .before .before .before .before .args .input .now))
@@ -58,7 +58,9 @@ part-fill-buffer-end c = omega arith
 fill-buffer-requires : tie.Need-fill-buffer-requires Inv-loop μ-loop
 fill-buffer-requires c κs =
     let t = c .before .before .before in
-    (omega (arith, below t, t .before .before .loop .inv .1 .fits), simp (length-take, length-drop) (omega arith))
+    let l = t .before .before .loop in
+    let T = decode (t .before .before .before .before .before .before .args .pool .now) in
+    (place-inside (place-one (T .stock) (t .next-free-buffer .result)) (bufferTotal T) (l .storage) (l .inv .1 .fits) (below t), simp (length-take, length-drop) (omega arith))
 
 add-from : tie.Need-add-from Inv-loop μ-loop
 add-from c = let t = c .before .before .before .before .before .before in omega (arith, below t, total-buffers (whole (t .before .before .before .before .before .before .pre .0 .0)))

@@ -3,6 +3,9 @@ use mathlib.Core.Path.{ap}
 use native.Mathlib.Omega.{arith}
 use borrow.Author.Needs.{needs}
 use Rattle.kinds.specs.declared.BufferNumber.{BufferNumber}
+use Rattle.kinds.proofs.Sizes.{start-one}
+use Rattle.rules.specs.Tables.{piece}
+use Rattle.rules.specs.Bytes.{decode}
 use Rattle.transfer.proofs.position.Statement.{statement}
 use Rattle.transfer.proofs.position.Tie as tie
 
@@ -22,7 +25,12 @@ add-result : tie.Need-add-result
 add-result c = search needs
 
 returns : tie.Need-returns
-returns c = let e = ap (λ (b : BufferNumber). b .0) (c .before .before .piece-buffer .ensures) in omega arith
+returns c =
+    let k = c .before .before in
+    let z = k .before .before in
+    let T = decode (z .args .pool .now) in
+    let e = ap (λ (b : BufferNumber). b .0) (k .piece-buffer .ensures) in
+    omega (arith, start-one (T .stock) (piece T (z .args .d .0) .buffer))
 
 pub position-spec : {M : Type 1} → statement M
 position-spec =

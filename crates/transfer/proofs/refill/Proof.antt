@@ -1,17 +1,16 @@
 -- `transfer::refill` meets its contract: the bytes from the place `c` on are still to go to the lowest free buffers from `from` on. Assumes nothing.
-use mathlib.Core.Path.{sym, ap, _∙_}
+use mathlib.Core.Path.{sym, _∙_}
 use Prim.Native.Nat.{_<_}
 use native.Mathlib.Omega.{arith}
 use borrow.Author.Needs.{needs}
 use lib.ListN.{take}
-use Rattle.rules.specs.Layout.{storageLength}
 use Rattle.rules.specs.Tables.{bufferTotal}
 use Rattle.rules.specs.Bytes.{decode}
 use Rattle.rules.specs.Chain.{contents}
 use Rattle.rules.specs.Room.{newBuffers}
 use Rattle.rules.specs.Build.{buffersFor, stored}
 use Rattle.rules.proofs.Contents.{Fit}
-use Rattle.tables.proofs.Laws.{whole, total-buffers}
+use Rattle.tables.proofs.Laws.{whole, total-buffers, storage-fits, storage-shaped}
 use Rattle.chain.specs.Length.{stretchesFrom}
 use Rattle.transfer.proofs.Afresh.{Refilling, refilling-first, refilling-done, refilling-below, refilling-free, refilling-on}
 use Rattle.transfer.proofs.refill.Statement.{statement}
@@ -20,14 +19,14 @@ use Rattle.transfer.proofs.refill.Tie as tie
 abbrev Inv-loop : tie.InvT-loop
 Inv-loop pool shape storage₀ link n buffer c₀ left₀ from₀ storage c left from =
     let T = decode pool in
-    Refilling T (stored storage₀ (newBuffers T (buffersFor n)) (take n (contents storage₀ (stretchesFrom T link)))) from storage c left
+    Refilling T (stored (T .stock) storage₀ (newBuffers T (buffersFor n)) (take n (contents (T .stock) storage₀ (stretchesFrom T link)))) from storage c left
 
 abbrev μ-loop : tie.MeasureT-loop
 μ-loop pool shape storage₀ link n buffer c₀ left₀ from₀ storage c left from = left
 
 -- the storage has the pool's buffers
-fits : (c : tie.Start Inv-loop μ-loop) → Fit (bufferTotal (decode (c .args .pool .now))) (c .args .storage .now)
-fits c = c .pre .1 .0 .0 ∙ ap storageLength (sym (total-buffers (whole (c .pre .0 .0 .shaped))))
+fits : (c : tie.Start Inv-loop μ-loop) → Fit (decode (c .args .pool .now) .stock) (bufferTotal (decode (c .args .pool .now))) (c .args .storage .now)
+fits c = storage-fits (whole (c .pre .0 .0 .shaped)) (c .pre .1 .0 .0)
 
 loop-holds : tie.Need-loop-holds Inv-loop μ-loop
 loop-holds c =
@@ -57,7 +56,7 @@ refill-buffer-requires c κs =
     let w = t .before .before .loop .inv in
     let o = t .before .before .before .before .before .pre .0 .0 in
     let m = e .lesser .ensures in
-    ((o, w .good, w .inside), ((w .filling .fits ∙ ap storageLength (total-buffers (whole (o .shaped))), below t, refilling-free (o .sound) w (t .before .loop-test .taken) (t .next-free-buffer .ensures)), (omega (arith, w .enough, m), omega (arith, m))))
+    ((o, w .good, w .inside), ((storage-shaped (whole (o .shaped)) (w .filling .fits), below t, refilling-free (o .sound) w (t .before .loop-test .taken) (t .next-free-buffer .ensures)), (omega (arith, w .enough, m), omega (arith, m))))
 
 sub-left : tie.Need-sub-left Inv-loop μ-loop
 sub-left c = omega arith
