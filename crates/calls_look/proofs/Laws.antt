@@ -11,7 +11,7 @@ use Rattle.kinds.specs.declared.Outcome.the-variants.{Refused}
 use Rattle.kinds.specs.declared.Answer.{Answer}
 use Rattle.kinds.specs.Refusal.{refusalCode}
 use Rattle.kinds.specs.Outcome.{answerOf}
-use Rattle.kinds.proofs.Sizes.{start-one}
+use Rattle.kinds.proofs.Sizes.{start-one, start-most}
 use Rattle.rules.specs.Bytes.{decode, buffersIn, stockIn}
 use Rattle.rules.specs.Sound.{lent}
 use Rattle.rules.specs.Rule.{noView}
@@ -54,7 +54,7 @@ module _ {p : List ℕ} (st : List ℕ) {r : Audited} (v : Verdict p (length st)
   module _ (q : r .sound ≡ true) where
     -- storage has at most the bytes of the most buffers, so a place in it fits 32 bits
     pub start-small : (after : List ℕ) (place : Place) (n : ℕ) → Lies st after place n → viewAt place .start < 2 ^ 32
-    start-small after (Storage a) n l = let h = verdict-header v q st refl in omega (arith, h .storage-long, h .counts .most-buffers, start-one (stockIn p) (buffersIn p))
+    start-small after (Storage a) n l = let h = verdict-header v q st refl in omega (arith, h .storage-long, h .counts .most-buffers, start-most (stockIn p) (buffersIn p))
     start-small after Scratch n l = omega arith
 
     pub shown : {x : Shown} {y : look.Shown} {s n : ℕ} {sc after : List ℕ} → x ≡ shownAs y → Seen y p st s n sc after → shownOf x p st after ≡ step (Do (Show s n sc)) (lent p st)

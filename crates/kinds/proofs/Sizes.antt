@@ -24,6 +24,11 @@ size-most Z b = of (classOf Z b)
     of zero = omega arith
     of (suc c) = omega arith
 
+-- so buffer b starts within b of them
+pub start-most : (Z : List ℕ) (b : ℕ) → startOf Z b ≤ largest * b
+start-most Z zero = omega arith
+start-most Z (suc b) = omega (arith, size-most Z b, start-most Z b)
+
 -- ---- while the table has one size
 
 -- every buffer has it

@@ -3,7 +3,7 @@ use mathlib.Core.Path.{_≡_, refl}
 use Prim.Native.Nat.{ℕ, _+_, _-_, _*_, _≤_, _<_}
 use native.Mathlib.Omega.{arith}
 use lib.ListN.{length, length-set}
-use Rattle.kinds.proofs.Sizes.{start-one}
+use Rattle.kinds.proofs.Sizes.{start-most}
 use Rattle.rules.specs.Tables.{Tables, piece}
 use Rattle.rules.specs.Bytes.{decode}
 use Rattle.rules.specs.Chain.{stretch, positionOf}
@@ -47,7 +47,7 @@ module _ (c : tie.In-loop Inv-loop μ-loop) where
 
   -- its stretch lies in storage, whose bytes 32 bits count
   near : positionOf (T .stock) (stretch (piece T (at - 1))) < 65536 + 512
-  near = let o = z .pre .0 .0 in omega (arith, used .in-store, used .most, total-buffers (whole (o .shaped)), o .few-buffers, start-one (T .stock) (piece T (at - 1) .buffer))
+  near = let o = z .pre .0 .0 in omega (arith, used .in-store, used .most, total-buffers (whole (o .shaped)), o .few-buffers, start-most (T .stock) (piece T (at - 1) .buffer))
 
   -- it is one of at most P
   early : c .before .loop .k < 256

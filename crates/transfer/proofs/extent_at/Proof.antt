@@ -3,7 +3,7 @@ use mathlib.Core.Path.{_≡_, ap}
 use Prim.Native.Nat.{_+_, _-_, min}
 use native.Mathlib.Omega.{arith}
 use borrow.Author.Needs.{needs}
-use Rattle.kinds.proofs.Sizes.{start-one}
+use Rattle.kinds.proofs.Sizes.{start-most}
 use Rattle.rules.specs.Tables.{piece}
 use Rattle.rules.specs.Bytes.{decode}
 use Rattle.rules.specs.Chain.{stretch, positionOf}
@@ -38,7 +38,7 @@ add-start c =
     let z = a .before in
     let small = decode-sized (z .args .pool .now) (λ i. omega (arith, a .shared-slice-known .given i)) .pieces-small (z .args .c .link - 1) in
     let T = decode (z .args .pool .now) in
-    omega (arith, c .before .position .ensures, small .small-buffer, small .small-offset, start-one (T .stock) (piece T (z .args .c .link - 1) .buffer))
+    omega (arith, c .before .position .ensures, small .small-buffer, small .small-offset, start-most (T .stock) (piece T (z .args .c .link - 1) .buffer))
 
 returns : tie.Need-returns
 returns c =
