@@ -11,7 +11,7 @@ use Rattle.kinds.specs.declared.Outcome.the-variants.{Refused}
 use Rattle.kinds.specs.declared.Answer.{Answer}
 use Rattle.kinds.specs.Refusal.{refusalCode}
 use Rattle.kinds.specs.Outcome.{answerOf}
-use Rattle.kinds.proofs.Sizes.{start-one, start-most}
+use Rattle.kinds.proofs.Sizes.{start-most}
 use Rattle.rules.specs.Bytes.{decode, buffersIn, stockIn}
 use Rattle.rules.specs.Sound.{lent}
 use Rattle.rules.specs.Rule.{noView}
