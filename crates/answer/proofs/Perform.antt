@@ -1,11 +1,9 @@
 -- What an operation answers: the first refusal whose cause is there, or its rule. Assumes nothing.
-use mathlib.Core.Path.{_≡_, sym, ap, subst, _∙_}
-use mathlib.Core.Bool.{Bool, true, false, not}
+use mathlib.Core.Path.{_≡_, sym, ap, _∙_}
 use mathlib.Core.List.{List, []}
 use Prim.Native.Nat.{ℕ, _≤_, _<_}
 use native.Mathlib.Omega.{arith}
 use lib.Dec.{eqb, eqb→eq, ltb, ltb→lt}
-use borrow.Author.Tests.{not-true, not-false}
 use Rattle.kinds.specs.declared.SlipState.{SlipState}
 use Rattle.kinds.specs.declared.Refusal.{Refusal}
 use Rattle.kinds.specs.declared.Refusal.the-variants.{Slips, Pieces, Buffers}
@@ -13,7 +11,6 @@ use Rattle.kinds.specs.declared.Outcome.{Outcome}
 use Rattle.kinds.specs.declared.Outcome.the-variants.{Done}
 use Rattle.kinds.specs.Refusal.{refusalCode}
 use Rattle.rules.specs.Basics.{Is}
-use Rattle.rules.specs.Tables.{Tables}
 use Rattle.rules.specs.Bytes.{decode, encode}
 use Rattle.rules.specs.Chain.{State}
 use Rattle.rules.specs.Sound.{Lent}
@@ -95,15 +92,7 @@ changed {p = p} {st} js w k S a n b is e =
     let q : p ≡ encode (S .tables) = sym (fits-decode p b (is .shaped .fits)) ∙ ap encode (is .is) in
     ap (λ (o : Outcome). resultOf o p st [] noView) a ∙ (λ i. record { code = 0; number = n i; pool = q i; storage = e i; output = []; view = noView })
 
--- ---- a slip is named, by the test that the code makes
+-- ---- a named slip is one of the pool's
 
-module _ (T : Tables) (s : ℕ) {b : Bool} (test : b ≡ not (unnamed T s)) where
-  pub is-unnamed : b ≡ false → Is (unnamed T s)
-  is-unnamed q = subst Is (sym (not-false (unnamed T s) (sym test ∙ q))) tt
-
-  pub is-named : b ≡ true → Is (unnamed T s) → ⊥
-  is-named q u = subst Is (not-true (unnamed T s) (sym test ∙ q)) u
-
--- a named slip is one of the pool's
 pub named-below : {p : List ℕ} {h : Shape} → Shaped p h → (s : ℕ) → (Is (unnamed (decode p) s) → ⊥) → s < h .slips
 named-below {p} o s u = omega (arith, named (decode p) s u .0, total-slips (whole o))

@@ -3,7 +3,7 @@ use mathlib.Core.Path.{_≡_, refl, sym, ap, _∙_}
 use mathlib.Core.Logic.{⊎-elim}
 use mathlib.Core.Bool.{_||_}
 use mathlib.Core.List.{List, []}
-use Prim.Native.Nat.{ℕ, pred, _+_, _≤_, _<_}
+use Prim.Native.Nat.{ℕ, _≤_, _<_}
 use native.Mathlib.Omega.{arith}
 use lib.ListN.{length}
 use lib.Dec.{eqb, eqb→eq}
@@ -21,15 +21,12 @@ use Rattle.rules.specs.Rule.{_⇐_, firstCode, unnamed, want, noView}
 use Rattle.rules.specs.Append.{ownOf, notOwn, oneEmpty, joined, appendAfter}
 use Rattle.rules.specs.Step.{Append, rule, stateIn, perform}
 use Rattle.rules.proofs.Logic.{if-T, if-F, eq→eqb, or-left, or-right, or-cases}
-use Rattle.rules.proofs.Audit.{tables-now}
 use Rattle.rules.proofs.Codes.{first-yes, first-no, first-none}
 use Rattle.rules.proofs.Sizes.{behind-storage}
-use Rattle.rules.proofs.Bounds.{small}
 use Rattle.rules.proofs.Bytes.{AllBytes}
 use Rattle.layout.specs.declared.Shape.{Shape}
 use Rattle.tables.specs.Shape.{Holds}
-use Rattle.tables.proofs.Laws.{whole, total-pieces, onward}
-use Rattle.chain.specs.Opened.{Opened}
+use Rattle.tables.proofs.Laws.{onward}
 use Rattle.answer.specs.Result.{resultOf}
 use Rattle.answer.proofs.Perform.{perform-first, perform-pieces, perform-all, changed}
 
@@ -59,23 +56,12 @@ module _ (S : State) (a b : ℕ) where
   unfolding joined
   joined-storage = behind-storage _ a (ownOf (S .tables) a) _
 
--- the link that a slip holds is small
-pub head-small : {p : List ℕ} {h : Shape} → Opened p h → (s : ℕ) {n : ℕ} → n ≡ headOf (decode p) s → n < 65535
-head-small {p} o s {n} e =
-    let T = decode p in
-    let is : n ≡ pred (slip T s) = e in
-    omega (arith, small T (tables-now T (o .sound)) .slips-small s, total-pieces (whole (o .shaped)), o .few-pieces)
-
--- the entry of a slip that is held, from the link in it
-entry-of : {n v : ℕ} → 0 < v → n ≡ pred v → n + 1 ≡ v
-entry-of h e = omega arith
-
--- the two stores that give a the chain of b
-pub moved : (T : Tables) (a b : ℕ) {p q : List ℕ} {h : Shape} {tail : ℕ} → 0 < slip T b → tail ≡ headOf T b → Holds p h (setSlip T b vacant) → Holds q h (setSlip (decode p) a (tail + 1))
+-- the two stores that give a the entry of b
+pub moved : (T : Tables) (a b : ℕ) {p q : List ℕ} {h : Shape} {v : ℕ} → v ≡ slip T b → Holds p h (setSlip T b vacant) → Holds q h (setSlip (decode p) a v)
     → Holds q h (setSlip (setSlip T b vacant) a (slip T b))
-moved T a b {tail = tail} s e was is =
-    let now = onward was (λ (U : Tables). setSlip U a (tail + 1)) is in
-    record { shaped = now .shaped; is = now .is ∙ ap (setSlip (setSlip T b vacant) a) (entry-of s e) }
+moved T a b {v = v} e was is =
+    let now = onward was (λ (U : Tables). setSlip U a v) is in
+    record { shaped = now .shaped; is = now .is ∙ ap (setSlip (setSlip T b vacant) a) e }
 
 -- ---- the answers
 

@@ -54,20 +54,22 @@ pub fn append(pool: &mut [u8], shape: Shape, a: SlipNumber, b: SlipNumber) -> Ou
     ensures { λ r. ⌜ ((st : List ℕ) → resultOf r (now (pool .exit)) st [] noView ≡ perform (Append (a .0) (b .0)) (lent (now (pool .entry)) st)) ⌝ }
     ensures { λ r. ⌜ Leaves r (stateOf (slip (decode (now (pool .exit))) (a .0))) ⌝ }
 {
-    if !chain::held(pool, shape, a) {
-        return Outcome::Refused(Refusal::Slip);
-    }
-    if !chain::held(pool, shape, b) {
+    let first = chain::enter(pool, shape, a);
+    if first == 0 {
         return Outcome::Refused(Refusal::Slip);
     }
     if a.0 == b.0 {
         return Outcome::Refused(Refusal::Same);
     }
-    let head = chain::head_link(pool, shape, a);
-    let tail = chain::head_link(pool, shape, b);
+    let second = chain::enter(pool, shape, b);
+    if second == 0 {
+        return Outcome::Refused(Refusal::Slip);
+    }
+    let head = first - 1;
+    let tail = second - 1;
     if head == 0 {
         tables::set_slip(pool, shape, b, 0);
-        tables::set_slip(pool, shape, a, tail + 1);
+        tables::set_slip(pool, shape, a, second);
         return answer::done(pool, shape, a, 0);
     }
     if tail == 0 {

@@ -1,20 +1,17 @@
 -- Links in sound tables: what a link to a piece in use leads to. Assumes nothing.
 use mathlib.Core.Path.{_≡_, refl, sym, ap, subst}
-use mathlib.Core.Bool.{Bool, true, false, not}
 use mathlib.Core.List.{List, [], _∷_}
 use Prim.Native.Nat.{ℕ, zero, suc, pred, _+_, _-_, _≤_, _<_, _*_}
 use native.Mathlib.Omega.{arith}
-use borrow.Author.Tests.{lt-ltb, le-ltb}
 use lib.ListN.{length}
 use lib.Dec.{eqb, eqb→eq, ltb, ltb→lt, leb, leb→le}
 use Rattle.kinds.specs.Limits.{bufferSize}
 use Rattle.kinds.specs.Sizes.{largest, sizeOf}
 use Rattle.kinds.proofs.Sizes.{size-most}
 use Rattle.rules.specs.Basics.{Is}
-use Rattle.rules.specs.Tables.{Tables, slip, piece, slipTotal, pieceTotal, bufferTotal}
+use Rattle.rules.specs.Tables.{Tables, piece, pieceTotal, bufferTotal}
 use Rattle.rules.specs.Chain.{follow, walk, stretch, stretches, total}
 use Rattle.rules.specs.Sound.{linkOk, SoundTables}
-use Rattle.rules.specs.Rule.{unnamed}
 use Rattle.rules.proofs.Logic.{if-F, and-parts}
 use Rattle.rules.proofs.Build.{Good}
 use Rattle.rules.proofs.Chain.{walk-used, stretches-good, AllUsed}
@@ -32,18 +29,6 @@ head-none e z = omega arith
 
 pub head-some : {v n : ℕ} → v ≡ n → (v ≡ 0 → ⊥) → v - 1 ≡ pred n
 head-some e z = omega arith
-
--- a test negated twice
-not-twice : (b : Bool) → not (not b) ≡ b
-not-twice true = refl
-not-twice false = refl
-
--- a slip is held where it is below S and not vacant
-pub held-past : (T : Tables) (s : ℕ) → slipTotal T ≤ s → false ≡ not (unnamed T s)
-held-past T s h = rw (le-ltb s (slipTotal T) h)
-
-pub held-below : (T : Tables) (s v : ℕ) → s < slipTotal T → v ≡ slip T s → not (eqb v 0) ≡ not (unnamed T s)
-held-below T s v h e = rw (lt-ltb s (slipTotal T) h, not-twice (not (eqb (slip T s) 0)), e)
 
 -- ---- pieces in use
 

@@ -3,7 +3,7 @@ use kinds::PieceNumber;
 use kinds::SlipNumber;
 use layout::Shape;
 ghost use mathlib.Core.Path.{_≡_};
-ghost use mathlib.Core.Bool.{true, not};
+ghost use mathlib.Core.Bool.{true};
 ghost use Prim.Native.Nat.{_-_, _<_};
 ghost use lib.ListN.{length};
 ghost use lib.Dec.{leb};
@@ -12,10 +12,10 @@ ghost use Rattle.rules.specs.Tables.{piece, headOf, pieceTotal};
 ghost use Rattle.rules.specs.Bytes.{decode};
 ghost use Rattle.rules.specs.Chain.{total, firstLength, lengthOf};
 ghost use Rattle.rules.specs.Sound.{linkOk};
-ghost use Rattle.rules.specs.Rule.{unnamed};
 ghost use Rattle.rules.specs.Drop.{ownAt};
 ghost use Rattle.tables.specs.Shape.{Shaped};
 ghost use Rattle.chain.specs.Opened.{Opened};
+ghost use Rattle.chain.specs.Enter.{Enters};
 ghost use Rattle.chain.specs.Length.{stretchesFrom, LengthIs};
 ghost use Rattle.chain.specs.Find.{spotOf, pastEnd};
 ghost use Rattle.chain.specs.Part.{partOf};
@@ -45,16 +45,15 @@ pub fn head_link(pool: &[u8], shape: Shape, s: SlipNumber) -> u16
     v - 1
 }
 
-// Whether slip `s` is below the pool's count of slips and not vacant: a handle test.
-pub fn held(pool: &[u8], shape: Shape, s: SlipNumber) -> bool
-    requires { ⌜ Shaped (now pool) shape ⌝ }
-    ensures { λ r. ⌜ r ≡ not (unnamed (decode (now (pool .entry))) (s .0)) ⌝ }
+// The entry of slip `s`, 0 where the slip is vacant or not one of the pool's: a handle looked up. The link that a held slip holds is 1 less.
+pub fn enter(pool: &[u8], shape: Shape, s: SlipNumber) -> u16
+    requires { ⌜ Opened (now pool) shape ⌝ }
+    ensures { λ r. ⌜ Enters (decode (now (pool .entry))) shape (s .0) r ⌝ }
 {
-    if shape.slips <= s.0 {
-        return false;
+    if s.0 < shape.slips {
+        return tables::slip(pool, shape, s);
     }
-    let v = tables::slip(pool, shape, s);
-    v != 0
+    0
 }
 
 // The length of piece `d` in 32 bits, for sums: its data length.

@@ -21,11 +21,11 @@ pub fn drop_first(pool: &mut [u8], shape: Shape, s: SlipNumber, n: u32) -> Outco
     ensures { λ r. ⌜ ((st : List ℕ) → resultOf r (now (pool .exit)) st [] noView ≡ perform (Drop (s .0) n) (lent (now (pool .entry)) st)) ⌝ }
     ensures { λ r. ⌜ Leaves r (stateOf (slip (decode (now (pool .exit))) (s .0))) ⌝ }
 {
-    if !chain::held(pool, shape, s) {
+    let entry = chain::enter(pool, shape, s);
+    if entry == 0 {
         return Outcome::Refused(Refusal::Slip);
     }
-    let head = chain::head_link(pool, shape, s);
-    let at = chain::find(pool, shape, head, n);
+    let at = chain::find(pool, shape, entry - 1, n);
     if chain::past_end(at) {
         return Outcome::Refused(Refusal::Range);
     }

@@ -23,14 +23,15 @@ pub fn dup(pool: &mut [u8], shape: Shape, s: SlipNumber) -> Outcome
     ensures { λ r. ⌜ ((st : List ℕ) → resultOf r (now (pool .exit)) st [] noView ≡ perform (Dup (s .0)) (lent (now (pool .entry)) st)) ⌝ }
     ensures { λ r. ⌜ Leaves r (stateOf (slip (decode (now (pool .exit))) (numberOf r))) ⌝ }
 {
-    if !chain::held(pool, shape, s) {
+    let entry = chain::enter(pool, shape, s);
+    if entry == 0 {
         return Outcome::Refused(Refusal::Slip);
     }
     let t = room::next_vacant(pool, shape, 0);
     if t == shape.slips {
         return Outcome::Refused(Refusal::Slips);
     }
-    let head = chain::head_link(pool, shape, s);
+    let head = entry - 1;
     if head == 0 {
         return build::under_new(pool, shape, SlipNumber(t), 0);
     }

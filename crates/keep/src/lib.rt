@@ -38,10 +38,11 @@ pub fn keep(pool: &mut [u8], shape: Shape, s: SlipNumber, n: u32) -> Outcome
     ensures { λ r. ⌜ ((st : List ℕ) → resultOf r (now (pool .exit)) st [] noView ≡ perform (Keep (s .0) n) (lent (now (pool .entry)) st)) ⌝ }
     ensures { λ r. ⌜ Leaves r (stateOf (slip (decode (now (pool .exit))) (s .0))) ⌝ }
 {
-    if !chain::held(pool, shape, s) {
+    let entry = chain::enter(pool, shape, s);
+    if entry == 0 {
         return Outcome::Refused(Refusal::Slip);
     }
-    let head = chain::head_link(pool, shape, s);
+    let head = entry - 1;
     let end = chain::find(pool, shape, head, n);
     if chain::past_end(end) {
         return Outcome::Refused(Refusal::Range);

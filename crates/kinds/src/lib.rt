@@ -1,9 +1,9 @@
 // The numbers of slips, pieces and buffers, a slip's state, the refusals and the answers.
 ghost use mathlib.Core.Path.{_≡_};
-ghost use Prim.Native.Nat.{_+_, _*_, _<_, min};
+ghost use Prim.Native.Nat.{_+_, _*_, min};
 ghost use lib.Dec.{ltb, leb};
 ghost use Rattle.kinds.specs.Limits.{mostBuffers, mostPieces, mostSlips, bufferSize, counted};
-ghost use Rattle.kinds.specs.SlipState.{stateOf, rawOf};
+ghost use Rattle.kinds.specs.SlipState.{stateOf};
 ghost use Rattle.kinds.specs.Refusal.{refusalCode};
 ghost use Rattle.kinds.specs.Outcome.{answerOf};
 
@@ -163,18 +163,6 @@ pub fn state_of(raw: u16) -> SlipState
         return SlipState::Empty;
     }
     SlipState::Heads(PieceNumber(raw - 2))
-}
-
-// The number that stands for a slip's state: the encoding of a tagged handle entry.
-pub fn raw_of(s: SlipState) -> u16
-    requires { ⌜ rawOf s < 65536 ⌝ }
-    ensures { λ r. ⌜ r ≡ rawOf s ⌝ }
-{
-    match s {
-        SlipState::Vacant => 0,
-        SlipState::Empty => 1,
-        SlipState::Heads(p) => p.0 + 2,
-    }
 }
 
 // The code of a refusal: an error number.

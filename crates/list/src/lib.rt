@@ -60,10 +60,11 @@ pub fn begin(pool: &[u8], shape: Shape, s: SlipNumber, room: usize) -> Begun
     requires { ⌜ Opened (now pool) shape ⌝ }
     ensures { λ r. ⌜ r ≡ begun (decode (now (pool .entry))) (s .0) room ⌝ }
 {
-    if !chain::held(pool, shape, s) {
+    let entry = chain::enter(pool, shape, s);
+    if entry == 0 {
         return none(Refusal::Slip);
     }
-    let link = chain::head_link(pool, shape, s);
+    let link = entry - 1;
     let n = chain::pieces_from(pool, shape, link);
     if room < n as usize {
         return none(Refusal::Narrow);

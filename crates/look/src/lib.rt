@@ -56,7 +56,7 @@ pub fn length(pool: &[u8], shape: Shape, s: SlipNumber) -> Outcome
     ensures { λ r. ⌜ ((st : List ℕ) → resultOf r (now (pool .entry)) st [] noView ≡ perform (Length (s .0)) (lent (now (pool .entry)) st)) ⌝ }
     ensures { λ r. ⌜ Leaves r (stateOf (slip (decode (now (pool .entry))) (s .0))) ⌝ }
 {
-    if chain::held(pool, shape, s) {
+    if chain::enter(pool, shape, s) != 0 {
         return answer::done(pool, shape, s, chain::chain_length(pool, shape, s));
     }
     Outcome::Refused(Refusal::Slip)
@@ -77,10 +77,11 @@ pub fn read(
         ≡ perform (Read (s .0) off n (now (output .entry))) (lent (now (pool .entry)) (now (storage .entry))) ⌝ }
     ensures { λ r. ⌜ Leaves r (stateOf (slip (decode (now (pool .entry))) (s .0))) ⌝ }
 {
-    if !chain::held(pool, shape, s) {
+    let entry = chain::enter(pool, shape, s);
+    if entry == 0 {
         return Outcome::Refused(Refusal::Slip);
     }
-    let head = chain::head_link(pool, shape, s);
+    let head = entry - 1;
     let at = chain::find(pool, shape, head, off);
     let link = at.link;
     let into = at.into;
@@ -132,13 +133,14 @@ pub fn show(
     requires { ⌜ Opened (now pool) shape × (length (now storage) ≡ storageLength (stockOf shape) (shape .buffers)) ⌝ }
     ensures { λ r. ⌜ Seen r (now (pool .entry)) (now (storage .entry)) (s .0) n (now (scratch .entry)) (now (scratch .exit)) ⌝ }
 {
-    if !chain::held(pool, shape, s) {
+    let entry = chain::enter(pool, shape, s);
+    if entry == 0 {
         return unseen(Refusal::Slip);
     }
     if !BufferNumber::fits(n) {
         return unseen(Refusal::Long);
     }
-    let link = chain::head_link(pool, shape, s);
+    let link = entry - 1;
     if chain::in_first(pool, shape, link, n) {
         return Shown {
             outcome: answer::done(pool, shape, s, n),

@@ -70,13 +70,14 @@ pub fn pullup(pool: &mut [u8], shape: Shape, storage: &mut [u8], s: SlipNumber, 
         ≡ perform (Pullup (s .0) n) (lent (now (pool .entry)) (now (storage .entry))) ⌝ }
     ensures { λ r. ⌜ Leaves r (stateOf (slip (decode (now (pool .exit))) (s .0))) ⌝ }
 {
-    if !chain::held(pool, shape, s) {
+    let entry = chain::enter(pool, shape, s);
+    if entry == 0 {
         return Outcome::Refused(Refusal::Slip);
     }
     if !BufferNumber::fits(n) {
         return Outcome::Refused(Refusal::Long);
     }
-    let head = chain::head_link(pool, shape, s);
+    let head = entry - 1;
     let at = chain::find(pool, shape, head, n);
     if chain::past_end(at) {
         return Outcome::Refused(Refusal::Range);

@@ -1,7 +1,7 @@
 -- `cut::cut` meets its contract. Assumes nothing.
-use mathlib.Core.Path.{_≡_, sym, ap, subst, _∙_}
+use mathlib.Core.Path.{_≡_, sym, ap, _∙_}
 use mathlib.Core.List.{List}
-use Prim.Native.Nat.{ℕ, _+_, _≤_, _<_}
+use Prim.Native.Nat.{_+_, _≤_, _<_}
 use native.Mathlib.Omega.{arith}
 use lib.ListN.{length}
 use lib.Dec.{leb}
@@ -11,23 +11,22 @@ use Rattle.rules.specs.Basics.{Is}
 use Rattle.rules.specs.Tables.{Tables, headOf, slipTotal, pieceTotal}
 use Rattle.rules.specs.Bytes.{decode}
 use Rattle.rules.specs.Chain.{Stretch, spans, lengthOf, cutOut}
-use Rattle.rules.specs.Sound.{linkOk}
 use Rattle.rules.specs.Room.{isVacant, isFree, vacantSlips, freePieces, newSlip}
 use Rattle.rules.specs.Build.{plain}
 use Rattle.rules.specs.Rule.{unnamed}
 use Rattle.tables.proofs.Laws.{whole, total-slips, total-pieces}
+use Rattle.chain.specs.Enter.{Enters}
 use Rattle.chain.specs.Length.{stretchesFrom}
 use Rattle.chain.proofs.Spots.{Found}
 use Rattle.chain.proofs.Parts.{range-short, range-there}
 use Rattle.room.proofs.Free.{first-lies, new-slip, no-slip, room-lowest, room-enough}
-use Rattle.answer.proofs.Perform.{is-unnamed, is-named, named-below}
 use Rattle.answer.proofs.New.{under-made, new-link}
 use Rattle.cut.proofs.Laws.{place-found, range-pieces, cut-slip, cut-range, cut-slips, cut-pieces, cut-done}
 use Rattle.cut.proofs.cut.Statement.{statement}
 use Rattle.cut.proofs.cut.Tie as tie
 
-held-requires : tie.Need-held-requires
-held-requires c κs = search needs
+enter-requires : tie.Need-enter-requires
+enter-requires c κs = search needs
 
 same-length : tie.Need-same-length
 same-length c = search needs
@@ -35,44 +34,38 @@ same-length c = search needs
 returns : tie.Need-returns
 returns c =
     let a = c .before .before .before .before .args in
-    let p = a .pool .now in
-    (λ st. cut-slip p st (a .s .0) (a .off) (a .n) (is-unnamed (decode p) (a .s .0) (c .before .held .ensures) (not-true _ (c .if1 .taken))), tt)
+    (λ st. cut-slip (a .pool .now) st (a .s .0) (a .off) (a .n) (c .before .enter .ensures .strange (c .if1 .taken)), tt)
 
--- where the call started, and the tables there
-abbrev start : tie.Else1 → tie.Start
-start e = e .before .before .before .before
+module _ (e : tie.Else1) where
+  -- where the call started, and the tables there
+  abbrev start : tie.Start
+  start = e .before .before .before .before
 
-abbrev tables : tie.Else1 → Tables
-tables e = decode (start e .args .pool .now)
+  abbrev tables : Tables
+  tables = decode (start .args .pool .now)
 
--- the slip is named
-named-here : (e : tie.Else1) → Is (unnamed (tables e) (start e .args .s .0)) → ⊥
-named-here e = is-named (tables e) (start e .args .s .0) (e .before .held .ensures) (not-false _ (e .if1 .left))
+  -- what was looked up of the slip: it is named
+  abbrev entry : Enters tables (start .args .shape) (start .args .s .0) (e .before .enter .result)
+  entry = e .before .enter .ensures
 
-head-link-requires : tie.Need-head-link-requires
-head-link-requires c κs = let e = c .before in (start e .pre .shaped, named-below (start e .pre .shaped) (start e .args .s .0) (named-here e))
+  named-here : Is (unnamed tables (start .args .s .0)) → ⊥
+  named-here = entry .named (e .if1 .left)
 
--- the link to the head is good
-good : (l : tie.After-head-link) → Is (linkOk (tables (l .before .before)) (l .head-link .result))
-good l =
-    let e = l .before .before in
-    let z = start e in
-    let b = named-below (z .pre .shaped) (z .args .s .0) (named-here e) in
-    subst (λ (n : ℕ). Is (linkOk (tables e) n)) (sym (l .head-link .ensures)) (z .pre .sound .slips-ok (z .args .s .0) (omega (arith, total-slips (whole (z .pre .shaped)))))
+sub-head : tie.Need-sub-head
+sub-head c = search needs
 
 find-requires : tie.Need-find-requires
-find-requires c κs = let l = c .before in (start (l .before .before) .pre, good l)
+find-requires c κs = let e = c .before in (start e .pre, entry e .good)
 
 -- the place where the range starts
 abbrev from : tie.After-find → tie.Else1
-from f = f .before .before .before .before
+from f = f .before .before
 
 place : (f : tie.After-find) → let z = start (from f) in Found (tables (from f)) (headOf (tables (from f)) (z .args .s .0)) (z .args .off) (f .find .result)
 place f =
-    let l = f .before .before in
-    let T = tables (from f) in
-    let z = start (from f) in
-    place-found T (z .args .off) (z .pre .sound) (good l) (l .head-link .ensures) (f .find .ensures)
+    let e = from f in
+    let z = start e in
+    place-found (tables e) (z .args .off) (z .pre .sound) (entry e .good) (entry e .link-is) (f .find .ensures)
 
 cast-part-of : tie.Need-cast-part-of
 cast-part-of c = search needs
@@ -233,10 +226,10 @@ pub cut-spec : {M : Type 1} → statement M
 cut-spec =
     tie.close
     (tie.spec
-    held-requires
+    enter-requires
     same-length
     returns
-    head-link-requires
+    sub-head
     find-requires
     cast-part-of
     add-part-of

@@ -11,7 +11,6 @@ use Rattle.rules.specs.Basics.{Is, places}
 use Rattle.rules.specs.Tables.{Tables, headOf, slipTotal, pieceTotal}
 use Rattle.rules.specs.Bytes.{decode}
 use Rattle.rules.specs.Chain.{lengthOf}
-use Rattle.rules.specs.Sound.{linkOk}
 use Rattle.rules.specs.Room.{isFree, freePieces}
 use Rattle.rules.specs.Build.{Plan, made, madeLink}
 use Rattle.rules.specs.Rule.{unnamed}
@@ -21,11 +20,10 @@ use Rattle.rules.proofs.Room.{free-pieces}
 use Rattle.rules.proofs.Audit.{tables-now}
 use Rattle.rules.proofs.Drop.{dropped-planned}
 use Rattle.tables.specs.Shape.{Holds}
-use Rattle.tables.proofs.Laws.{whole, total-slips}
+use Rattle.chain.specs.Enter.{Enters}
 use Rattle.chain.specs.Find.{pastEnd}
 use Rattle.chain.proofs.Spots.{Found, found-at, past-range}
 use Rattle.room.proofs.Free.{lowest-all, room-lowest, room-enough}
-use Rattle.answer.proofs.Perform.{is-unnamed, is-named, named-below}
 use Rattle.release.proofs.Under.{under-asks, under-small, under-done}
 use Rattle.rest.specs.Rest.{restFrom}
 use Rattle.rest.proofs.Dropped.{dropped-at}
@@ -33,18 +31,16 @@ use Rattle.drop.proofs.Laws.{made-dropped, drop-slip, drop-range, drop-
 use Rattle.drop.proofs.drop_first.Statement.{statement}
 use Rattle.drop.proofs.drop_first.Tie as tie
 
-held-requires : tie.Need-held-requires
-held-requires c κs = search needs
+enter-requires : tie.Need-enter-requires
+enter-requires c κs = search needs
 
 same-length : tie.Need-same-length
 same-length c = search needs
 
 returns : tie.Need-returns
 returns c =
-    let z = c .before .before .before .before in
-    let p = z .args .pool .now in
-    let s = z .args .s .0 in
-    (λ st. drop-slip p st s (z .args .n) (is-unnamed (decode p) s (c .before .held .ensures) (not-true _ (c .if1 .taken))), tt)
+    let a = c .before .before .before .before .args in
+    (λ st. drop-slip (a .pool .now) st (a .s .0) (a .n) (c .before .enter .ensures .strange (c .if1 .taken)), tt)
 
 -- ---- the slip is named
 
@@ -59,15 +55,18 @@ module _ (e : tie.Else1) where
   abbrev slip : ℕ
   slip = start .args .s .0
 
-  -- it is not vacant, and one of the pool's
+  -- what was looked up of it: it is not vacant, and one of the pool's
+  abbrev entry : Enters tables (start .args .shape) slip (e .before .enter .result)
+  entry = e .before .enter .ensures
+
   named-here : Is (unnamed tables slip) → ⊥
-  named-here = is-named tables slip (e .before .held .ensures) (not-false _ (e .if1 .left))
+  named-here = entry .named (e .if1 .left)
 
   below : slip < start .args .shape .slips
-  below = named-below (start .pre .shaped) slip named-here
+  below = entry .below (e .if1 .left)
 
   inside : slip < slipTotal tables
-  inside = omega (arith, below, total-slips (whole (start .pre .shaped)))
+  inside = entry .inside (e .if1 .left)
 
   -- what drop leaves, and the pieces free for it
   abbrev rest : Plan
@@ -80,14 +79,11 @@ module _ (e : tie.Else1) where
   planned : Planned tables rest
   planned = dropped-planned tables slip (start .args .n) (tables-now tables (start .pre .sound))
 
-head-link-requires : tie.Need-head-link-requires
-head-link-requires c κs = let e = c .before in (start e .pre .shaped, below e)
+sub-find : tie.Need-sub-find
+sub-find c = search needs
 
 find-requires : tie.Need-find-requires
-find-requires c κs =
-    let l = c .before in
-    let e = l .before .before in
-    (start e .pre, subst (λ (n : ℕ). Is (linkOk (tables e) n)) (sym (l .head-link .ensures)) (start e .pre .sound .slips-ok (slip e) (inside e)))
+find-requires c κs = let e = c .before in (start e .pre, entry e .good)
 
 past-end-requires : tie.Need-past-end-requires
 past-end-requires c κs = search needs
@@ -96,19 +92,19 @@ past-end-requires c κs = search needs
 
 module _ (f : tie.After-find) where
   abbrev from : tie.Else1
-  from = f .before .before .before .before
+  from = f .before .before
 
   -- it has the laws of a place found
   place : Found (tables from) (headOf (tables from) (slip from)) (start from .args .n) (f .find .result)
-  place = found-at (tables from) (slip from) (start from .args .n) (f .before .before .head-link .ensures) (f .find .ensures) (start from .pre .sound) (inside from)
+  place = found-at (tables from) (slip from) (start from .args .n) (entry from .link-is) (f .find .ensures) (start from .pre .sound) (inside from)
 
   -- what stays from there is what drop leaves
   plan : rest from ≡ restFrom (tables from) (f .find .result .own) (f .find .result .link) (f .find .result .into)
-  plan = dropped-at (tables from) (slip from) (start from .args .n) (f .before .before .head-link .ensures) (f .find .ensures)
+  plan = dropped-at (tables from) (slip from) (start from .args .n) (entry from .link-is) (f .find .ensures)
 
   -- it lies past the end where the chain is shorter
   past : pastEnd (f .find .result) ≡ ltb (lengthOf (tables from) (slip from)) (start from .args .n)
-  past = past-range (tables from) (slip from) (start from .args .n) (f .before .before .head-link .ensures) (f .find .ensures) (start from .pre .sound) (inside from)
+  past = past-range (tables from) (slip from) (start from .args .n) (entry from .link-is) (f .find .ensures) (start from .pre .sound) (inside from)
 
 same-length-2 : tie.Need-same-length-2
 same-length-2 c = search needs
@@ -255,10 +251,10 @@ pub drop-first-spec : {M : Type 1} → statement M
 drop-first-spec =
     tie.close
     (tie.spec
-    held-requires
+    enter-requires
     same-length
     returns
-    head-link-requires
+    sub-find
     find-requires
     past-end-requires
     same-length-2

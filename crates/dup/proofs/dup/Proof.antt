@@ -1,54 +1,57 @@
 -- `dup::dup` meets its contract. Assumes nothing.
-use mathlib.Core.Path.{_≡_, sym, ap, subst, _∙_}
+use mathlib.Core.Path.{_≡_, sym, ap, _∙_}
 use mathlib.Core.List.{[], _∷_}
 use Prim.Native.Nat.{ℕ, suc, _+_, _-_, _≤_, _<_}
 use native.Mathlib.Omega.{arith}
 use lib.ListN.{length}
 use borrow.Author.Needs.{needs}
-use borrow.Author.Tests.{not-true, not-false}
 use Rattle.rules.specs.Basics.{Is}
 use Rattle.rules.specs.Tables.{Tables, piece, headOf, slipTotal, pieceTotal, setSlip, holding}
 use Rattle.rules.specs.Bytes.{decode}
-use Rattle.rules.specs.Sound.{linkOk}
 use Rattle.rules.specs.Room.{isVacant, isFree, vacantSlips, freePieces, newSlip}
 use Rattle.rules.specs.Build.{made}
 use Rattle.rules.specs.Dup.{dupPlan}
 use Rattle.rules.specs.Rule.{unnamed}
 use Rattle.tables.proofs.Laws.{whole, total-slips, total-pieces, onward}
+use Rattle.chain.specs.Enter.{Enters}
 use Rattle.chain.proofs.Links.{InUse, link-leads}
 use Rattle.room.proofs.Free.{first-lies, new-slip, no-slip, piece-first, no-piece}
 use Rattle.build.proofs.Laws.{opened-copyable, opened-sharable}
-use Rattle.answer.proofs.Perform.{is-unnamed, is-named, named-below}
 use Rattle.dup.proofs.Laws.{plan-none, plan-one, empty-under, cloned-made, clone-under, dup-slip, dup-slips, dup-pieces, dup-done}
 use Rattle.dup.proofs.dup.Statement.{statement}
 use Rattle.dup.proofs.dup.Tie as tie
 
-held-requires : tie.Need-held-requires
-held-requires c κs = search needs
+enter-requires : tie.Need-enter-requires
+enter-requires c κs = search needs
 
 same-length : tie.Need-same-length
 same-length c = search needs
 
 returns : tie.Need-returns
 returns c =
-    let z = c .before .before .before .before in
-    let p = z .args .pool .now in
-    let s = z .args .s .0 in
-    (λ st. dup-slip p st s (is-unnamed (decode p) s (c .before .held .ensures) (not-true _ (c .if1 .taken))), tt)
+    let a = c .before .before .before .before .args in
+    (λ st. dup-slip (a .pool .now) st (a .s .0) (c .before .enter .ensures .strange (c .if1 .taken)), tt)
 
 next-vacant-requires : tie.Need-next-vacant-requires
 next-vacant-requires c κs = search needs
 
--- where the call started, and the tables there
-abbrev start : tie.Else1 → tie.Start
-start e = e .before .before .before .before
+module _ (e : tie.Else1) where
+  -- where the call started, and the tables there
+  abbrev start : tie.Start
+  start = e .before .before .before .before
 
-abbrev tables : tie.Else1 → Tables
-tables e = decode (start e .args .pool .now)
+  abbrev tables : Tables
+  tables = decode (start .args .pool .now)
 
--- the slip is named
-named-here : (e : tie.Else1) → Is (unnamed (tables e) (start e .args .s .0)) → ⊥
-named-here e = is-named (tables e) (start e .args .s .0) (e .before .held .ensures) (not-false _ (e .if1 .left))
+  -- what was looked up of the slip: it is named
+  abbrev head : ℕ
+  head = e .before .enter .result - 1
+
+  abbrev entry : Enters tables (start .args .shape) (start .args .s .0) (e .before .enter .result)
+  entry = e .before .enter .ensures
+
+  named-here : Is (unnamed tables (start .args .s .0)) → ⊥
+  named-here = entry .named (e .if1 .left)
 
 same-length-2 : tie.Need-same-length-2
 same-length-2 c = search needs
@@ -60,9 +63,6 @@ returns-2 c =
     let z = start e in
     let all : v .next-vacant .result ≡ slipTotal (tables e) = omega (arith, c .if2 .taken, total-slips (whole (z .pre .shaped))) in
     (λ st. dup-slips (z .args .pool .now) st (z .args .s .0) (named-here e) (no-slip (tables e) (v .next-vacant .ensures) all), tt)
-
-head-link-requires : tie.Need-head-link-requires
-head-link-requires c κs = let e = c .before .before .before .before .before in (start e .pre .shaped, named-below (start e .pre .shaped) (start e .args .s .0) (named-here e))
 
 -- the new slip: the lowest vacant one
 found : (c : tie.Else2) → let v = c .before .before in let T = tables (v .before .before) in
@@ -79,26 +79,24 @@ found c =
 -- the tables, the head link and the new slip are good where the chain has a piece
 module _ (c : tie.Else3) where
   abbrev at : tie.Else2
-  at = c .before .before .before
+  at = c .before
 
   abbrev from : tie.Else1
   from = at .before .before .before .before
 
   some : headOf (tables from) (start from .args .s .0) ≡ 0 → ⊥
-  some z = c .if3 .left (c .before .head-link .ensures ∙ z)
+  some z = c .if3 .left (entry from .link-is ∙ z)
 
   -- the head is a piece in use
-  leads : InUse (tables from) (c .before .head-link .result - 1)
-  leads =
-      let z = start from in
-      let T = tables from in
-      let n = named-below (z .pre .shaped) (z .args .s .0) (named-here from) in
-      let good = subst (λ (x : ℕ). Is (linkOk T x)) (sym (c .before .head-link .ensures)) (z .pre .sound .slips-ok (z .args .s .0) (omega (arith, total-slips (whole (z .pre .shaped))))) in
-      link-leads T (c .before .head-link .result) (z .pre .sound) good (c .if3 .left)
+  leads : InUse (tables from) (head from - 1)
+  leads = link-leads (tables from) (head from) (start from .pre .sound) (entry from .good) (c .if3 .left)
+
+sub-head : tie.Need-sub-head
+sub-head c = search needs
 
 under-new-requires : tie.Need-under-new-requires
 under-new-requires c κs =
-    let e2 = c .before .before .before .before in
+    let e2 = c .before .before in
     let z = start (e2 .before .before .before .before) in
     (z .pre .shaped, omega (arith, found e2 .0, total-slips (whole (z .pre .shaped))), omega arith)
 
@@ -109,12 +107,12 @@ returns-3 : tie.Need-returns-3
 returns-3 c =
     let u = c .before .before in
     let t = u .before .before in
-    let e2 = t .before .before .before in
+    let e2 = t .before in
     let e = e2 .before .before .before .before in
     let z = start e in
     let T = tables e in
     let s = z .args .s .0 in
-    let none : headOf T s ≡ 0 = sym (t .before .head-link .ensures) ∙ t .if3 .taken in
+    let none : headOf T s ≡ 0 = sym (entry e .link-is) ∙ t .if3 .taken in
     let is = u .under-new .ensures .0 in (
       λ st. dup-done (z .args .pool .now) st s (named-here e) (found e2 .2) (omega (arith, plan-none T (headOf T s) none)) (found e2 .1) (u .under-new .ensures .1)
           (λ i. omega (arith, c .slice-known2 .given i)) (record { shaped = is .shaped; is = is .is ∙ empty-under T (headOf T s) _ (freePieces T) none }),
@@ -154,7 +152,7 @@ clone-rest-requires c κs =
     let e4 = c .before in
     let e3 = e4 .before .before .before .before in
     let z = start (from e3) in
-    let d = e3 .before .head-link .result - 1 in (
+    let d = head (from e3) - 1 in (
       z .pre .shaped,
       omega (arith, taken-here e4, total-pieces (whole (z .pre .shaped))),
       opened-copyable (z .pre) d 0 (leads e3) (omega (arith, leads e3 .some-bytes)),
@@ -195,11 +193,10 @@ returns-5 c =
     let t = at e3 .before .before .next-vacant .result in
     let g = f .next-free-piece .result in
     let fs = piece-first T (f .next-free-piece .ensures) (taken-here e4) in
-    let now = onward (w .clone-rest .ensures) (λ (U : Tables). setSlip U t (holding (g + 1))) (u .under-new2 .ensures .0) in
-    let head : e3 .before .head-link .result ≡ headOf T s = e3 .before .head-link .ensures in (
+    let now = onward (w .clone-rest .ensures) (λ (U : Tables). setSlip U t (holding (g + 1))) (u .under-new2 .ensures .0) in (
       λ st. dup-done (z .args .pool .now) st s (named-here e) (found (at e3) .2) (omega (arith, ap length fs, plan-one T (headOf T s) (some e3))) (found (at e3) .1) (u .under-new2 .ensures .1)
           (λ i. omega (arith, c .slice-known4 .given i))
-          (record { shaped = now .shaped; is = now .is ∙ ap (λ (U : Tables). setSlip U t (holding (g + 1))) (cloned-made T (e3 .before .head-link .result - 1) g) ∙ ap (λ (n : ℕ). setSlip (made (dupPlan T (suc (n - 1))) (g ∷ [])) t (holding (g + 1))) head ∙ clone-under T (headOf T s) t g (some e3) fs }),
+          (record { shaped = now .shaped; is = now .is ∙ ap (λ (U : Tables). setSlip U t (holding (g + 1))) (cloned-made T (head e - 1) g) ∙ ap (λ (n : ℕ). setSlip (made (dupPlan T (suc (n - 1))) (g ∷ [])) t (holding (g + 1))) (entry e .link-is) ∙ clone-under T (headOf T s) t g (some e3) fs }),
       rw (u .under-new2 .ensures .1),
     )
 
@@ -207,13 +204,13 @@ pub dup-spec : {M : Type 1} → statement M
 dup-spec =
     tie.close
     (tie.spec
-    held-requires
+    enter-requires
     same-length
     returns
     next-vacant-requires
     same-length-2
     returns-2
-    head-link-requires
+    sub-head
     under-new-requires
     same-length-3
     returns-3

@@ -10,64 +10,57 @@ use Rattle.rules.specs.Basics.{Is}
 use Rattle.rules.specs.Tables.{Tables, slipTotal, pieceTotal}
 use Rattle.rules.specs.Bytes.{decode}
 use Rattle.rules.specs.Chain.{lengthOf}
-use Rattle.rules.specs.Sound.{linkOk}
 use Rattle.rules.specs.Room.{isFree, freePieces}
 use Rattle.rules.specs.Keep.{keptNotOwn}
 use Rattle.rules.specs.Rule.{unnamed}
 use Rattle.rules.proofs.Logic.{not-less}
-use Rattle.tables.proofs.Laws.{whole, total-slips}
+use Rattle.tables.proofs.Laws.{whole}
+use Rattle.chain.specs.Enter.{Enters}
 use Rattle.own.specs.Own.{ownPart}
 use Rattle.chain.proofs.Spots.{past-range, at-end, before-end}
 use Rattle.room.specs.Free.{lowestFor}
 use Rattle.room.proofs.Free.{room-lowest, room-enough}
-use Rattle.answer.proofs.Perform.{is-unnamed, is-named, named-below}
 use Rattle.keep.proofs.Laws.{Seen, last-below, next-ok, no-others, last-long, short-hangable, short-after, others-count, others-cut, next-long, new-small, new-hangable, new-after, keep-slip, keep-range, keep-whole, keep-pieces, keep-done}
 use Rattle.keep.proofs.keep.Statement.{statement}
 use Rattle.keep.proofs.keep.Tie as tie
 
-held-requires : tie.Need-held-requires
-held-requires c κs = search needs
+enter-requires : tie.Need-enter-requires
+enter-requires c κs = search needs
 
 same-length : tie.Need-same-length
 same-length c = search needs
 
 returns : tie.Need-returns
 returns c =
-    let z = c .before .before .before .before in
-    let p = z .args .pool .now in
-    let s = z .args .s .0 in
-    (λ st. keep-slip p st s (z .args .n) (is-unnamed (decode p) s (c .before .held .ensures) (not-true _ (c .if1 .taken))), tt)
+    let a = c .before .before .before .before .args in
+    (λ st. keep-slip (a .pool .now) st (a .s .0) (a .n) (c .before .enter .ensures .strange (c .if1 .taken)), tt)
 
--- where the call started, and the tables there
-abbrev start : tie.Else1 → tie.Start
-start e = e .before .before .before .before
+module _ (e : tie.Else1) where
+  -- where the call started, and the tables there
+  abbrev start : tie.Start
+  start = e .before .before .before .before
 
-abbrev tables : tie.Else1 → Tables
-tables e = decode (start e .args .pool .now)
+  abbrev tables : Tables
+  tables = decode (start .args .pool .now)
 
--- the slip is named
-named-here : (e : tie.Else1) → Is (unnamed (tables e) (start e .args .s .0)) → ⊥
-named-here e = is-named (tables e) (start e .args .s .0) (e .before .held .ensures) (not-false _ (e .if1 .left))
+  -- what was looked up of the slip: it is named, and one of the pool's
+  abbrev entry : Enters tables (start .args .shape) (start .args .s .0) (e .before .enter .result)
+  entry = e .before .enter .ensures
 
-below : (e : tie.Else1) → start e .args .s .0 < start e .args .shape .slips
-below e = named-below (start e .pre .shaped) (start e .args .s .0) (named-here e)
+  named-here : Is (unnamed tables (start .args .s .0)) → ⊥
+  named-here = entry .named (e .if1 .left)
 
-head-link-requires : tie.Need-head-link-requires
-head-link-requires c κs = let e = c .before in (start e .pre .shaped, below e)
+  below : start .args .s .0 < start .args .shape .slips
+  below = entry .below (e .if1 .left)
 
--- the link to the head is good
-module _ (c : tie.After-head-link) where
-  abbrev entered : tie.Else1
-  entered = c .before .before
+  inside : start .args .s .0 < slipTotal tables
+  inside = entry .inside (e .if1 .left)
 
-  inside : start entered .args .s .0 < slipTotal (tables entered)
-  inside = omega (arith, below entered, total-slips (whole (start entered .pre .shaped)))
-
-  head-good : Is (linkOk (tables entered) (c .head-link .result))
-  head-good = subst (λ (x : ℕ). Is (linkOk (tables entered) x)) (sym (c .head-link .ensures)) (start entered .pre .sound .slips-ok (start entered .args .s .0) inside)
+sub-head : tie.Need-sub-head
+sub-head c = search needs
 
 find-requires : tie.Need-find-requires
-find-requires c κs = let l = c .before in (start (entered l) .pre, head-good l)
+find-requires c κs = let e = c .before in (start e .pre, entry e .good)
 
 past-end-requires : tie.Need-past-end-requires
 past-end-requires c κs = search needs
@@ -80,16 +73,13 @@ module _ (c : tie.After-past-end) where
   abbrev spot : tie.After-find
   spot = c .before
 
-  abbrev links : tie.After-head-link
-  links = spot .before .before
-
   abbrev from : tie.Else1
-  from = entered links
+  from = spot .before .before
 
   short : c .past-end .result ≡ ltb (lengthOf (tables from) (start from .args .s .0)) (start from .args .n)
   short =
       c .past-end .ensures
-      ∙ past-range (tables from) (start from .args .s .0) (start from .args .n) (links .head-link .ensures) (spot .find .ensures) (start from .pre .sound) (inside links)
+      ∙ past-range (tables from) (start from .args .s .0) (start from .args .n) (entry from .link-is) (spot .find .ensures) (start from .pre .sound) (inside from)
 
 returns-2 : tie.Need-returns-2
 returns-2 c =
@@ -116,7 +106,7 @@ returns-3 c =
     let e = from y in
     let z = start e in
     let k = e .before .before .before in
-    let same = at-end (tables e) (z .args .s .0) (z .args .n) (links y .head-link .ensures) (spot y .find .ensures) (z .pre .sound) (inside (links y)) (t .if3 .taken)
+    let same = at-end (tables e) (z .args .s .0) (z .args .n) (entry e .link-is) (spot y .find .ensures) (z .pre .sound) (inside e) (t .if3 .taken)
     (λ q. subst Is (sym (y .past-end .ensures) ∙ e2 .if2 .left) q) in (
       λ st. keep-whole (z .args .pool .now) st (z .args .s .0) (z .args .n) (named-here e) (has e2) same (c .done .ensures) (λ i. omega (arith, k .slice-known .given i)) (whole (z .pre .shaped)),
       rw (c .done .ensures),
@@ -134,10 +124,10 @@ module _ (c : tie.Else3) where
   part-only e =
       let y = ranged .before in
       let z = start at in
-      omega (arith, e, before-end (tables at) (z .args .s .0) (z .args .n) (links y .head-link .ensures) (spot y .find .ensures) (z .pre .sound) (inside (links y)) (c .if3 .left))
+      omega (arith, e, before-end (tables at) (z .args .s .0) (z .args .n) (entry at .link-is) (spot y .find .ensures) (z .pre .sound) (inside at) (c .if3 .left))
 
 own-part-requires : tie.Need-own-part-requires
-own-part-requires c κs = let e = c .before in (start (at e) .pre, head-good (links (ranged e .before)))
+own-part-requires c κs = let e = at (c .before) in (start e .pre, entry e .good)
 
 -- what the code knows then
 module _ (c : tie.After-own-part) where
@@ -149,9 +139,9 @@ module _ (c : tie.After-own-part) where
       let z = start (at here) in
       record {
         opened = z .pre;
-        below = omega (arith, below (at here), total-slips (whole (z .pre .shaped)));
+        below = inside (at here);
         part = has (ranged here);
-        run = c .own-part .ensures ∙ ap (λ (l : ℕ). ownPart (tables (at here)) l (z .args .n)) (links (ranged here .before) .head-link .ensures);
+        run = c .own-part .ensures ∙ ap (λ (l : ℕ). ownPart (tables (at here)) l (z .args .n)) (entry (at here) .link-is);
       }
 
 shorten-requires : tie.Need-shorten-requires
@@ -304,10 +294,10 @@ pub keep-spec : {M : Type 1} → statement M
 keep-spec =
     tie.close
     (tie.spec
-    held-requires
+    enter-requires
     same-length
     returns
-    head-link-requires
+    sub-head
     find-requires
     past-end-requires
     same-length-2

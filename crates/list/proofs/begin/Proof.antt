@@ -1,25 +1,22 @@
 -- `list::begin` meets its contract. Assumes nothing.
-use mathlib.Core.Path.{_≡_, sym, ap, subst, _∙_}
-use Prim.Native.Nat.{ℕ, _<_}
+use mathlib.Core.Path.{_≡_, ap, _∙_}
+use Prim.Native.Nat.{ℕ}
 use native.Mathlib.Omega.{arith}
 use lib.ListN.{length}
 use borrow.Author.Needs.{needs}
-use borrow.Author.Tests.{not-true, not-false}
 use Rattle.rules.specs.Basics.{Is}
-use Rattle.rules.specs.Tables.{Tables, headOf, slipTotal}
+use Rattle.rules.specs.Tables.{Tables}
 use Rattle.rules.specs.Bytes.{decode}
 use Rattle.rules.specs.Chain.{spans}
-use Rattle.rules.specs.Sound.{linkOk}
 use Rattle.rules.specs.Rule.{unnamed}
-use Rattle.tables.proofs.Laws.{whole, total-slips}
+use Rattle.chain.specs.Enter.{Enters}
 use Rattle.chain.specs.Length.{stretchesFrom}
-use Rattle.answer.proofs.Perform.{is-unnamed, is-named, named-below}
 use Rattle.list.proofs.Laws.{begun-slip, begun-narrow, begun-done}
 use Rattle.list.proofs.begin.Statement.{statement}
 use Rattle.list.proofs.begin.Tie as tie
 
-held-requires : tie.Need-held-requires
-held-requires c κs = search needs
+enter-requires : tie.Need-enter-requires
+enter-requires c κs = search needs
 
 none-requires : tie.Need-none-requires
 none-requires c κs = search needs
@@ -28,37 +25,32 @@ returns : tie.Need-returns
 returns c =
     let t = c .before in
     let a = t .before .before .before .args in
-    let T = decode (a .pool .now) in
-    begun-slip T (a .s .0) (a .room) (c .none .ensures) (is-unnamed T (a .s .0) (t .before .held .ensures) (not-true _ (t .if1 .taken)))
-
--- where the call started, and the tables there
-abbrev start : tie.Else1 → tie.Start
-start e = e .before .before .before
-
-abbrev tables : tie.Else1 → Tables
-tables e = decode (start e .args .pool .now)
+    begun-slip (decode (a .pool .now)) (a .s .0) (a .room) (c .none .ensures) (t .before .enter .ensures .strange (t .if1 .taken))
 
 module _ (e : tie.Else1) where
-  -- the slip is named
-  named-here : Is (unnamed (tables e) (start e .args .s .0)) → ⊥
-  named-here = is-named (tables e) (start e .args .s .0) (e .before .held .ensures) (not-false _ (e .if1 .left))
+  -- where the call started, and the tables there
+  abbrev start : tie.Start
+  start = e .before .before .before
 
-  -- so it is one of the pool's, and its head a good link
-  below : start e .args .s .0 < slipTotal (tables e)
-  below = let z = start e in omega (arith, named-below (z .pre .shaped) (z .args .s .0) named-here, total-slips (whole (z .pre .shaped)))
+  abbrev tables : Tables
+  tables = decode (start .args .pool .now)
 
-  good : Is (linkOk (tables e) (headOf (tables e) (start e .args .s .0)))
-  good = start e .pre .sound .slips-ok (start e .args .s .0) below
+  -- what was looked up of the slip: it is named
+  abbrev entry : Enters tables (start .args .shape) (start .args .s .0) (e .before .enter .result)
+  entry = e .before .enter .ensures
 
-head-link-requires : tie.Need-head-link-requires
-head-link-requires c κs = let z = start c in (z .pre .shaped, named-below (z .pre .shaped) (z .args .s .0) (named-here c))
+  named-here : Is (unnamed tables (start .args .s .0)) → ⊥
+  named-here = entry .named (e .if1 .left)
+
+sub-link : tie.Need-sub-link
+sub-link c = search needs
 
 pieces-from-requires : tie.Need-pieces-from-requires
-pieces-from-requires c κs = let e = c .before in (start e .pre, subst (λ (n : ℕ). Is (linkOk (tables e) n)) (sym (c .head-link .ensures)) (good e))
+pieces-from-requires c κs = (start c .pre, entry c .good)
 
 -- the pieces counted are the chain's
-counted : (c : tie.After-pieces-from) → c .pieces-from .result ≡ length (spans (tables (c .before .before)) (start (c .before .before) .args .s .0))
-counted c = c .pieces-from .ensures ∙ ap (λ (n : ℕ). length (stretchesFrom (tables (c .before .before)) n)) (c .before .head-link .ensures)
+counted : (c : tie.After-pieces-from) → c .pieces-from .result ≡ length (spans (tables (c .before)) (start (c .before) .args .s .0))
+counted c = c .pieces-from .ensures ∙ ap (λ (n : ℕ). length (stretchesFrom (tables (c .before)) n)) (entry (c .before) .link-is)
 
 cast-if2 : tie.Need-cast-if2
 cast-if2 c = search needs
@@ -70,29 +62,29 @@ returns-2 : tie.Need-returns-2
 returns-2 c =
     let t = c .before in
     let k = t .before in
-    let e = k .before .before in
+    let e = k .before in
     begun-narrow (tables e) (start e .args .s .0) (start e .args .room) (named-here e) (c .none2 .ensures) (omega (arith, t .if2 .taken, counted k))
 
 cast-done : tie.Need-cast-done
 cast-done c = search needs
 
 done-requires : tie.Need-done-requires
-done-requires c κs = head-link-requires (c .before .before .before) κs
+done-requires c κs = let e = c .before .before in (start e .pre .shaped, entry e .below (e .if1 .left))
 
 returns-3 : tie.Need-returns-3
 returns-3 c =
     let k = c .before .before in
-    let e = k .before .before in
-    begun-done (tables e) (start e .args .s .0) (start e .args .room) (named-here e) (c .done .ensures) (k .before .head-link .ensures) (counted k) (omega (arith, c .before .if2 .left, counted k))
+    let e = k .before in
+    begun-done (tables e) (start e .args .s .0) (start e .args .room) (named-here e) (c .done .ensures) (entry e .link-is) (counted k) (omega (arith, c .before .if2 .left, counted k))
 
 pub begin-spec : {M : Type 1} → statement M
 begin-spec =
     tie.close
     (tie.spec
-    held-requires
+    enter-requires
     none-requires
     returns
-    head-link-requires
+    sub-link
     pieces-from-requires
     cast-if2
     none-requires-2

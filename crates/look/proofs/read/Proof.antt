@@ -1,5 +1,5 @@
 -- `look::read` meets its contract: the range is there where the chain from the place found has it, and its bytes are those from there on. Assumes nothing.
-use mathlib.Core.Path.{sym, ap, subst, _∙_}
+use mathlib.Core.Path.{ap, subst, _∙_}
 use mathlib.Core.List.{List}
 use Prim.Native.Nat.{ℕ, _+_, _≤_, _<_}
 use native.Mathlib.Omega.{arith}
@@ -11,62 +11,57 @@ use Rattle.rules.specs.Tables.{Tables, headOf, slipTotal}
 use Rattle.rules.specs.Bytes.{decode}
 use Rattle.rules.specs.Chain.{lengthOf}
 use Rattle.rules.specs.Sound.{linkOk}
-use Rattle.rules.specs.Sound.{linkOk}
 use Rattle.rules.specs.Rule.{unnamed}
 use Rattle.rules.specs.Read.{copied}
-use Rattle.tables.proofs.Laws.{whole, total-slips, fits-decode, storage-fits}
+use Rattle.tables.proofs.Laws.{whole, fits-decode, storage-fits}
+use Rattle.chain.specs.Enter.{Enters}
 use Rattle.chain.proofs.Spots.{Found, found-at, found-bytes}
 use Rattle.chain.proofs.Parts.{range-short, range-there, first-there}
-use Rattle.answer.proofs.Perform.{is-unnamed, is-named, named-below}
 use Rattle.look.proofs.Perform.{read-slip, read-range, read-narrow, read-done}
 use Rattle.look.proofs.read.Statement.{statement}
 use Rattle.look.proofs.read.Tie as tie
 
-held-requires : tie.Need-held-requires
-held-requires c κs = search needs
+enter-requires : tie.Need-enter-requires
+enter-requires c κs = search needs
 
 returns : tie.Need-returns
 returns c =
     let a = c .before .before .before .before .before .args in
-    let p = a .pool .now in
-    (read-slip p (a .storage .now) (a .output .now) (a .s .0) (a .off) (a .n) (is-unnamed (decode p) (a .s .0) (c .before .held .ensures) (not-true _ (c .if1 .taken))), tt)
-
--- where the call started, and the tables there
-abbrev start : tie.Else1 → tie.Start
-start e = e .before .before .before .before .before
-
-abbrev tables : tie.Else1 → Tables
-tables e = decode (start e .args .pool .now)
+    (read-slip (a .pool .now) (a .storage .now) (a .output .now) (a .s .0) (a .off) (a .n) (c .before .enter .ensures .strange (c .if1 .taken)), tt)
 
 module _ (e : tie.Else1) where
-  -- the slip is named
-  named-here : Is (unnamed (tables e) (start e .args .s .0)) → ⊥
-  named-here = is-named (tables e) (start e .args .s .0) (e .before .held .ensures) (not-false _ (e .if1 .left))
+  -- where the call started, and the tables there
+  abbrev start : tie.Start
+  start = e .before .before .before .before .before
 
-  -- so it is one of the pool's, and its head a good link
-  below : start e .args .s .0 < slipTotal (tables e)
-  below = let z = start e in omega (arith, named-below (z .pre .0 .shaped) (z .args .s .0) named-here, total-slips (whole (z .pre .0 .shaped)))
+  abbrev tables : Tables
+  tables = decode (start .args .pool .now)
 
-  good : Is (linkOk (tables e) (headOf (tables e) (start e .args .s .0)))
-  good = start e .pre .0 .sound .slips-ok (start e .args .s .0) below
+  -- what was looked up of the slip: it is named, and one of the pool's
+  abbrev entry : Enters tables (start .args .shape) (start .args .s .0) (e .before .enter .result)
+  entry = e .before .enter .ensures
 
-head-link-requires : tie.Need-head-link-requires
-head-link-requires c κs = let z = start c in (z .pre .0 .shaped, named-below (z .pre .0 .shaped) (z .args .s .0) (named-here c))
+  named-here : Is (unnamed tables (start .args .s .0)) → ⊥
+  named-here = entry .named (e .if1 .left)
+
+  below : start .args .s .0 < slipTotal tables
+  below = entry .inside (e .if1 .left)
+
+sub-head : tie.Need-sub-head
+sub-head c = search needs
 
 find-requires : tie.Need-find-requires
-find-requires c κs =
-    let e = c .before in
-    (start e .pre .0, subst (λ (n : ℕ). Is (linkOk (tables e) n)) (sym (c .head-link .ensures)) (good e))
+find-requires c κs = (start c .pre .0, entry c .good)
 
 -- the place where the range starts
 abbrev from : tie.After-find → tie.Else1
-from f = f .before .before
+from f = f .before
 
 place : (f : tie.After-find) → let z = start (from f) in Found (tables (from f)) (headOf (tables (from f)) (z .args .s .0)) (z .args .off) (f .find .result)
 place f =
     let e = from f in
     let z = start e in
-    found-at (tables e) (z .args .s .0) (z .args .off) (f .before .head-link .ensures) (f .find .ensures) (z .pre .0 .sound) (below e)
+    found-at (tables e) (z .args .s .0) (z .args .off) (entry e .link-is) (f .find .ensures) (z .pre .0 .sound) (below e)
 
 cast-part-of : tie.Need-cast-part-of
 cast-part-of c = search needs
@@ -115,7 +110,9 @@ copy-out-requires c κs =
     )
 
 done-requires : tie.Need-done-requires
-done-requires c κs = head-link-requires (from (counted (c .before .before .before .before .before) .before)) κs
+done-requires c κs =
+    let e = from (counted (c .before .before .before .before .before) .before) in
+    (start e .pre .0 .shaped, entry e .below (e .if1 .left))
 
 same-length : tie.Need-same-length
 same-length c = search needs
@@ -133,7 +130,8 @@ returns-4 c =
     let st = a .storage .now in
     let T = tables e in
     let fit = storage-fits (whole (z .pre .0 .shaped)) (z .pre .1) in
-    let bytes = found-bytes T (z .pre .0 .sound) (headOf T (a .s .0)) (a .off) (f .find .result) (good e) (place f) st fit in
+    let good = subst (λ (n : ℕ). Is (linkOk T n)) (entry e .link-is) (entry e .good) in
+    let bytes = found-bytes T (z .pre .0 .sound) (headOf T (a .s .0)) (a .off) (f .find .result) good (place f) st fit in
     let same = fits-decode p (λ i. omega (arith, y .shared-slice-known .given i)) (z .pre .0 .shaped .fits) in (
       read-done p st (a .output .now) (a .s .0) (a .off) (a .n) (named-here e) (in-range (r .before)) (c .done .ensures) (omega (arith, r .if3 .left)) same
           (g .copy-out .ensures .0 ∙ ap (λ (l : List ℕ). copied (take (a .n) l) (a .output .now)) bytes),
@@ -144,9 +142,9 @@ pub read-spec : {M : Type 1} → statement M
 read-spec =
     tie.close
     (tie.spec
-    held-requires
+    enter-requires
     returns
-    head-link-requires
+    sub-head
     find-requires
     cast-part-of
     add-part-of

@@ -1,6 +1,6 @@
 -- `pack::pack` meets its contract. Assumes nothing.
-use mathlib.Core.Path.{_≡_, sym, ap, subst, _∙_}
-use Prim.Native.Nat.{ℕ, _≤_, _<_}
+use mathlib.Core.Path.{_≡_, sym, ap, _∙_}
+use Prim.Native.Nat.{ℕ, _-_, _≤_, _<_}
 use native.Mathlib.Omega.{arith}
 use lib.ListN.{length}
 use lib.Dec.{leb}
@@ -10,72 +10,63 @@ use Rattle.rules.specs.Basics.{Is}
 use Rattle.rules.specs.Tables.{Tables, pieceTotal, bufferTotal}
 use Rattle.rules.specs.Bytes.{decode}
 use Rattle.rules.specs.Chain.{walk, chain, lengthOf, total}
-use Rattle.rules.specs.Sound.{linkOk}
 use Rattle.rules.specs.Room.{isFree, isUnheld, freePieces, freeBuffers}
 use Rattle.rules.specs.Build.{buffersFor}
 use Rattle.rules.specs.Rule.{unnamed}
-use Rattle.tables.proofs.Laws.{whole, total-slips, total-buffers}
+use Rattle.tables.proofs.Laws.{whole, total-buffers}
+use Rattle.chain.specs.Enter.{Enters}
 use Rattle.chain.specs.Length.{stretchesFrom}
 use Rattle.room.specs.Free.{lowestFor}
 use Rattle.room.proofs.Free.{count-most, room-lowest, room-enough}
-use Rattle.answer.proofs.Perform.{is-unnamed, is-named, named-below}
 use Rattle.pack.proofs.Laws.{Found, new-small, new-held, new-after, new-bytes, pack-slip, pack-whole, pack-pieces, pack-buffers, pack-done}
 use Rattle.pack.proofs.pack.Statement.{statement}
 use Rattle.pack.proofs.pack.Tie as tie
 
-held-requires : tie.Need-held-requires
-held-requires c κs = search needs
+enter-requires : tie.Need-enter-requires
+enter-requires c κs = search needs
 
 same-length : tie.Need-same-length
 same-length c = search needs
 
 returns : tie.Need-returns
 returns c =
-    let z = c .before .before .before .before .before in
-    let p = z .args .pool .now in
-    let s = z .args .s .0 in
-    (pack-slip p (z .args .storage .now) s (is-unnamed (decode p) s (c .before .held .ensures) (not-true _ (c .if1 .taken))), tt)
+    let a = c .before .before .before .before .before .args in
+    (pack-slip (a .pool .now) (a .storage .now) (a .s .0) (c .before .enter .ensures .strange (c .if1 .taken)), tt)
 
--- where the call started, and the tables there
-abbrev start : tie.Else1 → tie.Start
-start e = e .before .before .before .before .before
+module _ (e : tie.Else1) where
+  -- where the call started, and the tables there
+  abbrev start : tie.Start
+  start = e .before .before .before .before .before
 
-abbrev tables : tie.Else1 → Tables
-tables e = decode (start e .args .pool .now)
+  abbrev tables : Tables
+  tables = decode (start .args .pool .now)
 
--- the slip is named
-named-here : (e : tie.Else1) → Is (unnamed (tables e) (start e .args .s .0)) → ⊥
-named-here e = is-named (tables e) (start e .args .s .0) (e .before .held .ensures) (not-false _ (e .if1 .left))
+  -- what was looked up of the slip: it is named, and one of the pool's
+  abbrev head : ℕ
+  head = e .before .enter .result - 1
 
-below : (e : tie.Else1) → start e .args .s .0 < start e .args .shape .slips
-below e = named-below (start e .pre .0 .shaped) (start e .args .s .0) (named-here e)
+  abbrev entry : Enters tables (start .args .shape) (start .args .s .0) (e .before .enter .result)
+  entry = e .before .enter .ensures
 
-head-link-requires : tie.Need-head-link-requires
-head-link-requires c κs = let e = c .before in (start e .pre .0 .shaped, below e)
+  named-here : Is (unnamed tables (start .args .s .0)) → ⊥
+  named-here = entry .named (e .if1 .left)
 
--- the link to the head is good
-head-good : (c : tie.After-head-link) → Is (linkOk (tables (c .before .before)) (c .head-link .result))
-head-good c =
-    let e = c .before .before in
-    let z = start e in
-    subst (λ (x : ℕ). Is (linkOk (tables e) x)) (sym (c .head-link .ensures)) (z .pre .0 .sound .slips-ok (z .args .s .0) (omega (arith, below e, total-slips (whole (z .pre .0 .shaped)))))
+  below : start .args .s .0 < start .args .shape .slips
+  below = entry .below (e .if1 .left)
+
+  -- the chain from the head is the slip's
+  same-chain : length (walk (pieceTotal tables) tables head) ≡ length (chain tables (start .args .s .0))
+  same-chain = ap (λ (x : ℕ). length (walk (pieceTotal tables) tables x)) (entry .link-is)
+
+sub-head : tie.Need-sub-head
+sub-head c = search needs
 
 scattered-requires : tie.Need-scattered-requires
-scattered-requires c κs =
-    let l = c .before in
-    let good = head-good l in
-    (start (l .before .before) .pre .0, search needs)
+scattered-requires c κs = let e = c .before in (start e .pre .0, entry e .good)
 
--- the head's link, where the chain was tested, and the slip
-abbrev links : tie.After-scattered → tie.After-head-link
-links a = a .before .before
-
+-- from where the chain was tested
 abbrev from : tie.After-scattered → tie.Else1
-from a = links a .before .before
-
--- the chain from the head is the slip's
-same-chain : (a : tie.After-scattered) → length (walk (pieceTotal (tables (from a))) (tables (from a)) (links a .head-link .result)) ≡ length (chain (tables (from a)) (start (from a) .args .s .0))
-same-chain a = ap (λ (x : ℕ). length (walk (pieceTotal (tables (from a))) (tables (from a)) x)) (links a .head-link .ensures)
+from a = a .before .before
 
 done-requires : tie.Need-done-requires
 done-requires c κs = let e = from (c .before .before) in (start e .pre .0 .shaped, below e)
@@ -91,22 +82,20 @@ returns-2 c =
     let z = start e in
     let k = e .before .before .before .before in
     let T = tables e in
-    let few = leb-true (length (walk (pieceTotal T) T (links a .head-link .result))) 1 (not-false _ (sym (a .scattered .ensures) ∙ not-true _ (t .if2 .taken))) in (
-      pack-whole (z .args .pool .now) (z .args .storage .now) (z .args .s .0) (named-here e) (omega (arith, few, same-chain a)) (c .done .ensures) (λ i. omega (arith, k .slice-known .given i)) (whole (z .pre .0 .shaped)),
+    let few = leb-true (length (walk (pieceTotal T) T (head e))) 1 (not-false _ (sym (a .scattered .ensures) ∙ not-true _ (t .if2 .taken))) in (
+      pack-whole (z .args .pool .now) (z .args .storage .now) (z .args .s .0) (named-here e) (omega (arith, few, same-chain e)) (c .done .ensures) (λ i. omega (arith, k .slice-known .given i)) (whole (z .pre .0 .shaped)),
       rw (c .done .ensures),
     )
 
 -- the chain has more than one piece
 many : (c : tie.Else2) → let e = from (c .before) in 1 < length (chain (tables e) (start e .args .s .0))
 many c =
-    let a = c .before in
-    let T = tables (from a) in
-    omega (arith, leb-false (length (walk (pieceTotal T) T (links a .head-link .result))) 1 (not-true _ (sym (a .scattered .ensures) ∙ not-false _ (c .if2 .left))), same-chain a)
+    let e = from (c .before) in
+    let T = tables e in
+    omega (arith, leb-false (length (walk (pieceTotal T) T (head e))) 1 (not-true _ (sym (c .before .scattered .ensures) ∙ not-false _ (c .if2 .left))), same-chain e)
 
 bytes-from-requires : tie.Need-bytes-from-requires
-bytes-from-requires c κs =
-    let a = c .before .before in
-    (start (from a) .pre .0, head-good (links a))
+bytes-from-requires c κs = let e = from (c .before .before) in (start e .pre .0, entry e .good)
 
 cast-buffers-for : tie.Need-cast-buffers-for
 cast-buffers-for c = search needs
@@ -126,7 +115,7 @@ module _ (b : tie.After-buffers-for) where
   here = from (more .before)
 
   whole-length : lengths .bytes-from .result ≡ lengthOf (tables here) (start here .args .s .0)
-  whole-length = lengths .bytes-from .ensures ∙ ap (λ (x : ℕ). total (stretchesFrom (tables here) x)) (links (more .before) .head-link .ensures)
+  whole-length = lengths .bytes-from .ensures ∙ ap (λ (x : ℕ). total (stretchesFrom (tables here) x)) (entry here .link-is)
 
   counted : b .buffers-for .result ≡ buffersFor (lengthOf (tables here) (start here .args .s .0))
   counted = b .buffers-for .ensures ∙ ap buffersFor whole-length
@@ -226,11 +215,10 @@ refill-requires : tie.Need-refill-requires
 refill-requires c κs =
     let e4 = c .before .before in
     let b = sized e4 in
-    let l = links (more b .before) in
     let z = start (at e4) in
     let T = tables (at e4) in
     let i = lowest-buffer e4 ∙ ap (λ (k : ℕ). lowestFor (isUnheld T) k (bufferTotal T)) (b .buffers-for .ensures) in
-    ((z .pre .0, head-good l), ((z .pre .1, omega (arith, lengths b .bytes-from .ensures)), (omega (arith, buffers-room e4, b .buffers-for .ensures), i)))
+    ((z .pre .0, entry (at e4) .good), ((z .pre .1, omega (arith, lengths b .bytes-from .ensures)), (omega (arith, buffers-room e4, b .buffers-for .ensures), i)))
 
 -- where the pieces were laid
 abbrev room : tie.After-lay → tie.Else4
@@ -278,14 +266,13 @@ returns-5 c =
     let e4 = room y in
     let e3 = enough e4 in
     let b = sized e4 in
-    let l = links (more b .before) in
     let e = at e4 in
     let z = start e in
     let a = z .args in
     let f = found e4 in (
       pack-done (a .pool .now) (a .storage .now) (a .s .0) (named-here e) (many (more b)) (omega (arith, pieces-room e3, counted b)) (omega (arith, buffers-room e4, counted b)) (c .done2 .ensures)
           (λ i. omega (arith, k .slice-known5 .given i)) (new-after f (y .lay .ensures .0) (y .lay .ensures .1) _ (t .turn .ensures))
-          (new-bytes f (a .storage .now) (z .pre .1) (head-good l) (l .head-link .ensures) (w .refill .ensures)),
+          (new-bytes f (a .storage .now) (z .pre .1) (entry e .good) (entry e .link-is) (w .refill .ensures)),
       rw (c .done2 .ensures),
     )
 
@@ -293,10 +280,10 @@ pub pack-spec : {M : Type 1} → statement M
 pack-spec =
     tie.close
     (tie.spec
-    held-requires
+    enter-requires
     same-length
     returns
-    head-link-requires
+    sub-head
     scattered-requires
     done-requires
     same-length-2

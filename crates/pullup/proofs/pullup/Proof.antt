@@ -1,6 +1,6 @@
 -- `pullup::pullup` meets its contract. Assumes nothing.
 use mathlib.Core.Path.{_≡_, sym, ap, subst, _∙_}
-use Prim.Native.Nat.{ℕ, _+_, _≤_, _<_}
+use Prim.Native.Nat.{ℕ, _+_, _-_, _≤_, _<_}
 use native.Mathlib.Omega.{arith}
 use lib.ListN.{length}
 use lib.Dec.{ltb, leb}
@@ -8,29 +8,28 @@ use borrow.Author.Needs.{needs}
 use borrow.Author.Tests.{not-true, not-false, leb-true, leb-false}
 use Rattle.kinds.specs.Limits.{bufferSize}
 use Rattle.rules.specs.Basics.{Is}
-use Rattle.rules.specs.Tables.{Tables, headOf, slipTotal, pieceTotal, bufferTotal}
+use Rattle.rules.specs.Tables.{Tables, slipTotal, pieceTotal, bufferTotal}
 use Rattle.rules.specs.Bytes.{decode}
 use Rattle.rules.specs.Chain.{spans, firstLength, lengthOf}
-use Rattle.rules.specs.Sound.{linkOk}
 use Rattle.rules.specs.Room.{isFree, isUnheld, freePieces, freeBuffers}
 use Rattle.rules.specs.Build.{Plan}
 use Rattle.rules.specs.Rule.{unnamed}
 use Rattle.rules.specs.Drop.{dropped}
 use Rattle.rules.proofs.Logic.{not-less}
-use Rattle.tables.proofs.Laws.{whole, total-slips, total-buffers}
+use Rattle.tables.proofs.Laws.{whole, total-buffers}
+use Rattle.chain.specs.Enter.{Enters}
 use Rattle.chain.specs.Length.{stretchesFrom}
 use Rattle.chain.specs.Find.{pastEnd}
 use Rattle.chain.proofs.Spots.{past-range}
 use Rattle.room.proofs.Free.{first-lies, no-buffer, buffer-first, lowest-some, room-lowest, room-enough}
-use Rattle.answer.proofs.Perform.{is-unnamed, is-named, named-below}
 use Rattle.rest.proofs.Dropped.{dropped-at}
 use Rattle.pullup.specs.Pull.{Pullable}
 use Rattle.pullup.proofs.Laws.{pullup-slip, pullup-long, pullup-range, pullup-nothing, pullup-pieces, pullup-buffers, pullup-done}
 use Rattle.pullup.proofs.pullup.Statement.{statement}
 use Rattle.pullup.proofs.pullup.Tie as tie
 
-held-requires : tie.Need-held-requires
-held-requires c κs = search needs
+enter-requires : tie.Need-enter-requires
+enter-requires c κs = search needs
 
 same-length : tie.Need-same-length
 same-length c = search needs
@@ -38,8 +37,7 @@ same-length c = search needs
 returns : tie.Need-returns
 returns c =
     let a = c .before .before .before .before .before .args in
-    let p = a .pool .now in
-    (pullup-slip p (a .storage .now) (a .s .0) (a .n) (is-unnamed (decode p) (a .s .0) (c .before .held .ensures) (not-true _ (c .if1 .taken))), tt)
+    (pullup-slip (a .pool .now) (a .storage .now) (a .s .0) (a .n) (c .before .enter .ensures .strange (c .if1 .taken)), tt)
 
 -- ---- the slip is named
 
@@ -54,19 +52,18 @@ module _ (e : tie.Else1) where
   abbrev slip : ℕ
   slip = start .args .s .0
 
-  -- it is not vacant, and one of the pool's
+  -- what was looked up of it: it is not vacant, and one of the pool's
+  abbrev entry : Enters tables (start .args .shape) slip (e .before .enter .result)
+  entry = e .before .enter .ensures
+
   named-here : Is (unnamed tables slip) → ⊥
-  named-here = is-named tables slip (e .before .held .ensures) (not-false _ (e .if1 .left))
+  named-here = entry .named (e .if1 .left)
 
   below : slip < start .args .shape .slips
-  below = named-below (start .pre .0 .shaped) slip named-here
+  below = entry .below (e .if1 .left)
 
   inside : slip < slipTotal tables
-  inside = omega (arith, below, total-slips (whole (start .pre .0 .shaped)))
-
-  -- the head is a good link
-  good-link : {l : ℕ} → l ≡ headOf tables slip → Is (linkOk tables l)
-  good-link q = subst (λ (n : ℕ). Is (linkOk tables n)) (sym q) (start .pre .0 .sound .slips-ok slip inside)
+  inside = entry .inside (e .if1 .left)
 
 fits-requires : tie.Need-fits-requires
 fits-requires c κs = search needs
@@ -87,14 +84,11 @@ returns-2 c =
 fits-here : (c : tie.Else2) → start (c .before .before) .args .n ≤ bufferSize
 fits-here c = leb-true (start (c .before .before) .args .n) bufferSize (sym (c .before .fits2 .ensures) ∙ not-false _ (c .if2 .left))
 
-head-link-requires : tie.Need-head-link-requires
-head-link-requires c κs = let e = c .before .before .before in (start e .pre .0 .shaped, below e)
+sub-head : tie.Need-sub-head
+sub-head c = search needs
 
 find-requires : tie.Need-find-requires
-find-requires c κs =
-    let l = c .before in
-    let e = l .before .before .before .before in
-    (start e .pre .0, good-link e (l .head-link .ensures))
+find-requires c κs = let e = c .before .before .before in (start e .pre .0, entry e .good)
 
 past-end-requires : tie.Need-past-end-requires
 past-end-requires c κs = search needs
@@ -103,18 +97,14 @@ past-end-requires c κs = search needs
 
 module _ (f : tie.After-find) where
   abbrev fitting : tie.Else2
-  fitting = f .before .before .before .before
+  fitting = f .before .before
 
   abbrev from : tie.Else1
   from = fitting .before .before
 
-  -- the chain starts at the link read
-  head-is : f .before .before .head-link .result ≡ headOf (tables from) (slip from)
-  head-is = f .before .before .head-link .ensures
-
   -- it lies past the end where the chain is shorter
   past : pastEnd (f .find .result) ≡ ltb (lengthOf (tables from) (slip from)) (start from .args .n)
-  past = past-range (tables from) (slip from) (start from .args .n) head-is (f .find .ensures) (start from .pre .0 .sound) (inside from)
+  past = past-range (tables from) (slip from) (start from .args .n) (entry from .link-is) (f .find .ensures) (start from .pre .0 .sound) (inside from)
 
 same-length-3 : tie.Need-same-length-3
 same-length-3 c = search needs
@@ -132,7 +122,7 @@ in-range : (c : tie.Else3) → let e = from (c .before .before) in Is (ltb (leng
 in-range c t = subst Is (sym (past (c .before .before)) ∙ sym (c .before .past-end .ensures) ∙ c .if3 .left) t
 
 in-first-requires : tie.Need-in-first-requires
-in-first-requires c κs = let f = c .before .before .before in (start (from f) .pre .0, good-link (from f) (head-is f))
+in-first-requires c κs = let e = from (c .before .before .before) in (start e .pre .0, entry e .good)
 
 -- ---- whether the first piece has them
 
@@ -148,7 +138,7 @@ module _ (k : tie.After-in-first) where
 
   -- the test of the code is that of the rule
   first-has : k .in-first .result ≡ leb (start origin .args .n) (firstLength (spans (tables origin) (slip origin)))
-  first-has = k .in-first .ensures ∙ ap (λ (l : ℕ). leb (start origin .args .n) (firstLength (stretchesFrom (tables origin) l))) (head-is there)
+  first-has = k .in-first .ensures ∙ ap (λ (l : ℕ). leb (start origin .args .n) (firstLength (stretchesFrom (tables origin) l))) (entry origin .link-is)
 
 done-requires : tie.Need-done-requires
 done-requires c κs = let e = origin (c .before .before) in (start e .pre .0 .shaped, below e)
@@ -199,8 +189,7 @@ module _ (w : tie.After-wanted) where
   -- the new pieces that drop takes
   wants : w .wanted .result ≡ length (dropped (tables first) (slip first) (start first .args .n) .more)
   wants =
-      let f = there looked in
-      w .wanted .ensures (tables first) ∙ ap (λ (p : Plan). length (p .more)) (sym (dropped-at (tables first) (slip first) (start first .args .n) (head-is f) (f .find .ensures)))
+      w .wanted .ensures (tables first) ∙ ap (λ (p : Plan). length (p .more)) (sym (dropped-at (tables first) (slip first) (start first .args .n) (entry first .link-is) (there looked .find .ensures)))
 
 -- whether there is a piece more
 enough-pieces : (p : tie.After-piece-room) → let w = p .before .before in p .piece-room .result .enough ≡ leb (w .wanted .result + 1) (length (freePieces (tables (first w))))
@@ -276,13 +265,13 @@ module _ (c : tie.Else6) where
 
   -- so the bytes can go there
   pullable : let f = there (looked (asked roomy)) in
-      Pullable (tables base) (slip base) (start base .args .n) (f .before .before .head-link .result) (f .find .result) (roomy .before .before .piece-room .result .lowest) (lowest .next-free-buffer .result)
+      Pullable (tables base) (slip base) (start base .args .n) (base .before .enter .result - 1) (f .find .result) (roomy .before .before .piece-room .result .lowest) (lowest .next-free-buffer .result)
   pullable =
       let w = asked roomy in
       let f = there (looked w) in
       record {
         named = inside base;
-        starts = head-is f;
+        starts = entry base .link-is;
         place = f .find .ensures;
         fits = fits-here (fitting f);
         enough = not-less _ _ (in-range (ranged (looked w)));
@@ -325,13 +314,13 @@ pub pullup-spec : {M : Type 1} → statement M
 pullup-spec =
     tie.close
     (tie.spec
-    held-requires
+    enter-requires
     same-length
     returns
     fits-requires
     same-length-2
     returns-2
-    head-link-requires
+    sub-head
     find-requires
     past-end-requires
     same-length-3
