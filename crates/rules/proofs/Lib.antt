@@ -45,5 +45,6 @@ pub mod Bounds
 pub mod Bytes
 pub mod Step
 pub mod RoundTrip
+pub mod Answers
 pub mod Demand
 pub mod Morning

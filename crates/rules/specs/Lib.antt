@@ -30,4 +30,5 @@ pub mod Recount
 pub mod Demand
 pub mod After
 pub mod Takes
+pub mod Answers
 pub mod Morning

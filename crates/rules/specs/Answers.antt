@@ -1,0 +1,53 @@
+-- What a call answers: its number, in what callers see, and what a no leaves.
+use mathlib.Core.Path.{_≡_}
+use mathlib.Core.Logic.{_≢_}
+use mathlib.Core.Bool.{not}
+use Prim.Native.Nat.{ℕ, _<_}
+use lib.ListN.{length}
+use Rattle.rules.specs.Basics.{Is}
+use Rattle.rules.specs.Tables.{Tables, slipTotal}
+use Rattle.rules.specs.Chain.{State, chain, reads}
+use Rattle.rules.specs.Sound.{Lent}
+use Rattle.rules.specs.Room.{isVacant}
+use Rattle.rules.specs.Step.{Operation, Audit, Put, Free, Dup, Cut, Append, Drop, Keep, Pullup, Pack, Length, Read, Show, WireList}
+use Rattle.rules.specs.Step.{Call, Open, Do, lentTo, Result, stateIn}
+
+-- t is the lowest vacant slip
+abbrev pub LowestVacant : Tables → ℕ → Type 0
+LowestVacant T t = (t < slipTotal T) × Is (isVacant T t) × ((u : ℕ) → u < t → Is (not (isVacant T u)))
+
+-- n is the number of a done operation on S: a new slip, a count of bytes or of pieces, or 0
+abbrev pub Answered : Operation → State → ℕ → Type 0
+Answered Audit S n = n ≡ 0
+Answered (Put input) S n = LowestVacant (S .tables) n
+Answered (Free s) S n = n ≡ 0
+Answered (Dup s) S n = LowestVacant (S .tables) n
+Answered (Cut s off k) S n = LowestVacant (S .tables) n
+Answered (Append a b) S n = n ≡ 0
+Answered (Drop s k) S n = n ≡ 0
+Answered (Keep s k) S n = n ≡ 0
+Answered (Pullup s k) S n = n ≡ 0
+Answered (Pack s) S n = n ≡ 0
+Answered (Length s) S n = n ≡ length (reads S s)
+Answered (Read s off k out) S n = n ≡ k
+Answered (Show s k scratch) S n = n ≡ k
+Answered (WireList s list) S n = n ≡ length (chain (S .tables) s)
+
+-- the number of a done call on m
+abbrev pub AnsweredBy : Call → Lent → ℕ → Type 0
+AnsweredBy (Open B P S) m n = n ≡ 0
+AnsweredBy (Do o) m n = Answered o (stateIn m) n
+
+-- Whatever c was lent is as before, and nothing is answered or shown.
+pub record Unaltered (c : Call) (m : Lent) (r : Result) : Type 0 where
+  pub number : r .number ≡ 0
+  pub pool : r .pool ≡ m .pool
+  pub storage : r .storage ≡ m .storage
+  pub output : r .output ≡ lentTo c
+  pub in-scratch : r .view .inScratch ≡ 0
+  pub start : r .view .start ≡ 0
+
+-- The claim about the result r of a call c on any bytes m, proved in proofs/Answers.antt.
+pub record Numbers (c : Call) (m : Lent) (r : Result) : Type 0 where
+  pub when-done : r .code ≡ 0 → AnsweredBy c m (r .number)
+  pub when-refused : r .code ≢ 0 → Unaltered c m r
