@@ -47,4 +47,5 @@ pub mod Step
 pub mod RoundTrip
 pub mod Answers
 pub mod Demand
+pub mod Lists
 pub mod Morning

@@ -31,4 +31,5 @@ pub mod Demand
 pub mod After
 pub mod Takes
 pub mod Answers
+pub mod Lists
 pub mod Morning
