@@ -48,4 +48,5 @@ pub mod RoundTrip
 pub mod Answers
 pub mod Demand
 pub mod Lists
+pub mod Stays
 pub mod Morning

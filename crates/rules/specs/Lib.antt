@@ -32,4 +32,5 @@ pub mod After
 pub mod Takes
 pub mod Answers
 pub mod Lists
+pub mod Stays
 pub mod Morning
