@@ -49,4 +49,5 @@ pub mod Answers
 pub mod Demand
 pub mod Lists
 pub mod Stays
+pub mod Own
 pub mod Morning

@@ -3,13 +3,13 @@ use mathlib.Core.Path.{_≡_, refl, sym, ap, subst, _∙_}
 use mathlib.Core.Logic.{_↔_}
 use mathlib.Core.Bool.{Bool, true, not}
 use mathlib.Core.List.{List, [], _∷_}
-use Prim.Native.Nat.{ℕ, suc, _≤_, _<_}
+use Prim.Native.Nat.{ℕ, _≤_}
 use native.Mathlib.Decide.{ℕ-discrete}
 use native.Mathlib.Omega.{arith}
 use lib.ListN.{length, length-take, length-drop, take}
 use lib.Dec.{eqb, leb, leb→le, le→leb, T-not}
 use Rattle.rules.specs.Basics.{Is}
-use Rattle.rules.specs.Tables.{Tables, piece, slipTotal, pieceTotal, bufferTotal}
+use Rattle.rules.specs.Tables.{Tables, piece, bufferTotal}
 use Rattle.rules.specs.Bytes.{encode}
 use Rattle.rules.specs.Chain.{Stretch, State, chain, stretches, spans, total, firstLength, lengthOf, reads}
 use Rattle.rules.specs.Sound.{Lent, headerOk, sound, lent}
