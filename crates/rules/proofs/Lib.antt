@@ -50,4 +50,5 @@ pub mod Demand
 pub mod Lists
 pub mod Stays
 pub mod Own
+pub mod Fills
 pub mod Morning

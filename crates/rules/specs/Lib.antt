@@ -33,4 +33,5 @@ pub mod Takes
 pub mod Answers
 pub mod Lists
 pub mod Stays
+pub mod Fills
 pub mod Morning
