@@ -1,27 +1,29 @@
 -- The number that each call answers, and what a no leaves. Assumes nothing.
 use mathlib.Core.Path.{_≡_, refl, ap, subst, sym}
 use mathlib.Core.Bool.{Bool}
-use mathlib.Core.List.{List, _∷_}
+use mathlib.Core.List.{List, [], _∷_}
 use Prim.Native.Nat.{ℕ, zero, suc, _≤_, _<_}
 use native.Mathlib.Decide.{ℕ-discrete}
 use native.Mathlib.Omega.{arith}
 use lib.ListN.{length, getD}
-use lib.Dec.{not-T}
+use lib.Dec.{not-T, eqb, eqb→eq, leb, leb→le}
 use Rattle.rules.specs.Basics.{Is, places}
 use Rattle.rules.specs.Tables.{Tables, bufferTotal}
-use Rattle.rules.specs.Chain.{State, chain}
+use Rattle.rules.specs.Chain.{Stretch, State, chain, spans, total, firstLength, positionOf}
 use Rattle.rules.specs.Sound.{Lent}
 use Rattle.rules.specs.Room.{isVacant, vacantSlips, newSlip}
+use Rattle.rules.specs.Rule.{noView}
+use Rattle.rules.specs.Show.{scattered, viewOf}
 use Rattle.rules.specs.Step.{Operation, Audit, Put, Free, Dup, Cut, Append, Drop, Keep, Pullup, Pack, Length, Read, Show, WireList}
-use Rattle.rules.specs.Step.{Call, Open, Do, rule, Result, step, stateIn}
-use Rattle.rules.specs.Answers.{LowestVacant, Answered, AnsweredBy, Numbers}
-use Rattle.rules.proofs.Logic.{if-either}
+use Rattle.rules.specs.Step.{Call, Open, Do, rule, Result, step, stateIn, done}
+use Rattle.rules.specs.Answers.{LowestVacant, Answered, AnsweredBy, Numbers, Shown}
+use Rattle.rules.proofs.Logic.{if-T, if-F, if-either, not-not}
 use Rattle.rules.proofs.Moves.{SoundNow}
 use Rattle.rules.proofs.Room.{new-slip-ok}
 use Rattle.rules.proofs.Hang.{stretches-length}
 use Rattle.rules.proofs.Contents.{Fit}
 use Rattle.rules.proofs.Audit.{sound-now}
-use Rattle.rules.proofs.Codes.{Allowed, allowed}
+use Rattle.rules.proofs.Codes.{Allowed, allowed, not-leb-is, no-cause}
 use Rattle.rules.proofs.After.{reads-length}
 use Rattle.rules.proofs.Lawful.{new-vacant}
 use Rattle.rules.proofs.Step.{alters-nothing, did, sound-within}
@@ -91,3 +93,43 @@ numbers c m = record {
         start = ap (λ (x : Result). x .view .start) e;
       });
 }
+
+-- ---- the view
+
+view-shown : (Z : List ℕ) (xs : List Stretch) (n : ℕ) → n ≤ total xs → Shown Z xs n (viewOf Z xs n)
+unfolding viewOf total
+view-shown Z [] n l =
+    record { in-storage = omega arith; at-first = λ x ys e h k. absurd (omega arith); at-none = λ _. refl; in-scratch = λ h. absurd (omega arith) }
+view-shown Z (x ∷ xs) zero l =
+    subst (Shown Z (x ∷ xs) 0) (sym (if-T (eqb 0 0) noView _ tt))
+    (record { in-storage = omega arith; at-first = λ y ys e h k. absurd (omega arith); at-none = λ _. refl; in-scratch = λ h. absurd (omega arith) })
+view-shown Z (x ∷ xs) (suc n) l =
+    subst (Shown Z (x ∷ xs) (suc n)) (sym (if-F (eqb (suc n) 0) _ _ (λ t. omega (arith, eqb→eq (suc n) 0 t))))
+    (if-either (Shown Z (x ∷ xs) (suc n)) (scattered (x ∷ xs) (suc n)) _ _
+    (λ t. (
+    let u = simp not-leb-is at t in
+    record {
+      in-storage = omega arith;
+      at-first = λ y ys e h k. absurd (omega (arith, ap firstLength e));
+      at-none = λ e. absurd (omega arith);
+      in-scratch = λ _. (refl, refl);
+    }))
+    (λ t. (
+    let u = leb→le (suc n) (x .len) (not-not (leb (suc n) (x .len)) t) in
+    record {
+      in-storage = omega arith;
+      at-first = λ y ys e h k. ap (λ l. positionOf Z (getD l 0 x)) e;
+      at-none = λ e. absurd (omega arith);
+      in-scratch = λ h. absurd (omega arith);
+    })))
+
+-- the view of a done show
+pub show-view : (s n : ℕ) (scratch : List ℕ) (m : Lent) → step (Do (Show s n scratch)) m .code ≡ 0
+    → Shown (stateIn m .tables .stock) (spans (stateIn m .tables) s) n (step (Do (Show s n scratch)) m .view)
+unfolding rule done
+show-view s n scratch m e =
+    let d = did (Show s n scratch) m e in
+    let S = stateIn m in
+    let c = simp no-cause at (allowed (rule (Show s n scratch) S) (S .tables) (d .allowed-code) .early) in
+    subst (Shown (S .tables .stock) (spans (S .tables) s) n) (sym (ap (λ (x : Result). x .view) (d .result)))
+    (view-shown (S .tables .stock) (spans (S .tables) s) n (omega arith))

@@ -1,14 +1,16 @@
 -- What a call answers: its number, in what callers see, and what a no leaves.
 use mathlib.Core.Path.{_≡_}
-use mathlib.Core.Logic.{_≢_}
+use mathlib.Core.Logic.{_≢_, _↔_}
 use mathlib.Core.Bool.{not}
-use Prim.Native.Nat.{ℕ, _<_}
+use mathlib.Core.List.{List, _∷_}
+use Prim.Native.Nat.{ℕ, _≤_, _<_}
 use lib.ListN.{length}
 use Rattle.rules.specs.Basics.{Is}
 use Rattle.rules.specs.Tables.{Tables, slipTotal}
-use Rattle.rules.specs.Chain.{State, chain, reads}
+use Rattle.rules.specs.Chain.{State, Stretch, chain, firstLength, positionOf, reads}
 use Rattle.rules.specs.Sound.{Lent}
 use Rattle.rules.specs.Room.{isVacant}
+use Rattle.rules.specs.Rule.{View}
 use Rattle.rules.specs.Step.{Operation, Audit, Put, Free, Dup, Cut, Append, Drop, Keep, Pullup, Pack, Length, Read, Show, WireList}
 use Rattle.rules.specs.Step.{Call, Open, Do, lentTo, Result, stateIn}
 
@@ -51,3 +53,11 @@ pub record Unaltered (c : Call) (m : Lent) (r : Result) : Type 0 where
 pub record Numbers (c : Call) (m : Lent) (r : Result) : Type 0 where
   pub when-done : r .code ≡ 0 → AnsweredBy c m (r .number)
   pub when-refused : r .code ≢ 0 → Unaltered c m r
+
+-- The view v of the first n bytes of stretches xs: in storage just where the first stretch has them; at that stretch's
+-- place, but for no bytes at 0; and else at the start of the scratch.
+pub record Shown (Z : List ℕ) (xs : List Stretch) (n : ℕ) (v : View) : Type 0 where
+  pub in-storage : (v .inScratch ≡ 0) ↔ (n ≤ firstLength xs)
+  pub at-first : (x : Stretch) (ys : List Stretch) → xs ≡ x ∷ ys → 0 < n → n ≤ x .len → v .start ≡ positionOf Z x
+  pub at-none : n ≡ 0 → v .start ≡ 0
+  pub in-scratch : firstLength xs < n → (v .inScratch ≡ 1) × (v .start ≡ 0)
