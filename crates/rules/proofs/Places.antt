@@ -26,8 +26,13 @@ module _ (p : List ℕ) where
       × (piece (decode p) d .next ≡ get16 p (11 + 2 * slipsIn p + 10 * d + 8))
   unfolding decode
   piece-at d l =
-      let e = getD-table (piecesIn p) _ d blank l in
-      (ap (λ (x : Piece). x .count) e, ap (λ (x : Piece). x .buffer) e, ap (λ (x : Piece). x .offset) e, ap (λ (x : Piece). x .len) e, ap (λ (x : Piece). x .next) e)
+      let e = getD-table (piecesIn p) _ d blank l in (
+        ap (λ (x : Piece). x .count) e,
+        ap (λ (x : Piece). x .buffer) e,
+        ap (λ (x : Piece). x .offset) e,
+        ap (λ (x : Piece). x .len) e,
+        ap (λ (x : Piece). x .next) e,
+      )
 
   -- the count of buffer b
   pub count-at : (b : ℕ) → b < buffersIn p → bufferCount (decode p) b ≡ get16 p (11 + 2 * slipsIn p + 10 * piecesIn p + 2 * b)
