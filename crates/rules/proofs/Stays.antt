@@ -15,7 +15,7 @@ use Rattle.rules.specs.Chain.{Stretch, State, chain, stretches, spans, t
 use Rattle.rules.specs.Sound.{Lent, headerOk, sound, lent}
 use Rattle.rules.specs.Room.{isVacant}
 use Rattle.rules.specs.Build.{Plan, buffersFor}
-use Rattle.rules.specs.Rule.{Wants, want}
+use Rattle.rules.specs.Rule.{Wants, want, room, full, firstCode}
 use Rattle.rules.specs.Drop.{dropHere, dropPlan, dropped, dropAfter}
 use Rattle.rules.specs.Keep.{keepAfter}
 use Rattle.rules.specs.Pullup.{pullupAfter, pullupWants}
@@ -32,12 +32,12 @@ use Rattle.rules.proofs.Chain.{spans-good}
 use Rattle.rules.proofs.Hang.{stretches-length}
 use Rattle.rules.proofs.Contents.{Fit}
 use Rattle.rules.proofs.Audit.{sound-now}
-use Rattle.rules.proofs.Codes.{Allowed, allowed, first-named, both-named, no-cause}
+use Rattle.rules.proofs.Codes.{Allowed, Other, allowed, first-append, first-named, both-named, no-cause, none-full}
 use Rattle.rules.proofs.After.{at-here, at-there, held-false, reads-length}
 use Rattle.rules.proofs.Takes.{nothing-taken}
-use Rattle.rules.proofs.Calls.{reads-ok, takes}
+use Rattle.rules.proofs.Calls.{judged-early, reads-ok, takes}
 use Rattle.rules.proofs.Bytes.{AllBytes, header-facts, encode-decode}
-use Rattle.rules.proofs.Step.{after-state, did, next-refused, sound-within}
+use Rattle.rules.proofs.Step.{after-state, code-is, did, next-refused, sound-within}
 
 -- ---- nothing is altered or wanted
 
@@ -157,6 +157,17 @@ still-next o m b q =
           ∙ ap (λ (p : List ℕ). lent p (m .storage)) (encode-decode (m .pool) b (k .is-marked) (k .pool-long)))
       | no e ↦ next-refused (Do o) m e
     ]
+
+-- A call with nothing to do is never "full" on a sound pool.
+pub still-room : (o : Operation) (m : Lent) → Is (sound m) → Still o (stateIn m) → Other (step (Do o) m .code)
+still-room o m t q =
+    let S = stateIn m in
+    let js = rule o S .judged in
+    let w = still-stays S (sound-now m t) (sound-within m t .storage-fits) o q .1 in
+    let r = room (S .tables) in
+    let z : firstCode (full (rule o S .wants) r) ≡ 0 = ap (λ x. firstCode (full x r)) w ∙ none-full r in
+    subst Other (sym (code-is o m t ∙ first-append js (full (rule o S .wants) r)))
+    (if-either Other (eqb (firstCode js) 0) (firstCode (full (rule o S .wants) r)) (firstCode js) (λ _. omega arith) (λ _. judged-early o S))
 
 -- A done call leaves every byte just where it has nothing to do.
 pub still-exact : (o : Operation) (m : Lent) → AllBytes (m .pool) → step (Do o) m .code ≡ 0 → (next (Do o) m ≡ m) ↔ Still o (stateIn m)
