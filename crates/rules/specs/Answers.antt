@@ -6,8 +6,9 @@ use mathlib.Core.List.{List, _∷_}
 use Prim.Native.Nat.{ℕ, _≤_, _<_}
 use lib.ListN.{length}
 use Rattle.rules.specs.Basics.{Is}
-use Rattle.rules.specs.Tables.{Tables, slipTotal}
-use Rattle.rules.specs.Chain.{State, Stretch, chain, firstLength, positionOf, reads}
+use Rattle.rules.specs.Tables.{Tables, blank, slip, piece, bufferCount, slipTotal, pieceTotal, bufferTotal}
+use Rattle.rules.specs.Bytes.{decode}
+use Rattle.rules.specs.Chain.{State, Stretch, chain, spans, firstLength, positionOf, reads}
 use Rattle.rules.specs.Sound.{Lent}
 use Rattle.rules.specs.Room.{isVacant}
 use Rattle.rules.specs.Rule.{View}
@@ -61,3 +62,43 @@ pub record Shown (Z : List ℕ) (xs : List Stretch) (n : ℕ) (v : View) : Type 
   pub at-first : (x : Stretch) (ys : List Stretch) → xs ≡ x ∷ ys → 0 < n → n ≤ x .len → v .start ≡ positionOf Z x
   pub at-none : n ≡ 0 → v .start ≡ 0
   pub in-scratch : firstLength xs < n → (v .inScratch ≡ 1) × (v .start ≡ 0)
+
+-- no view
+abbrev pub Unseen : View → Type 0
+Unseen v = (v .inScratch ≡ 0) × (v .start ≡ 0)
+
+-- v is the view of a done operation on S: only show has one
+abbrev pub Seen : Operation → State → View → Type 0
+Seen Audit S v = Unseen v
+Seen (Put input) S v = Unseen v
+Seen (Free s) S v = Unseen v
+Seen (Dup s) S v = Unseen v
+Seen (Cut s off n) S v = Unseen v
+Seen (Append a b) S v = Unseen v
+Seen (Drop s n) S v = Unseen v
+Seen (Keep s n) S v = Unseen v
+Seen (Pullup s n) S v = Unseen v
+Seen (Pack s) S v = Unseen v
+Seen (Length s) S v = Unseen v
+Seen (Read s off n out) S v = Unseen v
+Seen (Show s n scratch) S v = Shown (S .tables .stock) (spans (S .tables) s) n v
+Seen (WireList s list) S v = Unseen v
+
+abbrev pub SeenBy : Call → Lent → View → Type 0
+SeenBy (Open B P S) m v = Unseen v
+SeenBy (Do o) m v = Seen o (stateIn m) v
+
+-- The claim about what is lent to any call and what is seen of a done one, proved in proofs/Answers.antt.
+pub record Outputs (c : Call) (m : Lent) (r : Result) : Type 0 where
+  pub as-long : length (r .output) ≡ length (lentTo c)
+  pub view-done : r .code ≡ 0 → SeenBy c m (r .view)
+
+-- What a done open leaves: B, P and S as asked, nothing held, and storage as it was.
+pub record Opened (B P S : ℕ) (m m′ : Lent) : Type 0 where
+  pub slips : slipTotal (decode (m′ .pool)) ≡ S
+  pub pieces : pieceTotal (decode (m′ .pool)) ≡ P
+  pub buffers : bufferTotal (decode (m′ .pool)) ≡ B
+  pub all-vacant : (t : ℕ) → slip (decode (m′ .pool)) t ≡ 0
+  pub all-blank : (d : ℕ) → piece (decode (m′ .pool)) d ≡ blank
+  pub none-held : (b : ℕ) → bufferCount (decode (m′ .pool)) b ≡ 0
+  pub storage : m′ .storage ≡ m .storage
