@@ -1,11 +1,23 @@
 -- Where in a pool's bytes each entry stands, in numbers written out. Assumes nothing.
-use mathlib.Core.Path.{_≡_, refl, ap}
-use mathlib.Core.List.{List}
+use mathlib.Core.Path.{_≡_, refl, sym, ap, _∙_}
+use mathlib.Core.Logic.{_↔_}
+use mathlib.Core.List.{List, [], _∷_}
 use Prim.Native.Nat.{ℕ, _+_, _*_, _<_}
+use native.Mathlib.Omega.{arith}
+use lib.ListN.{length}
 use Rattle.word.specs.Word.{get16}
+use Rattle.kinds.proofs.Sizes.{start-one}
+use Rattle.rules.specs.Basics.{Is}
+use Rattle.rules.specs.Layout.{poolLength, storageLength}
 use Rattle.rules.specs.Tables.{Piece, blank, slip, piece, bufferCount}
 use Rattle.rules.specs.Bytes.{versionIn, buffersIn, piecesIn, slipsIn, decode}
-use Rattle.rules.proofs.Bytes.{getD-table}
+use Rattle.rules.specs.Sound.{Lent, headerOk, countsOk}
+use Rattle.rules.specs.Open.{openable}
+use Rattle.rules.specs.Step.{Open, step}
+use Rattle.rules.specs.Places.{CountsAt, HeaderAt}
+use Rattle.rules.proofs.Logic.{and-intro, and-parts}
+use Rattle.rules.proofs.Bytes.{and-is, eqb-is, getD-table, counts-facts, counts-test, header-facts, header-test}
+use Rattle.rules.proofs.Step.{open-code}
 
 module _ (p : List ℕ) where
   -- the header's numbers
@@ -38,3 +50,47 @@ module _ (p : List ℕ) where
   pub count-at : (b : ℕ) → b < buffersIn p → bufferCount (decode p) b ≡ get16 p (11 + 2 * slipsIn p + 10 * piecesIn p + 2 * b)
   unfolding decode
   count-at b l = getD-table (buffersIn p) _ b 0 l
+
+-- ---- which bytes are a pool's
+
+-- a pool of B buffers, P pieces and S slips has this length, and storage that one
+pub lengths-at : (B P S : ℕ) → (poolLength B P S ≡ 11 + 2 * S + 10 * P + 2 * B) × (storageLength (B ∷ []) B ≡ 512 * B)
+lengths-at B P S = (refl, start-one (B ∷ []) B)
+
+-- A header is accepted just where its bytes are these.
+pub header-exact : (m : Lent) → Is (headerOk m) ↔ HeaderAt (m .pool) (length (m .storage))
+header-exact m = (
+  λ t. (
+      let h = header-facts m t in
+      let k = simp (and-is, eqb-is) at (h .is-marked) in
+      record {
+        mark-0 = k .0;
+        mark-1 = k .1 .0;
+        mark-2 = k .1 .1 .0;
+        version-1 = k .1 .1 .1;
+        counts = omega (arith, h .counts);
+        pool-long = h .pool-long;
+        storage-long = h .storage-long ∙ start-one _ (buffersIn (m .pool));
+      }),
+  λ h. header-test m (record {
+    is-marked = simp (and-is, eqb-is) (h .mark-0, (h .mark-1, (h .mark-2, h .version-1)));
+    counts = omega (arith, h .counts);
+    pool-long = h .pool-long;
+    storage-long = h .storage-long ∙ sym (start-one _ (buffersIn (m .pool)));
+  }),
+)
+
+-- Open is done just where its counts are in range and both lengths are these
+pub open-exact : (B P S : ℕ) (m : Lent) → (step (Open B P S) m .code ≡ 0)
+    ↔ (CountsAt B P S × (length (m .pool) ≡ 11 + 2 * S + 10 * P + 2 * B) × (length (m .storage) ≡ 512 * B))
+unfolding openable
+open-exact B P S m =
+    let o = open-code B P S m in (
+      λ e. (
+          let (c, l) = and-parts (countsOk B P S) _ (o .0 e) in
+          let k = simp (and-is, eqb-is) at l in
+          let r = counts-facts B P S c in
+          (omega arith, k .0, k .1 ∙ start-one _ B)),
+      λ h. o .1 (and-intro (countsOk B P S) _ (counts-test {B = B} {P = P} {S = S} (omega (arith, h .0)))
+          (simp (and-is, eqb-is) (h .1, h .2 ∙ sym (start-one _ B)))),
+    )

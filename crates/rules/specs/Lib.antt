@@ -34,4 +34,5 @@ pub mod Answers
 pub mod Lists
 pub mod Stays
 pub mod Fills
+pub mod Places
 pub mod Morning
