@@ -1,4 +1,4 @@
--- The number that each call answers, and what a no leaves. Assumes nothing.
+-- The number that each call answers, what it was lent and its view, what a no leaves, and what open leaves. Assumes nothing.
 use mathlib.Core.Path.{_≡_, refl, sym, ap, subst, _∙_}
 use mathlib.Core.Bool.{Bool}
 use mathlib.Core.List.{List, [], _∷_}

@@ -1,5 +1,5 @@
 -- The bytes of a filled buffer, and that new buffers hold what was stored and then zeros. Assumes nothing.
-use mathlib.Core.Path.{_≡_, refl, sym, ap, ap₂, _∙_}
+use mathlib.Core.Path.{_≡_, refl, sym, ap, ap₂, subst, _∙_}
 use mathlib.Core.Bool.{Bool}
 use mathlib.Core.List.{List, [], _∷_, _++_, append-assoc, append-nil}
 use Prim.Native.Nat.{ℕ, suc, _+_, _-_, _*_, _≤_, _<_}
@@ -13,6 +13,7 @@ use Rattle.kinds.specs.Limits.{bufferSize}
 use Rattle.kinds.specs.Sizes.{sizeOf, startOf}
 use Rattle.kinds.proofs.Sizes.{start-step, size-one}
 use Rattle.rules.specs.Tables.{Tables, bufferTotal}
+use Rattle.rules.specs.Bytes.{decode}
 use Rattle.rules.specs.Chain.{Stretch, State, chain, spans, total, firstLength, lengthOf, bytesOf, contents, reads}
 use Rattle.rules.specs.Sound.{Lent}
 use Rattle.rules.specs.Room.{isUnheld, freePieces, freeBuffers, newBuffers}
@@ -23,6 +24,7 @@ use Rattle.rules.specs.Pullup.{pulled, pullupAfter, pullupWants}
 use Rattle.rules.specs.Pack.{packAfter, packWants}
 use Rattle.rules.specs.Step.{Operation, Audit, Put, Free, Dup, Cut, Append, Drop, Keep, Pullup, Pack, Length, Read, Show, WireList}
 use Rattle.rules.specs.Step.{Do, rule, stateIn, step, next}
+use Rattle.rules.specs.Takes.{tookBuffers}
 use Rattle.rules.specs.Stays.{Still}
 use Rattle.rules.specs.Fills.{wholes, Filled, fills}
 use Rattle.rules.proofs.Logic.{if-both}
@@ -33,7 +35,7 @@ use Rattle.rules.proofs.Audit.{sound-now}
 use Rattle.rules.proofs.Codes.{Allowed, allowed, no-cause}
 use Rattle.rules.proofs.Sizes.{old-storage}
 use Rattle.rules.proofs.After.{reads-length}
-use Rattle.rules.proofs.Step.{after-state, did, sound-within}
+use Rattle.rules.proofs.Step.{after-state, did, slips-took, sound-within}
 
 -- ---- one buffer
 
@@ -175,3 +177,9 @@ next-fills o m e n =
     let bs = newBuffers (S .tables) (rule o S .wants .buffers) in
     ap (λ (X : State). contents (S .tables .stock) (X .storage) (wholes (S .tables .stock) bs)) (after-state o m e)
     ∙ rule-fills o S (sound-now m t) (sound-within m t .storage-fits) (allowed _ _ (d .allowed-code)) n
+
+-- The buffers that were free before the call and are not after it hold what it stores and then zeros.
+pub taken-fills : (o : Operation) (m : Lent) → step (Do o) m .code ≡ 0 → (Still o (stateIn m) → ⊥)
+    → Filled (stateIn m .tables .stock) (next (Do o) m .storage) (tookBuffers (decode (m .pool)) (decode (next (Do o) m .pool))) (fills o (stateIn m))
+taken-fills o m e n =
+    subst (λ bs. Filled (stateIn m .tables .stock) (next (Do o) m .storage) bs (fills o (stateIn m))) (sym (slips-took o m e .buffers)) (next-fills o m e n)

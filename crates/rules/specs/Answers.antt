@@ -1,4 +1,4 @@
--- What a call answers: its number, in what callers see, and what a no leaves.
+-- What a call answers, in what callers see: its number, what it was lent, its view; what a no leaves, and what open leaves.
 use mathlib.Core.Path.{_≡_}
 use mathlib.Core.Logic.{_≢_, _↔_}
 use mathlib.Core.Bool.{not}
@@ -41,7 +41,7 @@ abbrev pub AnsweredBy : Call → Lent → ℕ → Type 0
 AnsweredBy (Open B P S) m n = n ≡ 0
 AnsweredBy (Do o) m n = Answered o (stateIn m) n
 
--- Whatever c was lent is as before, and nothing is answered or shown.
+-- Whatever c was lent is as before, and nothing is answered or seen.
 pub record Unaltered (c : Call) (m : Lent) (r : Result) : Type 0 where
   pub number : r .number ≡ 0
   pub pool : r .pool ≡ m .pool
@@ -55,8 +55,7 @@ pub record Numbers (c : Call) (m : Lent) (r : Result) : Type 0 where
   pub when-done : r .code ≡ 0 → AnsweredBy c m (r .number)
   pub when-refused : r .code ≢ 0 → Unaltered c m r
 
--- The view v of the first n bytes of stretches xs: in storage just where the first stretch has them; at that stretch's
--- place, but for no bytes at 0; and else at the start of the scratch.
+-- The view v of the first n bytes of stretches xs: in storage just where the first stretch has them, and else at the start of the scratch.
 pub record Shown (Z : List ℕ) (xs : List Stretch) (n : ℕ) (v : View) : Type 0 where
   pub in-storage : (v .inScratch ≡ 0) ↔ (n ≤ firstLength xs)
   pub at-first : (x : Stretch) (ys : List Stretch) → xs ≡ x ∷ ys → 0 < n → n ≤ x .len → v .start ≡ positionOf Z x

@@ -5,8 +5,7 @@ use lib.ListN.{length}
 use Rattle.rules.specs.Chain.{State, chain, spans, firstLength, reads}
 use Rattle.rules.specs.Step.{Operation, Audit, Put, Free, Dup, Cut, Append, Drop, Keep, Pullup, Pack, Length, Read, Show, WireList}
 
--- There is nothing to do: drop of no bytes, keep of all, pullup of bytes that the first piece has, pack of at most one piece;
--- nor has a call that only looks.
+-- Nothing to do: drop of no bytes, keep of all, pullup of what the first piece has, pack of at most one piece, and every call that only looks.
 abbrev pub Still : Operation → State → Type 0
 Still Audit S = Unit {0}
 Still (Put input) S = ⊥
