@@ -1,5 +1,6 @@
 -- What a slip reads after any list of calls that spares it. Assumes nothing.
 use mathlib.Core.Path.{_≡_, refl, sym, ap, subst, _∙_}
+use mathlib.Core.Logic.{_≢_, ⊎-elim}
 use mathlib.Core.Bool.{not}
 use mathlib.Core.List.{List, [], _∷_, _++_}
 use Prim.Native.Nat.{ℕ, _≤_}
@@ -14,7 +15,8 @@ use Rattle.rules.specs.Sound.{Lent}
 use Rattle.rules.specs.Room.{isVacant}
 use Rattle.rules.specs.Read.{copied}
 use Rattle.rules.specs.Open.{openable}
-use Rattle.rules.specs.Step.{Put, Free, Dup, Read, Call, Open, Do, rule, step, stateIn, next, afterCalls}
+use Rattle.rules.specs.Step.{Audit, Put, Free, Dup, Cut, Append, Drop, Keep, Pullup, Pack, Length, Read, Show, WireList}
+use Rattle.rules.specs.Step.{Call, Open, Do, rule, step, stateIn, next, afterCalls}
 use Rattle.rules.specs.Lists.{Spared, Spares}
 use Rattle.rules.proofs.Step.{did, next-refused, open-code, step-keeps}
 use Rattle.rules.proofs.RoundTrip.{number-is, output-is, others-read, others-held, put-answers, put-held, read-done}
@@ -57,7 +59,10 @@ put-calls-read input out m cs e s l =
     let c = read-done t 0 (length input) out (afterCalls cs m₁) ok v (omega (arith, ap length q)) l in
     (c, number-is _ _ c, output-is _ _ c ∙ ap (λ xs. copied xs out) (ap (take (length input)) q ∙ take-length input))
 
--- calls on other slips, and an open that is refused, spare slip 0
-pub spares-others : (input : List ℕ) (m : Lent) → Spares 0 (Do (Put input) ∷ Do (Dup 1) ∷ Do (Free 1) ∷ Open 0 6 4 ∷ []) m
+-- Every call on the slips s and r, and an open that is refused, spares any third slip.
+pub spares-others : (t s r off n : ℕ) (xs : List ℕ) (m : Lent) → t ≢ s → t ≢ r
+    → Spares t (Do Audit ∷ Do (Put xs) ∷ Do (Free s) ∷ Do (Dup s) ∷ Do (Cut s off n) ∷ Do (Append s r) ∷ Do (Drop s n) ∷ Do (Keep s n) ∷ Do (Pullup s n)
+    ∷ Do (Pack s) ∷ Do (Length s) ∷ Do (Read s off n xs) ∷ Do (Show s n xs) ∷ Do (WireList s xs) ∷ Open 0 6 4 ∷ []) m
 unfolding openable
-spares-others input m = (λ x. x, (λ e. omega arith, (λ e. omega arith, (λ e. open-code 0 6 4 _ .0 e, tt))))
+spares-others t s r off n xs m a b =
+    (λ x. x, (λ x. x, (a, (a, (a, (⊎-elim a b, (a, (a, (a, (a, (a, (a, (a, (a, (λ e. open-code 0 6 4 _ .0 e, tt)))))))))))))))
