@@ -306,7 +306,7 @@ sound-now m t = tables-now (decode (m .pool)) (sound-is m .0 t .tables-ok)
 
 -- ---- the tables that open writes
 
-getD-same : {A : Type 0} (n i : ℕ) (a : A) → getD (replicate n a) i a ≡ a
+pub getD-same : {A : Type 0} (n i : ℕ) (a : A) → getD (replicate n a) i a ≡ a
 getD-same zero i a = refl
 getD-same (suc n) zero a = refl
 getD-same (suc n) (suc i) a = getD-same n i a

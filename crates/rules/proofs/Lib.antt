@@ -40,10 +40,18 @@ pub mod List
 pub mod Gather
 -- all calls together
 pub mod Calls
--- bytes, lists of calls, demand 3, the ten rows
+-- bytes, and any call on them
 pub mod Bounds
 pub mod Bytes
 pub mod Step
+pub mod Places
+-- what is read again, answered, left alone and filled, and which pieces are own
 pub mod RoundTrip
+pub mod Answers
+pub mod Stays
+pub mod Fills
+pub mod Own
+-- demand 3, lists of calls, the ten rows
 pub mod Demand
+pub mod Lists
 pub mod Morning

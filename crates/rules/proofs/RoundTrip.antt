@@ -34,11 +34,11 @@ use Rattle.rules.proofs.Step.{alters-nothing, code-is, did, sound-withi
 -- ---- what a done call answers
 
 -- its number and its output are its rule's
-number-is : (o : Operation) (m : Lent) → step (Do o) m .code ≡ 0 → step (Do o) m .number ≡ rule o (stateIn m) .number
+pub number-is : (o : Operation) (m : Lent) → step (Do o) m .code ≡ 0 → step (Do o) m .number ≡ rule o (stateIn m) .number
 unfolding done
 number-is o m e = ap (λ (x : Result). x .number) (did o m e .result)
 
-output-is : (o : Operation) (m : Lent) → step (Do o) m .code ≡ 0 → step (Do o) m .output ≡ rule o (stateIn m) .output
+pub output-is : (o : Operation) (m : Lent) → step (Do o) m .code ≡ 0 → step (Do o) m .output ≡ rule o (stateIn m) .output
 unfolding done
 output-is o m e = ap (λ (x : Result). x .output) (did o m e .result)
 

@@ -211,7 +211,7 @@ after-state o m e =
     let back : decode (encode (rule o S .after .tables)) ≡ rule o S .after .tables = decode-encode (rule o S .after .tables) (within-sized h w) in
     ap (λ (x : Result). stateIn (leftBy x)) (d .result) ∙ (λ i. stateOf (back i) (rule o S .after .storage))
 
-next-refused : (c : Call) (m : Lent) → step c m .code ≢ 0 → next c m ≡ m
+pub next-refused : (c : Call) (m : Lent) → step c m .code ≢ 0 → next c m ≡ m
 next-refused c m n = ap leftBy (alters-nothing c m n)
 
 keeps-done : (o : Operation) (m : Lent) → step (Do o) m .code ≡ 0 → Is (sound (next (Do o) m))

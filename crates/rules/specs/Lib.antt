@@ -30,4 +30,9 @@ pub mod Recount
 pub mod Demand
 pub mod After
 pub mod Takes
+pub mod Answers
+pub mod Lists
+pub mod Stays
+pub mod Fills
+pub mod Places
 pub mod Morning

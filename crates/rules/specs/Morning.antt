@@ -10,12 +10,13 @@ use Rattle.rules.specs.Sound.{Lent, lent}
 use Rattle.rules.specs.Room.{freePieces}
 use Rattle.rules.specs.Step.{Do, Operation, Put, Free, Dup, Cut, Append, Drop, Keep, Pullup, Pack, step, stateIn, afterCalls, leftBy}
 
--- A row: the call, its answer, the tables after it, and the bytes that a slip then reads.
+-- A row: the call, its answer, the tables and the whole storage after it, and the bytes that a slip then reads.
 pub record Row : Type 0 where
   pub call : Operation
   pub code : ℕ
   pub number : ℕ
   pub tables : Tables
+  pub storage : List ℕ
   pub slip : ℕ
   pub bytes : List ℕ
 
@@ -31,26 +32,45 @@ p c b o l n = record { count = c; buffer = b; offset = o; len = l; next = n }
 abbrev pub state : List ℕ → List Piece → List ℕ → Tables
 state s ps c = record { slips = s; pieces = ps; counts = c; stock = 4 ∷ [] }
 
-abbrev pub row : Operation → ℕ → Tables → ℕ → List ℕ → Row
-row o n T s xs = record { call = o; code = 0; number = n; tables = T; slip = s; bytes = xs }
+abbrev pub row : Operation → ℕ → Tables → List ℕ → ℕ → List ℕ → Row
+row o n T st s xs = record { call = o; code = 0; number = n; tables = T; storage = st; slip = s; bytes = xs }
 
--- what open 4, 6, 4 leaves over zeroed storage
+-- what open 4, 6, 4 leaves over storage of bytes 238
 abbrev pub fresh4 : Lent
-fresh4 = lent (encode (freshTables 4 6 4)) (replicate 2048 0)
+fresh4 = lent (encode (freshTables 4 6 4)) (replicate 2048 238)
 
--- The rows: the call; its number; slips, pieces and counts after it; a slip and its bytes.
+-- The storage once put has filled buffers 0 and 1, pullup buffer 2, and pack buffer 0 again.
+abbrev pub storage1 : List ℕ
+storage1 = byteRun 0 600 ++ (replicate 424 0 ++ replicate 1024 238)
+
+abbrev pub storage8 : List ℕ
+storage8 = byteRun 0 600 ++ (replicate 424 0 ++ (byteRun 500 20 ++ (replicate 492 0 ++ replicate 512 238)))
+
+abbrev pub storage9 : List ℕ
+storage9 = byteRun 500 40 ++ (replicate 472 0 ++ (byteRun 512 88 ++ (replicate 424 0 ++ (byteRun 500 20 ++ (replicate 492 0 ++ replicate 512 238)))))
+
+-- The rows: the call; its number; slips, pieces and counts after it; storage; a slip and its bytes.
 abbrev pub rows : List Row
 rows =
-    row (Put (byteRun 0 600)) 0 (state (2 ∷ 0 ∷ 0 ∷ 0 ∷ []) (p 1 0 0 512 2 ∷ p 1 1 0 88 0 ∷ blank ∷ blank ∷ blank ∷ blank ∷ []) (1 ∷ 1 ∷ 0 ∷ 0 ∷ [])) 0 (byteRun 0 600)
-    ∷ row (Cut 0 500 50) 1 (state (2 ∷ 4 ∷ 0 ∷ 0 ∷ []) (p 1 0 0 512 2 ∷ p 1 1 0 88 0 ∷ p 1 0 500 12 4 ∷ p 1 1 0 38 0 ∷ blank ∷ blank ∷ []) (2 ∷ 2 ∷ 0 ∷ 0 ∷ [])) 1 (byteRun 500 50)
-    ∷ row (Dup 0) 2 (state (2 ∷ 4 ∷ 6 ∷ 0 ∷ []) (p 1 0 0 512 2 ∷ p 2 1 0 88 0 ∷ p 1 0 500 12 4 ∷ p 1 1 0 38 0 ∷ p 1 0 0 512 2 ∷ blank ∷ []) (3 ∷ 2 ∷ 0 ∷ 0 ∷ [])) 2 (byteRun 0 600)
-    ∷ row (Free 0) 0 (state (0 ∷ 4 ∷ 6 ∷ 0 ∷ []) (blank ∷ p 1 1 0 88 0 ∷ p 1 0 500 12 4 ∷ p 1 1 0 38 0 ∷ p 1 0 0 512 2 ∷ blank ∷ []) (2 ∷ 2 ∷ 0 ∷ 0 ∷ [])) 0 []
-    ∷ row (Drop 2 520) 0 (state (0 ∷ 4 ∷ 3 ∷ 0 ∷ []) (blank ∷ p 1 1 8 80 0 ∷ p 1 0 500 12 4 ∷ p 1 1 0 38 0 ∷ blank ∷ blank ∷ []) (1 ∷ 2 ∷ 0 ∷ 0 ∷ [])) 2 (byteRun 520 80)
-    ∷ row (Append 1 2) 0 (state (0 ∷ 4 ∷ 0 ∷ 0 ∷ []) (blank ∷ p 1 1 8 80 0 ∷ p 1 0 500 12 4 ∷ p 1 1 0 38 2 ∷ blank ∷ blank ∷ []) (1 ∷ 2 ∷ 0 ∷ 0 ∷ [])) 1 (byteRun 500 50 ++ byteRun 520 80)
-    ∷ row (Keep 1 40) 0 (state (0 ∷ 4 ∷ 0 ∷ 0 ∷ []) (blank ∷ blank ∷ p 1 0 500 12 4 ∷ p 1 1 0 28 0 ∷ blank ∷ blank ∷ []) (1 ∷ 1 ∷ 0 ∷ 0 ∷ [])) 1 (byteRun 500 40)
-    ∷ row (Pullup 1 20) 0 (state (0 ∷ 2 ∷ 0 ∷ 0 ∷ []) (p 1 2 0 20 4 ∷ blank ∷ blank ∷ p 1 1 8 20 0 ∷ blank ∷ blank ∷ []) (0 ∷ 1 ∷ 1 ∷ 0 ∷ [])) 1 (byteRun 500 40)
-    ∷ row (Pack 1) 0 (state (0 ∷ 3 ∷ 0 ∷ 0 ∷ []) (blank ∷ p 1 0 0 40 0 ∷ blank ∷ blank ∷ blank ∷ blank ∷ []) (1 ∷ 0 ∷ 0 ∷ 0 ∷ [])) 1 (249 ∷ 250 ∷ byteRun 0 38)
-    ∷ row (Free 1) 0 (freshTables 4 6 4) 1 [] ∷ []
+    row (Put (byteRun 0 600)) 0 (state (2 ∷ 0 ∷ 0 ∷ 0 ∷ []) (p 1 0 0 512 2 ∷ p 1 1 0 88 0 ∷ blank ∷ blank ∷ blank ∷ blank ∷ []) (1 ∷ 1 ∷ 0 ∷ 0 ∷ []))
+    storage1 0 (byteRun 0 600)
+    ∷ row (Cut 0 500 50) 1 (state (2 ∷ 4 ∷ 0 ∷ 0 ∷ []) (p 1 0 0 512 2 ∷ p 1 1 0 88 0 ∷ p 1 0 500 12 4 ∷ p 1 1 0 38 0 ∷ blank ∷ blank ∷ []) (2 ∷ 2 ∷ 0 ∷ 0 ∷ []))
+    storage1 1 (byteRun 500 50)
+    ∷ row (Dup 0) 2 (state (2 ∷ 4 ∷ 6 ∷ 0 ∷ []) (p 1 0 0 512 2 ∷ p 2 1 0 88 0 ∷ p 1 0 500 12 4 ∷ p 1 1 0 38 0 ∷ p 1 0 0 512 2 ∷ blank ∷ []) (3 ∷ 2 ∷ 0 ∷ 0 ∷ []))
+    storage1 2 (byteRun 0 600)
+    ∷ row (Free 0) 0 (state (0 ∷ 4 ∷ 6 ∷ 0 ∷ []) (blank ∷ p 1 1 0 88 0 ∷ p 1 0 500 12 4 ∷ p 1 1 0 38 0 ∷ p 1 0 0 512 2 ∷ blank ∷ []) (2 ∷ 2 ∷ 0 ∷ 0 ∷ []))
+    storage1 0 []
+    ∷ row (Drop 2 520) 0 (state (0 ∷ 4 ∷ 3 ∷ 0 ∷ []) (blank ∷ p 1 1 8 80 0 ∷ p 1 0 500 12 4 ∷ p 1 1 0 38 0 ∷ blank ∷ blank ∷ []) (1 ∷ 2 ∷ 0 ∷ 0 ∷ []))
+    storage1 2 (byteRun 520 80)
+    ∷ row (Append 1 2) 0 (state (0 ∷ 4 ∷ 0 ∷ 0 ∷ []) (blank ∷ p 1 1 8 80 0 ∷ p 1 0 500 12 4 ∷ p 1 1 0 38 2 ∷ blank ∷ blank ∷ []) (1 ∷ 2 ∷ 0 ∷ 0 ∷ []))
+    storage1 1 (byteRun 500 50 ++ byteRun 520 80)
+    ∷ row (Keep 1 40) 0 (state (0 ∷ 4 ∷ 0 ∷ 0 ∷ []) (blank ∷ blank ∷ p 1 0 500 12 4 ∷ p 1 1 0 28 0 ∷ blank ∷ blank ∷ []) (1 ∷ 1 ∷ 0 ∷ 0 ∷ []))
+    storage1 1 (byteRun 500 40)
+    ∷ row (Pullup 1 20) 0 (state (0 ∷ 2 ∷ 0 ∷ 0 ∷ []) (p 1 2 0 20 4 ∷ blank ∷ blank ∷ p 1 1 8 20 0 ∷ blank ∷ blank ∷ []) (0 ∷ 1 ∷ 1 ∷ 0 ∷ []))
+    storage8 1 (byteRun 500 40)
+    ∷ row (Pack 1) 0 (state (0 ∷ 3 ∷ 0 ∷ 0 ∷ []) (blank ∷ p 1 0 0 40 0 ∷ blank ∷ blank ∷ blank ∷ blank ∷ []) (1 ∷ 0 ∷ 0 ∷ 0 ∷ []))
+    storage9 1 (249 ∷ 250 ∷ byteRun 0 38)
+    ∷ row (Free 1) 0 (freshTables 4 6 4) storage9 1 [] ∷ []
 
 -- what the rules give along a list of rows' calls
 unfoldable pub given : List Row → Lent → List Row
@@ -58,7 +78,15 @@ given [] m = []
 given (r ∷ rs) m =
     let a = step (Do (r .call)) m in
     let m′ = leftBy a in
-    record { call = r .call; code = a .code; number = a .number; tables = decode (a .pool); slip = r .slip; bytes = reads (stateIn m′) (r .slip) } ∷ given rs m′
+    record {
+      call = r .call;
+      code = a .code;
+      number = a .number;
+      tables = decode (a .pool);
+      storage = a .storage;
+      slip = r .slip;
+      bytes = reads (stateIn m′) (r .slip);
+    } ∷ given rs m′
 
 -- An edge: the calls before it in a fresh pool, the call, its answer, and after it the slips
 -- and the number of pieces in use.

@@ -1,0 +1,17 @@
+-- Lists of calls that leave a slip alone.
+use mathlib.Core.Logic.{_≢_}
+use mathlib.Core.List.{List, [], _∷_}
+use Prim.Native.Nat.{ℕ}
+use Rattle.rules.specs.Sound.{Lent}
+use Rattle.rules.specs.Step.{Call, Open, Do, step, next}
+use Rattle.rules.specs.After.{Names}
+
+-- the call does not name slip t, and is no open that is done
+abbrev pub Spared : ℕ → Call → Lent → Type 0
+Spared t (Open B P S) m = step (Open B P S) m .code ≢ 0
+Spared t (Do o) m = Names o t → ⊥
+
+-- each call of a list, on the pool as the calls before it leave it
+abbrev pub Spares : ℕ → List Call → Lent → Type 0
+Spares t [] m = Unit {0}
+Spares t (c ∷ cs) m = Spared t c m × Spares t cs (next c m)
