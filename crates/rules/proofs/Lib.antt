@@ -43,6 +43,7 @@ pub mod Calls
 -- bytes, lists of calls, demand 3, the ten rows
 pub mod Bounds
 pub mod Bytes
+pub mod Blind
 pub mod Step
 pub mod RoundTrip
 pub mod Demand

@@ -8,11 +8,11 @@ use Rattle.kinds.specs.declared.Refusal.the-variants.{Counts, Torn, Slips, Piec
 use Rattle.kinds.specs.Refusal.{refusalCode}
 use Rattle.rules.specs.Bytes.{decode}
 use Rattle.rules.specs.Chain.{withTables}
-use Rattle.rules.specs.Sound.{Lent, sound}
+use Rattle.rules.specs.Sound.{Lent, lent, sound}
 use Rattle.rules.specs.Rule.{Wants, want, _⇐_, firstCode}
 use Rattle.rules.specs.Open.{openable}
 use Rattle.rules.specs.Step.{Call, Open, Do, rule, step, stateIn, next, afterCalls}
-use Rattle.rules.specs.Recount.{Recount, recounted, leaves}
+use Rattle.rules.specs.Recount.{Recount, Blind, countedBy, recounted, leaves}
 
 -- the code judged before room, or 0
 unfoldable pub early : Call → Lent → ℕ
@@ -37,6 +37,9 @@ pub record CallOk (c : Call) (m : Lent) : Type 0 where
       ↔ ((early c m ≡ 0) × (wanted c m .slips ≤ left m .slips) × (left m .pieces < wanted c m .pieces))
   pub buffers-full : (step c m .code ≡ refusalCode Buffers)
       ↔ ((early c m ≡ 0) × (wanted c m .slips ≤ left m .slips) × (wanted c m .pieces ≤ left m .pieces) × (left m .buffers < wanted c m .buffers))
+  -- of any pool that differs in stored counts alone, the same is wanted and the same is left
+  pub blind : (q : List ℕ) (f g : ℕ → ℕ) → decode q ≡ countedBy (decode (m .pool)) f g
+      → (wanted c (lent q (m .storage)) ≡ wanted c m) × (left (lent q (m .storage)) ≡ left m)
 
 -- each call of a list, on the pool as the calls before it leave it
 abbrev pub Each : List Call → Lent → Type 0
@@ -47,6 +50,7 @@ Each (c ∷ cs) m = CallOk c m × Each cs (next c m)
 pub record Demand3 (cs : List Call) (m : Lent) : Type 0 where
   pub each : Each cs m
   pub recount : Recount (decode (afterCalls cs m .pool))
+  pub blind : (f g : ℕ → ℕ) → Blind (decode (afterCalls cs m .pool)) f g
 
 -- The claim itself, proved in proofs/Demand.antt: m is any pool and storage on which an open
 -- was done, cs any list of calls.
