@@ -11,11 +11,11 @@ use lib.Seq.{getD-set-other, getD-set-same}
 use lib.Dec.{eqb, eqb→eq}
 use Rattle.rules.specs.Basics.{Is, if_then_else_, passing}
 use Rattle.rules.specs.Tables.{Tables, slip, headOf, vacant, slipTotal, pieceTotal, bufferTotal, setSlip, piece}
-use Rattle.rules.specs.Chain.{State, spans, Stretch, chain, stretches, withTables, contents, reads}
+use Rattle.rules.specs.Chain.{State, spans, Stretch, chain, stretches, withTables, contents, reads, ownOf}
 use Rattle.rules.specs.Room.{freePieces, isFree, isUnheld, isVacant}
 use Rattle.rules.specs.Build.{built, builtLink}
 use Rattle.rules.specs.Rule.{reading, vacating, want}
-use Rattle.rules.specs.Append.{ownOf, notOwn, joined, appendAfter, appendCall, oneEmpty}
+use Rattle.rules.specs.Append.{notOwn, joined, appendAfter, appendCall, oneEmpty}
 use Rattle.rules.specs.Takes.{Took}
 use Rattle.rules.proofs.Logic.{if-either, if-F, or-cases}
 use Rattle.rules.proofs.Moves.{SoundNow, hit, reorder, slip-move, SoundWith}

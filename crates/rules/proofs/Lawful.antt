@@ -7,13 +7,13 @@ use Prim.Native.Nat.{_<_, ℕ}
 use native.Mathlib.Omega.{arith}
 use lib.ListN.{length}
 use lib.Dec.{T-not}
-use Rattle.rules.specs.Basics.{Is}
+use Rattle.rules.specs.Basics.{Is, Among}
 use Rattle.rules.specs.Tables.{Tables, bufferTotal, slip}
 use Rattle.rules.specs.Chain.{State}
 use Rattle.rules.specs.Room.{isVacant, newSlip, vacantSlips}
-use Rattle.rules.specs.Rule.{Change, Meaning, Rule, Wants, looks, want}
+use Rattle.rules.specs.Rule.{Change, Meaning, Rule, Wants, looks, want, Asks, asksNothing}
 use Rattle.rules.specs.Audit.{audit, auditCall}
-use Rattle.rules.specs.After.{Among, changed}
+use Rattle.rules.specs.After.{changed}
 use Rattle.rules.specs.Takes.{Took, firstSlip}
 use Rattle.rules.proofs.Logic.{eq→eqb}
 use Rattle.rules.proofs.Moves.{SoundNow}
@@ -67,9 +67,9 @@ others-stay g f T ns (c ∷ cs) t k n v =
 -- ---- the calls that only look
 
 -- a call that leaves everything as it is and wants nothing
-pub looks-lawful : (ns out : List ℕ) (r : State → Rule) → ((S : State) → InOrder (r S .judged)) → ((S : State) → (r S .after ≡ S) × (r S .wants ≡ want 0 0 0))
-    → Lawful (looks ns out r)
-looks-lawful ns out r c e =
+pub looks-lawful : (ns out : List ℕ) (r : State → Rule) (a : State → Asks) → ((S : State) → InOrder (r S .judged)) → ((S : State) → (r S .after ≡ S) × (r S .wants ≡ want 0 0 0))
+    → Lawful (looks ns out r a)
+looks-lawful ns out r a c e =
     let t = firstSlip [] ns in
     record {
       codes = c;
@@ -83,4 +83,4 @@ looks-lawful ns out r c e =
 
 -- audit judges nothing, and only looks
 pub audit-lawful : Lawful auditCall
-audit-lawful = looks-lawful [] [] audit (λ S. omega arith) (λ S. (refl, refl))
+audit-lawful = looks-lawful [] [] audit asksNothing (λ S. omega arith) (λ S. (refl, refl))

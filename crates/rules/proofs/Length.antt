@@ -6,6 +6,7 @@ use native.Mathlib.Omega.{arith}
 use lib.ListN.{length}
 use Rattle.rules.specs.Tables.{bufferTotal}
 use Rattle.rules.specs.Chain.{State, reads}
+use Rattle.rules.specs.Rule.{asksNothing}
 use Rattle.rules.specs.Length.{chainLength, lengthCall}
 use Rattle.rules.specs.Step.{Length, rule}
 use Rattle.rules.proofs.Moves.{SoundNow}
@@ -21,4 +22,4 @@ length-is s S h f = sym (reads-length S h f s)
 -- ---- length only looks
 
 pub length-lawful : (s : ℕ) → Lawful (lengthCall s)
-length-lawful s = looks-lawful (s ∷ []) [] (chainLength s) (λ S. omega arith) (λ S. (refl, refl))
+length-lawful s = looks-lawful (s ∷ []) [] (chainLength s) asksNothing (λ S. omega arith) (λ S. (refl, refl))

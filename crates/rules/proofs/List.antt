@@ -5,7 +5,7 @@ use Prim.Native.Nat.{ℕ, _*_}
 use native.Mathlib.Omega.{arith}
 use lib.ListN.{length, take, drop}
 use Rattle.rules.specs.Chain.{State, Stretch, chain, spans}
-use Rattle.rules.specs.List.{records, listCall, wireList}
+use Rattle.rules.specs.List.{records, listAsks, listCall, wireList}
 use Rattle.rules.specs.Step.{WireList, rule}
 use Rattle.rules.proofs.Hang.{stretches-length}
 use Rattle.rules.proofs.Codes.{Allowed, no-cause}
@@ -43,4 +43,4 @@ list-exact s list S a =
 -- ---- list only looks
 
 pub list-lawful : (s : ℕ) (list : List ℕ) → Lawful (listCall s list)
-list-lawful s list = looks-lawful (s ∷ []) list (wireList s list) (λ S. omega arith) (λ S. (refl, refl))
+list-lawful s list = looks-lawful (s ∷ []) list (wireList s list) (listAsks s) (λ S. omega arith) (λ S. (refl, refl))

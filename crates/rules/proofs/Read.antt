@@ -7,7 +7,7 @@ use lib.ListN.{length, take, drop, length-append, length-take, length-drop}
 use lib.Seq.{take-at, drop-at}
 use Rattle.rules.specs.Tables.{bufferTotal}
 use Rattle.rules.specs.Chain.{State, reads}
-use Rattle.rules.specs.Read.{copied, read, readCall}
+use Rattle.rules.specs.Read.{copied, read, readAsks, readCall}
 use Rattle.rules.specs.Step.{Read, rule}
 use Rattle.rules.proofs.Moves.{SoundNow}
 use Rattle.rules.proofs.Contents.{Fit}
@@ -49,4 +49,4 @@ read-exact s off n out S h f a =
 -- ---- read only looks
 
 pub read-lawful : (s off n : ℕ) (out : List ℕ) → Lawful (readCall s off n out)
-read-lawful s off n out = looks-lawful (s ∷ []) out (read s off n out) (λ S. omega arith) (λ S. (refl, refl))
+read-lawful s off n out = looks-lawful (s ∷ []) out (read s off n out) (readAsks off n) (λ S. omega arith) (λ S. (refl, refl))

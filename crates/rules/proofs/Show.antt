@@ -12,7 +12,7 @@ use Rattle.rules.specs.Tables.{bufferTotal}
 use Rattle.rules.specs.Chain.{Stretch, State, spans, total, firstLength, positionOf, bytesOf, contents, reads}
 use Rattle.rules.specs.Rule.{View}
 use Rattle.rules.specs.Read.{copied}
-use Rattle.rules.specs.Show.{scattered, viewOf, show, showCall}
+use Rattle.rules.specs.Show.{scattered, viewOf, show, showAsks, showCall}
 use Rattle.rules.specs.Step.{Show, rule}
 use Rattle.rules.specs.After.{seen}
 use Rattle.rules.proofs.Logic.{if-F, if-either, not-not}
@@ -81,4 +81,4 @@ show-unchanged s n scratch S l = if-F (scattered (spans (S .tables) s) n) _ _ (�
 -- ---- show only looks
 
 pub show-lawful : (s n : ℕ) (scratch : List ℕ) → Lawful (showCall s n scratch)
-show-lawful s n scratch = looks-lawful (s ∷ []) scratch (show s n scratch) (λ S. omega arith) (λ S. (refl, refl))
+show-lawful s n scratch = looks-lawful (s ∷ []) scratch (show s n scratch) (showAsks s n) (λ S. omega arith) (λ S. (refl, refl))
