@@ -24,6 +24,7 @@ use Rattle.rules.proofs.Audit.{sound-now}
 use Rattle.rules.proofs.Recount.{recount, recounted-same, leaves-room}
 use Rattle.rules.proofs.Codes.{first-yes, first-no, first-none, first-append, none-full, Full, full-facts, Other}
 use Rattle.rules.proofs.Calls.{judged-early}
+use Rattle.rules.proofs.Causes.{exactly, early-ok}
 use Rattle.rules.proofs.Blind.{blind, recounted-blind}
 use Rattle.rules.proofs.Step.{code-is, opened-sound, step-keeps}
 
@@ -110,6 +111,8 @@ call-ok c m t =
       slips-full = j .1;
       pieces-full = j .2;
       buffers-full = j .3;
+      exactly = exactly c m;
+      early-ok = early-ok c m;
       blind = λ q f g e. (wanted-blind c m q f g e, ap leaves e ∙ blind (decode (m .pool)) f g .same-leaves);
     }
 

@@ -47,6 +47,7 @@ pub mod Bounds
 pub mod Bytes
 pub mod Blind
 pub mod Step
+pub mod Causes
 pub mod RoundTrip
 pub mod Demand
 pub mod Morning
