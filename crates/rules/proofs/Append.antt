@@ -322,7 +322,8 @@ append-leaves a b S h _ al =
     (λ nb h′. then-reading refl r (joined-reading a b S la za lb zb ne h h′ (wanted-rest T a b (al .pieces-room) na nb))))
 
 -- a chain is empty where it has no bytes
-meets-none : (T : Tables) (n : ℕ) (l : List ℕ) → Meets T n l → Good (T .stock) (bufferTotal T) (stretches T l) → eqb n 0 ≡ eqb (total (stretches T l)) 0
+meets-none : (T : Tables) (n : ℕ) (l : List ℕ) → Meets T n l → Good (T .stock) (bufferTotal T) (stretches T l)
+    → eqb n 0 ≡ eqb (total (stretches T l)) 0
 unfolding stretches total
 meets-none T n l stop g = refl
 meets-none T n l (go {d = d} {l = ds} c) g =

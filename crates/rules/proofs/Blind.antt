@@ -68,12 +68,14 @@ module _ (T : Tables) (f g : ℕ → ℕ) where
   entry-within d h = getD-table (pieceTotal T) (λ e. withCount (piece T e) (f e)) d blank h
 
   -- a part of a piece that is not its count is the same
-  part-same : {A : Type 0} (part : Piece → A) → ((p : Piece) (n : ℕ) → part (withCount p n) ≡ part p) → (d : ℕ) → part (piece (countedBy T f g) d) ≡ part (piece T d)
+  part-same : {A : Type 0} (part : Piece → A) → ((p : Piece) (n : ℕ) → part (withCount p n) ≡ part p) → (d : ℕ)
+      → part (piece (countedBy T f g) d) ≡ part (piece T d)
   part-same part h d =
+      let ps = table (pieceTotal T) (λ e. withCount (piece T e) (f e)) in
       elim (decLt d (pieceTotal T)) [
         | yes l ↦ ap part (entry-within d l) ∙ h (piece T d) (f d)
         | no l ↦
-            ap part (past-end (table (pieceTotal T) (λ e. withCount (piece T e) (f e))) d (λ k. l (omega (arith, length-table (pieceTotal T) (λ e. withCount (piece T e) (f e))))))
+            ap part (past-end ps d (λ k. l (omega (arith, length-table (pieceTotal T) (λ e. withCount (piece T e) (f e))))))
             ∙ ap part (sym (past-end (T .pieces) d l))
       ]
 
@@ -106,7 +108,8 @@ recounted-blind T f g =
     let k : bufferTotal T′ ≡ bufferTotal T = length-table (bufferTotal T) g in
     let ps : table (pieceTotal T′) (λ d. withCount (piece T′ d) (references T′ d)) ≡ table P (λ d. withCount (piece T d) (references T d)) =
     ap (λ n. table n (λ d. withCount (piece T′ d) (references T′ d))) e
-    ∙ table-same P _ _ (λ d h. part-same T f g (λ p. withCount p (references T′ d)) (λ p n. refl) d ∙ ap (withCount (piece T d)) (blind T f g .same-references d)) in
+    ∙ table-same P _ _
+    (λ d h. part-same T f g (λ p. withCount p (references T′ d)) (λ p n. refl) d ∙ ap (withCount (piece T d)) (blind T f g .same-references d)) in
     let cs : table (bufferTotal T′) (holders T′) ≡ table (bufferTotal T) (holders T) =
     ap (λ n. table n (holders T′)) k ∙ table-same (bufferTotal T) _ _ (λ b _. blind T f g .same-holders b) in
     λ i. withBoth T (ps i) (cs i)

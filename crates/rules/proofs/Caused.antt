@@ -1,5 +1,5 @@
 -- Which code is given, by the causes that document 01's table names. Assumes nothing.
-use mathlib.Core.Path.{_≡_, refl, sym, ap, subst, _∙_}
+use mathlib.Core.Path.{_≡_, refl, sym, subst, _∙_}
 use mathlib.Core.Logic.{_≢_, _↔_, _⊎_, inl, inr, ⊎-elim}
 use mathlib.Core.Bool.{Bool, false, not, _&&_, _||_}
 use mathlib.Core.List.{List, [], _∷_}
@@ -66,7 +66,8 @@ unfolding found
 found-lowest c [] a r = λ t. absurd t
 found-lowest c (j ∷ js) a r =
     let k = refusalCode (j .refusal) in
-    if-either (λ (b : Bool). Is b → (firstCode (j ∷ js) ≢ 0) × (firstCode (j ∷ js) ≤ refusalCode r)) (eqb k (refusalCode r)) (j .applies) (found js r)
+    if-either (λ (b : Bool). Is b → (firstCode (j ∷ js) ≢ 0) × (firstCode (j ∷ js) ≤ refusalCode r))
+    (eqb k (refusalCode r)) (j .applies) (found js r)
     (λ e t. omega (arith, first-yes j js t, eqb→eq k (refusalCode r) e, refusal-pos r))
     (λ _ t. ⊎-elim
     (λ y. omega (arith, first-yes j js y, refusal-pos (j .refusal), rising-found k js (a .1) r t))
@@ -255,7 +256,8 @@ slip-both T a b =
     let u = unnamed T a in
     let v = unnamed T b in (
       λ t. ⊎-elim (λ x. (a, inl refl, missing-is T a .0 x)) (λ x. (b, inr refl, missing-is T b .0 x)) (or-cases u v t),
-      λ x. ⊎-elim (λ e. or-left u v (missing-is T a .1 (subst (Missing T) e (x .2)))) (λ e. or-right u v (missing-is T b .1 (subst (Missing T) e (x .2)))) (x .1),
+      λ x. ⊎-elim (λ e. or-left u v (missing-is T a .1 (subst (Missing T) e (x .2))))
+          (λ e. or-right u v (missing-is T b .1 (subst (Missing T) e (x .2)))) (x .1),
     )
 
 pub twice-both : (a b : ℕ) → Is (eqb a b) ↔ Twice (a ∷ b ∷ [])

@@ -14,7 +14,7 @@ use Rattle.rules.specs.Basics.{Is}
 use Rattle.rules.specs.Chain.{State}
 use Rattle.rules.specs.Sound.{Lent, sound, countsOk}
 use Rattle.rules.specs.Build.{buffersFor}
-use Rattle.rules.specs.Rule.{_⇐_, firstCode, Meaning}
+use Rattle.rules.specs.Rule.{_⇐_, Meaning}
 use Rattle.rules.specs.Open.{openable}
 use Rattle.rules.specs.Step.{Operation, Call, Open, Do, meaning, rule, Result, stateIn, step}
 use Rattle.rules.specs.Causes.{Cause, Fitting, CauseOf, Exactly}
@@ -22,7 +22,7 @@ use Rattle.rules.specs.Demand.{early, EarlyOk}
 use Rattle.rules.proofs.Logic.{if-either, and-intro, and-parts, is-dec}
 use Rattle.rules.proofs.Audit.{sound-is, sound-now}
 use Rattle.rules.proofs.Codes.{first-yes, first-no, first-none, refusal-pos}
-use Rattle.rules.proofs.Caused.{Before, Settled, settled-given, settled-done, settled-as}
+use Rattle.rules.proofs.Caused.{Settled, settled-given, settled-done, settled-as}
 use Rattle.rules.proofs.Calls.{before-caused, code-caused}
 use Rattle.rules.proofs.Bytes.{and-is, eqb-is, counts-facts, counts-test}
 use Rattle.rules.proofs.Step.{code-is, step-torn, sound-within}
@@ -62,7 +62,8 @@ cause-above Buffers o S x = omega arith
 cause-above WireList o S x = absurd x
 
 -- a code with one cause alone
-settled-one : (q : Refusal) (C : Refusal → Type 0) → ((r : Refusal) → refusalCode q ≡ refusalCode r → C r) → ((r : Refusal) → C r → refusalCode q ≤ refusalCode r) → Settled (refusalCode q) C
+settled-one : (q : Refusal) (C : Refusal → Type 0) → ((r : Refusal) → refusalCode q ≡ refusalCode r → C r)
+    → ((r : Refusal) → C r → refusalCode q ≤ refusalCode r) → Settled (refusalCode q) C
 settled-one q C f g = record { listed = λ _. (q, refl); cause = f; lowest = λ r x. (λ e. omega (arith, refusal-pos q), g r x) }
 
 settled-none : (C : Refusal → Type 0) → ((r : Refusal) → C r → ⊥) → Settled 0 C

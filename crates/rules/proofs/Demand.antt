@@ -97,7 +97,8 @@ call-judging (Open B P S) m t = open-judging B P S m
 call-judging (Do o) m t = do-judging o m t
 
 -- what is wanted is read from no stored count
-wanted-blind : (c : Call) (m : Lent) (q : List ℕ) (f g : ℕ → ℕ) → decode q ≡ countedBy (decode (m .pool)) f g → wanted c (lent q (m .storage)) ≡ wanted c m
+wanted-blind : (c : Call) (m : Lent) (q : List ℕ) (f g : ℕ → ℕ) → decode q ≡ countedBy (decode (m .pool)) f g
+    → wanted c (lent q (m .storage)) ≡ wanted c m
 unfolding wanted
 wanted-blind (Open B P S) m q f g e = refl
 wanted-blind (Do o) m q f g e =

@@ -202,7 +202,8 @@ drop-none T own (d ∷ ds) n e =
 -- ---- how many new pieces drop makes
 
 -- the byte n of a piece of which not all before are own
-here-count : (T : Tables) (d a n : ℕ) (xs : List Stretch) → n < piece T d .len → length (dropHere T false d n .more) ≡ splits (stretch (piece T d) ∷ xs) a (a + n)
+here-count : (T : Tables) (d a n : ℕ) (xs : List Stretch) → n < piece T d .len
+    → length (dropHere T false d n .more) ≡ splits (stretch (piece T d) ∷ xs) a (a + n)
 unfolding dropHere if_then_else_
 here-count T d a zero xs h = sym (splits-none (stretch (piece T d) ∷ xs) a (a + 0) (omega arith))
 here-count T d a (suc n) xs h = sym (splits-inside (stretch (piece T d)) xs a n h)

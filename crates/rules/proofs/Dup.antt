@@ -88,7 +88,8 @@ dup-takes s S h a h′ =
     (new-front T k (drop k (chain T s)) (used-drop T k (chain T s) (chain-used T s h))) (passing-none (isUnheld T) (buffersOf (spans T s)) (spans-none T s h))
 
 -- it wants a piece where its chain has bytes
-dup-count : (T : Tables) (n : ℕ) (l : List ℕ) → Meets T n l → Good (T .stock) (bufferTotal T) (stretches T l) → length (dupPlan T n .more) ≡ min 1 (total (stretches T l))
+dup-count : (T : Tables) (n : ℕ) (l : List ℕ) → Meets T n l → Good (T .stock) (bufferTotal T) (stretches T l)
+    → length (dupPlan T n .more) ≡ min 1 (total (stretches T l))
 unfolding dupPlan stretches total
 dup-count T n l stop g = omega arith
 dup-count T n l (go c) g = omega (arith, g .1)
@@ -102,7 +103,10 @@ dup-caused s S h f = record {
   long = none-less 512;
   range = none-less _;
   narrow = none-less 0;
-  asked = λ z. ap (λ k. want 1 k 0) (dup-count (S .tables) (headOf (S .tables) s) (chain (S .tables) s) (chain-meets (S .tables) s h) (spans-good (S .tables) s h) ∙ ap (min 1) (sym (reads-length S h f s)));
+  asked = λ z. (
+      let T = S .tables in
+      let k = dup-count T (headOf T s) (chain T s) (chain-meets T s h) (spans-good T s h) in
+      ap (λ j. want 1 j 0) (k ∙ ap (min 1) (sym (reads-length S h f s))));
 }
 
 pub dup-lawful : (s : ℕ) → Lawful (dupCall s)

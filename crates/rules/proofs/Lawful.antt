@@ -73,7 +73,8 @@ others-stay g f T ns (c ∷ cs) t k n v =
 -- ---- the calls that only look
 
 -- a call that leaves everything as it is and wants nothing
-pub looks-lawful : (ns out : List ℕ) (r : State → Rule) (a : State → Asks) → ((S : State) → InOrder (r S .judged)) → ((S : State) → (r S .after ≡ S) × (r S .wants ≡ want 0 0 0))
+pub looks-lawful : (ns out : List ℕ) (r : State → Rule) (a : State → Asks)
+    → ((S : State) → InOrder (r S .judged)) → ((S : State) → (r S .after ≡ S) × (r S .wants ≡ want 0 0 0))
     → Causing (looks ns out r a) → Lawful (looks ns out r a)
 looks-lawful ns out r a c e k =
     let t = firstSlip [] ns in

@@ -3,11 +3,11 @@ use mathlib.Core.Path.{_≡_, refl, sym, ap, ap₂, _∙_}
 use mathlib.Core.Bool.{Bool, _&&_}
 use mathlib.Core.List.{List, [], _∷_}
 use Prim.Native.Nat.{ℕ, zero, suc, _+_, _-_, _≤_, _<_, min}
-use native.Mathlib.Decide.{decLe, ℕ-discrete}
+use native.Mathlib.Decide.{decLe}
 use native.Mathlib.Omega.{arith}
 use lib.ListN.{length}
 use lib.Dec.{eqb, ltb, ltb→lt, lt→ltb, leb, leb→le, le→leb}
-use Rattle.rules.specs.Basics.{Is, bit}
+use Rattle.rules.specs.Basics.{bit}
 use Rattle.rules.specs.Tables.{Tables, piece}
 use Rattle.rules.specs.Chain.{Stretch, walk, ownPieces, cutOut, overlaps, splits}
 use Rattle.rules.proofs.Logic.{if-T, if-F, if-either, if-both, and-intro, and-0, and-1, same-test, bit-T, bit-F}
@@ -88,7 +88,8 @@ overlaps-step x xs a off n (suc k) l e ih =
       | no h ↦ (
           let i : off - a < x .len = not-le (x .len) (off - a) h in
           let (p, q, r) = hit n a off k (x .len) e i in
-          sum-one (hits a off n (x .len) p q r) (ih ∙ ap₂ (λ u v. length (cutOut xs u v)) (inside-start a (x .len) off i) (inside-count a (x .len) off n (suc k) i e))
+          sum-one (hits a off n (x .len) p q r)
+          (ih ∙ ap₂ (λ u v. length (cutOut xs u v)) (inside-start a (x .len) off i) (inside-count a (x .len) off n (suc k) i e))
           ∙ sym (ap length (if-F (leb (x .len) (off - a)) _ _ (λ t. h (leb→le (x .len) (off - a) t)))))
     ]
   where
@@ -102,7 +103,8 @@ overlaps-step x xs a off n (suc k) l e ih =
     hit n a off k l e i = omega arith
 
 -- a range has one stretch for each stretch that it overlaps
-overlaps-from : (Z : List ℕ) (B : ℕ) (xs : List Stretch) (a off n : ℕ) → Good Z B xs → overlaps xs a off n ≡ length (cutOut xs (off - a) (n - (a - off)))
+overlaps-from : (Z : List ℕ) (B : ℕ) (xs : List Stretch) (a off n : ℕ) → Good Z B xs
+    → overlaps xs a off n ≡ length (cutOut xs (off - a) (n - (a - off)))
 unfolding overlaps cutOut
 overlaps-from Z B [] a off n g = refl
 overlaps-from Z B (x ∷ xs) a off n g = overlaps-step x xs a off n (n - (a - off)) (g .1) refl (overlaps-from Z B xs (a + x .len) off n (g .3))
@@ -114,7 +116,8 @@ overlaps-cut Z B xs off n g =
     ap₂ (λ u v. length (cutOut xs u v)) o k ∙ sym (overlaps-from Z B xs 0 off n g)
 
 -- the first bytes have the first stretch, and then those of the rest
-pub cut-count : (x : Stretch) (xs : List Stretch) (n : ℕ) → 1 ≤ x .len → 0 < n → length (cutOut (x ∷ xs) 0 n) ≡ suc (length (cutOut xs 0 (n - x .len)))
+pub cut-count : (x : Stretch) (xs : List Stretch) (n : ℕ) → 1 ≤ x .len → 0 < n
+    → length (cutOut (x ∷ xs) 0 n) ≡ suc (length (cutOut xs 0 (n - x .len)))
 unfolding cutOut
 cut-count x xs zero l h = absurd (omega arith)
 cut-count x xs (suc n) l h =
@@ -158,7 +161,8 @@ splits-none (x ∷ xs) a n h =
     omega (arith, bit-F (u && v) (λ t. omega (arith, ltb→lt a n (and-0 u v t))), splits-none xs (a + x .len) n (omega arith))
 
 -- at or past the first stretch's end, and inside it
-pub splits-past : (x : Stretch) (xs : List Stretch) (a n : ℕ) → x .len ≤ n → splits (x ∷ xs) a (a + n) ≡ splits xs (a + x .len) (a + x .len + (n - x .len))
+pub splits-past : (x : Stretch) (xs : List Stretch) (a n : ℕ) → x .len ≤ n
+    → splits (x ∷ xs) a (a + n) ≡ splits xs (a + x .len) (a + x .len + (n - x .len))
 unfolding splits
 splits-past x xs a n h =
     let u = ltb a (a + n) in
@@ -199,4 +203,6 @@ walk-short (suc k) (suc d) T = omega (arith, walk-short k (piece T d .next) T)
 
 -- one more on both sides changes no order
 pub one-more : (m n : ℕ) → leb m n ≡ leb (suc m) (suc n)
-one-more m n = same-test (leb m n) (leb (suc m) (suc n)) (λ t. le→leb (suc m) (suc n) (omega (arith, leb→le m n t))) (λ t. le→leb m n (omega (arith, leb→le (suc m) (suc n) t)))
+one-more m n =
+    same-test (leb m n) (leb (suc m) (suc n)) (λ t. le→leb (suc m) (suc n) (omega (arith, leb→le m n t)))
+    (λ t. le→leb m n (omega (arith, leb→le (suc m) (suc n) t)))

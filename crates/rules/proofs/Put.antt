@@ -5,7 +5,6 @@ use mathlib.Core.List.{List, [], append-nil}
 use Prim.Native.Nat.{ℕ, _≤_, _<_}
 use native.Mathlib.Omega.{arith}
 use lib.ListN.{length, length-take, take}
-use Rattle.rules.specs.Basics.{if_then_else_}
 use Rattle.rules.specs.Tables.{Tables, bufferTotal, pieceTotal}
 use Rattle.rules.specs.Chain.{State, stretches}
 use Rattle.rules.specs.Room.{isUnheld, vacantSlips, freePieces, freeBuffers, newSlip, newBuffers, isFree}
@@ -70,7 +69,7 @@ put-takes input S h a h′ =
     (new-pass (isFree T) (pieceTotal T) k) (new-laid T k (length input))
 
 put-caused : (input : List ℕ) → Causing (putCall input)
-unfolding found if_then_else_
+unfolding found
 put-caused input S h f = record {
   below = tt;
   slip = slip-none (S .tables);

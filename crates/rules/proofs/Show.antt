@@ -23,7 +23,7 @@ use Rattle.rules.proofs.Chain.{spans-good}
 use Rattle.rules.proofs.Contents.{Fit, bytes-length}
 use Rattle.rules.proofs.Codes.{Allowed, not-leb-is, no-cause}
 use Rattle.rules.proofs.After.{reads-length}
-use Rattle.rules.proofs.Caused.{found, slip-one, twice-one, none-less, less-is, past-is}
+use Rattle.rules.proofs.Caused.{found, slip-one, twice-one, less-is, past-is}
 use Rattle.rules.proofs.Lawful.{Lawful, looks-lawful, Causing}
 use Rattle.rules.proofs.Read.{copied-front, copied-rest, copied-length}
 

@@ -13,7 +13,7 @@ use Rattle.rules.specs.Chain.{State, reads}
 use Rattle.rules.specs.Sound.{Lent, Sound}
 use Rattle.rules.specs.Room.{isVacant}
 use Rattle.rules.specs.Rule.{Meaning}
-use Rattle.rules.specs.Step.{Operation, Call, Open, Do, meaning, stateIn, step}
+use Rattle.rules.specs.Step.{Call, Open, Do, meaning, stateIn, step}
 use Rattle.rules.specs.Recount.{leaves}
 
 -- slip t is S or more, or vacant
