@@ -1,11 +1,11 @@
 -- The recount reads slips, nexts and pieces' buffers, and no stored count: of any tables, sound or not. Assumes nothing.
 use mathlib.Core.Path.{_≡_, refl, sym, ap, _∙_}
 use mathlib.Core.Bool.{_&&_, not}
-use mathlib.Core.List.{List, [], _∷_}
+use mathlib.Core.List.{List, _∷_}
 use Prim.Native.Nat.{ℕ, zero, suc, _+_, _<_, pred}
 use native.Mathlib.Decide.{decLt}
 use native.Mathlib.Omega.{arith}
-use lib.ListN.{length, getD}
+use lib.ListN.{length, getD, List·getD-eq-default}
 use lib.Dec.{eqb}
 use Rattle.rules.specs.Basics.{bit, sumTo, anyTo, table, member}
 use Rattle.rules.specs.Tables.{Piece, Tables, blank, piece, headOf, pieceTotal, bufferTotal, withCount, withBoth}
@@ -57,12 +57,6 @@ module _ {T T′ : Tables} (a : Alike T T′) where
 
 -- ---- other counts
 
--- past its end a list reads as zero
-past-end : (l : List Piece) (d : ℕ) → (d < length l → ⊥) → getD l d blank ≡ blank
-past-end [] d h = refl
-past-end (x ∷ l) zero h = absurd (h (omega arith))
-past-end (x ∷ l) (suc d) h = past-end l d (λ k. h (omega arith))
-
 module _ (T : Tables) (f g : ℕ → ℕ) where
   entry-within : (d : ℕ) → d < pieceTotal T → piece (countedBy T f g) d ≡ withCount (piece T d) (f d)
   entry-within d h = getD-table (pieceTotal T) (λ e. withCount (piece T e) (f e)) d blank h
@@ -75,8 +69,8 @@ module _ (T : Tables) (f g : ℕ → ℕ) where
       elim (decLt d (pieceTotal T)) [
         | yes l ↦ ap part (entry-within d l) ∙ h (piece T d) (f d)
         | no l ↦
-            ap part (past-end ps d (λ k. l (omega (arith, length-table (pieceTotal T) (λ e. withCount (piece T e) (f e))))))
-            ∙ ap part (sym (past-end (T .pieces) d l))
+            ap part (List·getD-eq-default ps blank {n = d} (omega (arith, length-table (pieceTotal T) (λ e. withCount (piece T e) (f e)))))
+            ∙ ap part (sym (List·getD-eq-default (T .pieces) blank {n = d} (omega arith)))
       ]
 
   counted-alike : Alike (countedBy T f g) T

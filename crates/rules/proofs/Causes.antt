@@ -27,7 +27,7 @@ use Rattle.rules.proofs.Calls.{before-caused, code-caused}
 use Rattle.rules.proofs.Bytes.{and-is, eqb-is, counts-facts, counts-test}
 use Rattle.rules.proofs.Step.{code-is, step-torn, sound-within}
 
--- n bytes fit k buffers of 512 just where k are enough
+-- as few buffers of 512 bytes as take n bytes
 pub enough : (n k : ℕ) → (buffersFor n ≤ k) ↔ (n ≤ 512 * k)
 enough n k = (λ h. omega arith, λ h. omega arith)
 

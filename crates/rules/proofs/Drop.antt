@@ -228,7 +228,7 @@ unfolding dropHere if_then_else_
 own-none T d zero = refl
 own-none T d (suc n) = refl
 
--- k bounds the pieces: m new pieces for the cut at n, where the pieces from the link m on are all own before
+-- the same for the pieces walked from the link m, at most k of them, where all before them are own
 own-count : (T : Tables) (Z : List ℕ) (B k m a n : ℕ) → Good Z B (stretches T (walk k T m))
     → length (dropPlan T true (walk k T m) n .more)
     ≡ (if leb (length (cutOut (stretches T (walk k T m)) 0 n)) (length (ownPieces k T m)) then 0 else splits (stretches T (walk k T m)) a (a + n))

@@ -1,5 +1,6 @@
 -- How many stretches overlap a range, how many a byte falls inside, and how many own pieces there are among the first ones. Assumes nothing.
 use mathlib.Core.Path.{_≡_, refl, sym, ap, ap₂, _∙_}
+use mathlib.Core.Logic.{⊎-elim}
 use mathlib.Core.Bool.{Bool, _&&_}
 use mathlib.Core.List.{List, [], _∷_}
 use Prim.Native.Nat.{ℕ, zero, suc, _+_, _-_, _≤_, _<_, min}
@@ -10,7 +11,7 @@ use lib.Dec.{eqb, ltb, ltb→lt, lt→ltb, leb, leb→le, le→leb}
 use Rattle.rules.specs.Basics.{bit}
 use Rattle.rules.specs.Tables.{Tables, piece}
 use Rattle.rules.specs.Chain.{Stretch, walk, ownPieces, cutOut, overlaps, splits}
-use Rattle.rules.proofs.Logic.{if-T, if-F, if-either, if-both, and-intro, and-0, and-1, same-test, bit-T, bit-F}
+use Rattle.rules.proofs.Logic.{if-T, if-F, if-either, if-both, and-intro, and-0, and-1, same-test, is-dec, bit-T, bit-F}
 use Rattle.rules.proofs.Build.{Good}
 
 -- ---- overlaps
@@ -159,6 +160,18 @@ splits-none (x ∷ xs) a n h =
     let u = ltb a n in
     let v = ltb n (a + x .len) in
     omega (arith, bit-F (u && v) (λ t. omega (arith, ltb→lt a n (and-0 u v t))), splits-none xs (a + x .len) n (omega arith))
+
+-- a byte falls inside one at most
+pub splits-most : (xs : List Stretch) (a n : ℕ) → splits xs a n ≤ 1
+unfolding splits
+splits-most [] a n = omega arith
+splits-most (x ∷ xs) a n =
+    let u = ltb a n in
+    let v = ltb n (a + x .len) in
+    ⊎-elim
+    (λ t. omega (arith, bit-T (u && v) t, splits-none xs (a + x .len) n (omega (arith, ltb→lt n (a + x .len) (and-1 u v t)))))
+    (λ t. omega (arith, bit-F (u && v) t, splits-most xs (a + x .len) n))
+    (is-dec (u && v))
 
 -- at or past the first stretch's end, and inside it
 pub splits-past : (x : Stretch) (xs : List Stretch) (a n : ℕ) → x .len ≤ n
