@@ -14,11 +14,11 @@ use Rattle.kinds.specs.declared.Outcome.the-variants.{Done, Refused}
 use Rattle.rules.specs.Basics.{Is, if_then_else_}
 use Rattle.rules.specs.Tables.{Tables, slip, headOf, vacant, setSlip}
 use Rattle.rules.specs.Bytes.{decode}
-use Rattle.rules.specs.Chain.{State, withTables}
+use Rattle.rules.specs.Chain.{State, ownOf, withTables}
 use Rattle.rules.specs.Sound.{lent}
 use Rattle.rules.specs.Room.{freePieces}
 use Rattle.rules.specs.Rule.{_⇐_, firstCode, unnamed, want, noView}
-use Rattle.rules.specs.Append.{ownOf, notOwn, oneEmpty, joined, appendAfter}
+use Rattle.rules.specs.Append.{notOwn, oneEmpty, joined, appendAfter}
 use Rattle.rules.specs.Step.{Append, rule, stateIn, perform}
 use Rattle.rules.proofs.Logic.{if-T, if-F, eq→eqb, or-left, or-right, or-cases}
 use Rattle.rules.proofs.Codes.{first-yes, first-no, first-none}

@@ -7,11 +7,11 @@ use lib.ListN.{length}
 use Rattle.rules.specs.Basics.{Is}
 use Rattle.rules.specs.Tables.{Tables, piece, headOf, vacant, pieceTotal, setSlip}
 use Rattle.rules.specs.Bytes.{decode}
-use Rattle.rules.specs.Chain.{Stretch, follow, cutOut, withTables}
+use Rattle.rules.specs.Chain.{Stretch, follow, ownOf, cutOut, withTables}
 use Rattle.rules.specs.Sound.{linkOk, lent}
 use Rattle.rules.specs.Room.{freePieces}
 use Rattle.rules.specs.Build.{built, builtLink}
-use Rattle.rules.specs.Append.{ownOf, notOwn, joined}
+use Rattle.rules.specs.Append.{notOwn, joined}
 use Rattle.rules.specs.Step.{stateIn}
 use Rattle.rules.proofs.Audit.{tables-now}
 use Rattle.rules.proofs.Codes.{named}

@@ -3,34 +3,35 @@ use mathlib.Core.Path.{_≡_, refl, sym, ap, subst, _∙_}
 use mathlib.Core.Logic.{_≢_, inl, inr, ⊎-elim}
 use mathlib.Core.Bool.{Bool, false, true, _||_}
 use mathlib.Core.List.{List, [], _∷_, _++_, append-assoc, append-nil, map-append}
-use Prim.Native.Nat.{ℕ, _<_, pred, _≤_}
+use Prim.Native.Nat.{ℕ, _<_, pred, _≤_, suc, _+_, _-_}
 use native.Mathlib.Omega.{arith}
 use native.Mathlib.Decide.{ℕ-discrete}
-use lib.ListN.{length, getD, length-set, take, take-append-drop}
+use lib.ListN.{length, getD, length-set, take, take-append-drop, length-drop}
 use lib.Seq.{getD-set-other, getD-set-same}
 use lib.Dec.{eqb, eqb→eq}
 use Rattle.rules.specs.Basics.{Is, if_then_else_, passing}
 use Rattle.rules.specs.Tables.{Tables, slip, headOf, vacant, slipTotal, pieceTotal, bufferTotal, setSlip, piece}
-use Rattle.rules.specs.Chain.{State, spans, Stretch, chain, stretches, withTables, contents, reads}
+use Rattle.rules.specs.Chain.{State, spans, Stretch, chain, stretches, withTables, contents, reads, ownOf, stretch, total}
 use Rattle.rules.specs.Room.{freePieces, isFree, isUnheld, isVacant}
 use Rattle.rules.specs.Build.{built, builtLink}
 use Rattle.rules.specs.Rule.{reading, vacating, want}
-use Rattle.rules.specs.Append.{ownOf, notOwn, joined, appendAfter, appendCall, oneEmpty}
+use Rattle.rules.specs.Append.{notOwn, joined, appendAfter, appendCall, oneEmpty, isEmpty}
 use Rattle.rules.specs.Takes.{Took}
-use Rattle.rules.proofs.Logic.{if-either, if-F, or-cases}
+use Rattle.rules.proofs.Logic.{if-either, if-F, or-cases, is-false}
 use Rattle.rules.proofs.Moves.{SoundNow, hit, reorder, slip-move, SoundWith}
 use Rattle.rules.proofs.Rank.{head-pos}
-use Rattle.rules.proofs.Build.{OwnList, own-pieces, own-list-still, built-sound, built-kept, behind-sound}
+use Rattle.rules.proofs.Build.{OwnList, own-pieces, own-list-still, built-sound, built-kept, behind-sound, Good}
 use Rattle.rules.proofs.Room.{free-pieces, passing-front, passing-none}
 use Rattle.rules.proofs.Chain.{spans-good, good-drop, built-own, AllUsed, chain-used}
-use Rattle.rules.proofs.Meets.{chain-meets, agree-all, agree-stretches, slip-same, built-same, built-meets, built-agree, Same, same-trans}
-use Rattle.rules.proofs.Hang.{Run, Gives, gives-as, gives-from, behind-gives, own-run, ones-used, own-ones, run-still, own-front, gives-chain, gives-spans, moved-spans}
-use Rattle.rules.proofs.Contents.{contents-append}
+use Rattle.rules.proofs.Meets.{chain-meets, agree-all, agree-stretches, slip-same, built-same, built-meets, built-agree, Same, same-trans, Meets, stop, go}
+use Rattle.rules.proofs.Hang.{Run, Gives, gives-as, gives-from, behind-gives, own-run, ones-used, own-ones, run-still, own-front, gives-chain, gives-spans, moved-spans, stretches-length}
+use Rattle.rules.proofs.Contents.{contents-append, Fit}
 use Rattle.rules.proofs.Codes.{both-named}
+use Rattle.rules.proofs.Caused.{found, slip-both, twice-both, none-less}
 use Rattle.rules.proofs.Sizes.{Sizes, behind-sizes, behind-storage, built-sizes, slip-set, then-sizes}
-use Rattle.rules.proofs.After.{Reading, at-by, at-there, empty-spans, gives-reading, gone-reading, held-false, same-reading, stays-as, then-reading}
+use Rattle.rules.proofs.After.{Reading, at-by, at-there, empty-spans, gives-reading, gone-reading, held-false, same-reading, stays-as, then-reading, reads-length}
 use Rattle.rules.proofs.Takes.{buffersOf, new-front, no-slips, old-as, old-none, spans-none, took, took-none, used-none}
-use Rattle.rules.proofs.Lawful.{Lawful, Leaving}
+use Rattle.rules.proofs.Lawful.{Lawful, Leaving, Causing}
 
 -- ---- before the hanging
 
@@ -320,6 +321,39 @@ append-leaves a b S h _ al =
     (λ e _. then-reading refl r (stayer-reading a b S la za lb zb ne h (eqb→eq (headOf T b) 0 e)))
     (λ nb h′. then-reading refl r (joined-reading a b S la za lb zb ne h h′ (wanted-rest T a b (al .pieces-room) na nb))))
 
+-- a chain is empty where it has no bytes
+meets-none : (T : Tables) (n : ℕ) (l : List ℕ) → Meets T n l → Good (T .stock) (bufferTotal T) (stretches T l)
+    → eqb n 0 ≡ eqb (total (stretches T l)) 0
+unfolding stretches total
+meets-none T n l stop g = refl
+meets-none T n l (go {d = d} {l = ds} c) g =
+    let k = stretch (piece T d) .len + total (stretches T ds) in
+    is-false (eqb (suc d) 0) (λ t. omega (arith, eqb→eq (suc d) 0 t)) ∙ sym (is-false (eqb k 0) (λ t. omega (arith, eqb→eq k 0 t, g .1)))
+
+empty-test : (S : State) → SoundNow (S .tables) → Fit (S .tables .stock) (bufferTotal (S .tables)) (S .storage) → (s : ℕ)
+    → isEmpty (S .tables) s ≡ eqb (length (reads S s)) 0
+empty-test S h f s =
+    let T = S .tables in
+    meets-none T (headOf T s) (chain T s) (chain-meets T s h) (spans-good T s h) ∙ ap (λ k. eqb k 0) (sym (reads-length S h f s))
+
+append-caused : (a b : ℕ) → Causing (appendCall a b)
+unfolding found if_then_else_
+append-caused a b S h f = record {
+  below = omega arith;
+  slip = slip-both (S .tables) a b;
+  same = twice-both a b;
+  long = none-less 512;
+  range = none-less _;
+  narrow = none-less 0;
+  asked = λ z. (
+      let T = S .tables in
+      let x = empty-test S h f a in
+      let y = empty-test S h f b in
+      let n : length (notOwn T a) ≡ length (chain T a) - length (ownOf T a) =
+      length-drop (length (ownOf T a)) (spans T a) ∙ ap (λ k. k - length (ownOf T a)) (stretches-length T (chain T a)) in
+      λ i. want 0 (if x i || y i then 0 else n i) 0);
+}
+
 pub append-lawful : (a b : ℕ) → Lawful (appendCall a b)
 append-lawful a b = record {
   codes = λ S. omega arith;
@@ -327,6 +361,7 @@ append-lawful a b = record {
   stays = λ S _. stays-as S (appendAfter a b S) (append-storage a b S);
   sound = λ S h al. (let ((la, _), (lb, _), ne) = both-named (S .tables) a b (al .early) in append-sound a b S ne la lb h);
   known = λ S _. (inl (inl refl), (inl (inr refl), tt));
+  caused = append-caused a b;
   leaves = append-leaves a b;
   takes = λ S h al h′. (let ((la, za), (lb, zb), ne) = both-named (S .tables) a b (al .early) in append-takes a b S la za lb zb ne h h′ (al .pieces-room));
 }

@@ -10,13 +10,16 @@ use Rattle.rules.specs.Layout.{storageLength}
 use Rattle.rules.specs.Tables.{bufferCount, bufferTotal}
 use Rattle.rules.specs.Chain.{State, reads}
 use Rattle.rules.specs.Room.{isVacant}
-use Rattle.rules.specs.Rule.{Change, firstCode}
+use Rattle.rules.specs.Rule.{Change, firstCode, codeIn}
 use Rattle.rules.specs.Step.{Operation, Audit, Put, Free, Dup, Cut, Append, Drop, Keep, Pullup, Pack, Length, Read, Show, WireList, meaning, rule}
+use Rattle.rules.specs.Causes.{Cause}
 use Rattle.rules.specs.After.{Names, ReadsOk, readsAfter, vacantAfter}
 use Rattle.rules.specs.Takes.{TakesOk}
 use Rattle.rules.proofs.Moves.{SoundNow}
 use Rattle.rules.proofs.Contents.{Fit}
+use Rattle.rules.proofs.Recount.{leaves-room}
 use Rattle.rules.proofs.Codes.{Allowed, Apart, Other, Rising, apart-first}
+use Rattle.rules.proofs.Caused.{Before, Settled, before-settled, code-settled}
 use Rattle.rules.proofs.Sizes.{Sizes}
 use Rattle.rules.proofs.After.{heldBytes, with-stock}
 use Rattle.rules.proofs.Lawful.{Lawful, others-stay, audit-lawful}
@@ -62,6 +65,23 @@ judged-apart o S = lawful o .codes S .1
 
 pub judged-early : (o : Operation) (S : State) → Other (firstCode (rule o S .judged))
 judged-early o S = apart-first (rule o S .judged) (judged-apart o S)
+
+-- on a sound pool the code judged before room, and the code, are settled by the causes of document 01's table
+pub before-caused : (o : Operation) (S : State) → SoundNow (S .tables) → Fit (S .tables .stock) (bufferTotal (S .tables)) (S .storage)
+    → Settled (firstCode (rule o S .judged)) (Before (meaning o) S)
+unfolding rule
+before-caused o S h f = before-settled (meaning o) S (lawful o .codes S) (lawful o .caused S h f)
+
+pub code-caused : (o : Operation) (S : State) → SoundNow (S .tables) → Fit (S .tables .stock) (bufferTotal (S .tables)) (S .storage)
+    → Settled (codeIn (rule o S) (S .tables)) (λ r. Cause r (meaning o) S)
+unfolding rule
+code-caused o S h f = code-settled (meaning o) S (lawful o .codes S) (lawful o .caused S h f) (leaves-room (S .tables) h)
+
+-- where none is judged before room, what is wanted is what is asked
+pub wants-asked : (o : Operation) (S : State) → SoundNow (S .tables) → Fit (S .tables .stock) (bufferTotal (S .tables)) (S .storage)
+    → firstCode (rule o S .judged) ≡ 0 → rule o S .wants ≡ meaning o .asks S .new
+unfolding rule
+wants-asked o S h f z = lawful o .caused S h f .asked z
 
 -- tables and storage stay as long as they were
 pub rule-sizes : (o : Operation) (S : State) → Sizes (S .tables) (rule o S .after .tables)

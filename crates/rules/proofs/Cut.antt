@@ -1,14 +1,16 @@
 -- cut: soundness is kept, what its slip then holds, how many bytes, and that it is lawful. Assumes nothing.
-use mathlib.Core.Path.{_≡_, refl}
+use mathlib.Core.Path.{_≡_, refl, ap}
 use mathlib.Core.Logic.{inr}
 use mathlib.Core.List.{[], append-nil}
-use Prim.Native.Nat.{ℕ, _<_, _≤_}
+use Prim.Native.Nat.{ℕ, _<_, _≤_, _+_}
 use native.Mathlib.Omega.{arith}
 use lib.ListN.{length, take, drop, length-take, length-drop}
+use Rattle.rules.specs.Basics.{if_then_else_}
 use Rattle.rules.specs.Tables.{bufferTotal, pieceTotal}
 use Rattle.rules.specs.Chain.{State, spans, cutOut, stretches, reads}
 use Rattle.rules.specs.Room.{vacantSlips, freePieces, newSlip, isFree, isUnheld}
 use Rattle.rules.specs.Build.{plain}
+use Rattle.rules.specs.Rule.{want}
 use Rattle.rules.specs.Cut.{cutAfter, cutCall}
 use Rattle.rules.specs.Step.{Cut, rule}
 use Rattle.rules.proofs.Moves.{SoundNow}
@@ -18,11 +20,13 @@ use Rattle.rules.proofs.Chain.{spans-good, cutOut-good}
 use Rattle.rules.proofs.Meets.{stop, same-refl}
 use Rattle.rules.proofs.Hang.{Gives, gives-as, new-gives}
 use Rattle.rules.proofs.Contents.{Fit, contents-length, cutOut-contents}
+use Rattle.rules.proofs.Overlaps.{overlaps-cut}
 use Rattle.rules.proofs.Codes.{Allowed, no-cause}
+use Rattle.rules.proofs.Caused.{found, slip-one, twice-one, none-less, past-is}
 use Rattle.rules.proofs.Sizes.{new-sizes, same-sizes}
 use Rattle.rules.proofs.After.{gives-reading, stays-as}
 use Rattle.rules.proofs.Takes.{buffersOf, cutOut-none, new-pass, roomy, spans-none, took-new}
-use Rattle.rules.proofs.Lawful.{Lawful, new-vacant, Leaving, Taking}
+use Rattle.rules.proofs.Lawful.{Lawful, new-vacant, Leaving, Taking, Causing}
 
 pub cut-sound : (s off n : ℕ) (S : State) → 0 < length (vacantSlips (S .tables)) → SoundNow (S .tables) → SoundNow (cutAfter s off n S .tables)
 unfolding cutAfter
@@ -65,6 +69,18 @@ cut-takes s off n S h a h′ =
     took-new T _ _ _ h h′ (cut-gives s off n S h (a .slips-room) (a .pieces-room)) (length xs) 0 (roomy a)
     (new-pass (isFree T) (pieceTotal T) (length xs)) (passing-none (isUnheld T) (buffersOf xs) (cutOut-none (isUnheld T) (spans T s) off n (spans-none T s h)))
 
+cut-caused : (s off n : ℕ) → Causing (cutCall s off n)
+unfolding found if_then_else_
+cut-caused s off n S h f = record {
+  below = omega arith;
+  slip = slip-one (S .tables) s;
+  same = twice-one s;
+  long = none-less 512;
+  range = past-is S h f s (off + n);
+  narrow = none-less 0;
+  asked = λ z. ap (λ k. want 1 k 0) (overlaps-cut (S .tables .stock) (bufferTotal (S .tables)) (spans (S .tables) s) off n (spans-good (S .tables) s h));
+}
+
 pub cut-lawful : (s off n : ℕ) → Lawful (cutCall s off n)
 unfolding cutAfter
 cut-lawful s off n = record {
@@ -73,6 +89,7 @@ cut-lawful s off n = record {
   stays = λ S _. stays-as S (cutAfter s off n S) refl;
   sound = λ S h a. cut-sound s off n S (a .slips-room) h;
   known = λ S a. (inr (new-vacant (S .tables) (a .slips-room)), tt);
+  caused = cut-caused s off n;
   leaves = cut-leaves s off n;
   takes = cut-takes s off n;
 }

@@ -1,5 +1,5 @@
 -- Demand 3, whole: any list of calls from the pool that a done open has written. Assumes nothing.
-use mathlib.Core.Path.{_≡_, sym, ap, subst, _∙_}
+use mathlib.Core.Path.{_≡_, refl, sym, ap, subst, _∙_}
 use mathlib.Core.Logic.{_≢_, _↔_}
 use mathlib.Core.Bool.{not}
 use mathlib.Core.List.{List, [], _∷_}
@@ -12,18 +12,20 @@ use Rattle.kinds.specs.Refusal.{refusalCode}
 use Rattle.rules.specs.Basics.{Is}
 use Rattle.rules.specs.Tables.{Tables}
 use Rattle.rules.specs.Bytes.{decode}
-use Rattle.rules.specs.Chain.{withTables}
-use Rattle.rules.specs.Sound.{Lent, sound}
+use Rattle.rules.specs.Chain.{stateOf, withTables}
+use Rattle.rules.specs.Sound.{Lent, lent, sound}
 use Rattle.rules.specs.Rule.{_⇐_, firstCode, Wants, want, room, full}
 use Rattle.rules.specs.Open.{openable}
 use Rattle.rules.specs.Step.{Operation, Call, Open, Do, rule, Result, step, stateIn, next, afterCalls}
-use Rattle.rules.specs.Recount.{recounted}
+use Rattle.rules.specs.Recount.{countedBy, recounted, leaves}
 use Rattle.rules.specs.Demand.{early, wanted, left, CallOk, Each, DemandThree}
 use Rattle.rules.proofs.Logic.{if-T, if-F, if-either, eq→eqb}
 use Rattle.rules.proofs.Audit.{sound-now}
 use Rattle.rules.proofs.Recount.{recount, recounted-same, leaves-room}
 use Rattle.rules.proofs.Codes.{first-yes, first-no, first-none, first-append, none-full, Full, full-facts, Other}
 use Rattle.rules.proofs.Calls.{judged-early}
+use Rattle.rules.proofs.Causes.{exactly, early-ok}
+use Rattle.rules.proofs.Blind.{blind, recounted-blind}
 use Rattle.rules.proofs.Step.{code-is, opened-sound, step-keeps}
 
 -- ---- one call
@@ -90,9 +92,30 @@ open-judging B P S m =
     let e = first-yes (Counts ⇐ not (openable B P S m)) [] (not-T (openable B P S m) t) in
     record { when-early = λ _. sym e; when-not = λ z. absurd (omega arith); other = omega arith }))
 
+call-judging : (c : Call) (m : Lent) → Is (sound m) → Judging (step c m .code) (early c m) (wanted c m) (left m)
+call-judging (Open B P S) m t = open-judging B P S m
+call-judging (Do o) m t = do-judging o m t
+
+-- what is wanted is read from no stored count
+wanted-blind : (c : Call) (m : Lent) (q : List ℕ) (f g : ℕ → ℕ) → decode q ≡ countedBy (decode (m .pool)) f g
+    → wanted c (lent q (m .storage)) ≡ wanted c m
+unfolding wanted
+wanted-blind (Open B P S) m q f g e = refl
+wanted-blind (Do o) m q f g e =
+    ap (λ (X : Tables). rule o (stateOf X (m .storage)) .wants) (ap recounted e ∙ recounted-blind (decode (m .pool)) f g)
+
 pub call-ok : (c : Call) (m : Lent) → Is (sound m) → CallOk c m
-call-ok (Open B P S) m t = (let j = judging _ _ _ _ (open-judging B P S m) in record { not-torn = j .0; slips-full = j .1; pieces-full = j .2; buffers-full = j .3 })
-call-ok (Do o) m t = (let j = judging _ _ _ _ (do-judging o m t) in record { not-torn = j .0; slips-full = j .1; pieces-full = j .2; buffers-full = j .3 })
+call-ok c m t =
+    let j = judging _ _ _ _ (call-judging c m t) in
+    record {
+      not-torn = j .0;
+      slips-full = j .1;
+      pieces-full = j .2;
+      buffers-full = j .3;
+      exactly = exactly c m;
+      early-ok = early-ok c m;
+      blind = λ q f g e. (wanted-blind c m q f g e, ap leaves e ∙ blind (decode (m .pool)) f g .same-leaves);
+    }
 
 -- ---- any list of calls
 
@@ -108,4 +131,8 @@ calls-sound (c ∷ cs) m t = calls-sound cs (next c m) (step-keeps c m t)
 pub demand-3 : DemandThree
 demand-3 B P S m cs e =
     let t = opened-sound B P S m e in
-    record { each = each-ok cs (next (Open B P S) m) t; recount = recount _ (sound-now _ (calls-sound cs (next (Open B P S) m) t)) }
+    record {
+      each = each-ok cs (next (Open B P S) m) t;
+      recount = recount _ (sound-now _ (calls-sound cs (next (Open B P S) m) t));
+      blind = λ f g. blind _ f g;
+    }

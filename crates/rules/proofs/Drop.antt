@@ -1,7 +1,7 @@
 -- drop: soundness is kept, what its slip then holds, and that it is lawful. Assumes nothing.
 use mathlib.Core.Path.{_≡_, refl, sym, ap, subst, subst₂, _∙_}
-use mathlib.Core.Logic.{_≢_, inl}
-use mathlib.Core.Bool.{Bool, true, _&&_}
+use mathlib.Core.Logic.{_≢_, inl, ⊎-elim}
+use mathlib.Core.Bool.{Bool, true, _&&_, false}
 use mathlib.Core.List.{List, [], _∷_, _++_, List·Memᴰ}
 use Prim.Native.Nat.{ℕ, zero, suc, _+_, _-_, _<_, _≤_, pred}
 use native.Mathlib.Nat.{suc-inj}
@@ -10,30 +10,32 @@ use native.Mathlib.Omega.{arith}
 use lib.ListN.{length, take, length-set, drop}
 use lib.Seq.{getD-set-same, getD-set-other}
 use lib.Dec.{eqb, leb, eqb→eq, leb→le, le→leb}
-use Rattle.rules.specs.Basics.{Is}
-use Rattle.rules.specs.Tables.{Piece, Tables, blank, piece, slipTotal, setPiece, withCount, headOf, setSlip, bufferTotal}
-use Rattle.rules.specs.Chain.{State, chain, stretch, Stretch, stretches, spans, contents, reads}
+use Rattle.rules.specs.Basics.{Is, if_then_else_}
+use Rattle.rules.specs.Tables.{Piece, Tables, blank, piece, slipTotal, setPiece, withCount, headOf, setSlip, bufferTotal, pieceTotal}
+use Rattle.rules.specs.Chain.{State, chain, stretch, Stretch, stretches, spans, contents, reads, walk, ownPieces, ownOf, cutOut, splits}
 use Rattle.rules.specs.Room.{freePieces, isUnheld}
 use Rattle.rules.specs.Release.{shared}
 use Rattle.rules.specs.Build.{Plan, underOld}
 use Rattle.rules.specs.Rule.{reading, want}
-use Rattle.rules.specs.Drop.{shorter, dropHere, dropPlan, dropped, dropAfter, ownAt, dropCall}
+use Rattle.rules.specs.Drop.{shorter, dropHere, dropPlan, dropped, dropAfter, ownAt, dropCall, dropPieces}
 use Rattle.rules.specs.Takes.{Took}
-use Rattle.rules.proofs.Logic.{if-either, not-most, and-0, and-1, if-T, if-F}
+use Rattle.rules.proofs.Logic.{if-either, not-most, and-0, and-1, if-T, if-F, is-true, is-false, is-dec}
 use Rattle.rules.proofs.Moves.{SoundBy, SoundNow, used-in-range, in-range, buffer-pos, trim-move, reorder, slip-move}
 use Rattle.rules.proofs.Rank.{next-pos}
 use Rattle.rules.proofs.Release.{held-pos}
-use Rattle.rules.proofs.Build.{share-sound, still-shared, still-store, still-trans, Planned, plain-planned, old-sound, OwnTo, own-still}
+use Rattle.rules.proofs.Build.{share-sound, still-shared, still-store, still-trans, Planned, plain-planned, old-sound, OwnTo, own-still, Good}
 use Rattle.rules.proofs.Room.{free-pieces, passing-none}
 use Rattle.rules.proofs.Chain.{AllUsed, chain-used, spans-good}
 use Rattle.rules.proofs.Meets.{Meets, stop, go, chain-meets, meets-low, Alike, alike, Agree, agree-but, agree-meets, agree-stretches, Same, same-by, same-refl, slip-same, shared-same, Safe, head-safe, own-apart}
 use Rattle.rules.proofs.Hang.{Gives, gives-as, old-gives}
 use Rattle.rules.proofs.Contents.{dropOut, dropOut-contents}
+use Rattle.rules.proofs.Overlaps.{overlaps-cut, cut-count, cut-first, cut-nothing, splits-nil, splits-none, splits-past, splits-inside, one-more}
 use Rattle.rules.proofs.Codes.{first-named}
+use Rattle.rules.proofs.Caused.{found, slip-one, twice-one, none-less, past-is}
 use Rattle.rules.proofs.Sizes.{Sizes, old-sizes, old-storage, piece-set, shared-sizes, then-sizes, same-sizes, maybe-sizes}
 use Rattle.rules.proofs.After.{Reading, gives-reading, same-reading, stays-as, maybe-stays}
 use Rattle.rules.proofs.Takes.{buffersOf, dropOut-none, new-front, nothing-taken, roomy, spans-none, took-held}
-use Rattle.rules.proofs.Lawful.{Lawful, Leaving, Taking}
+use Rattle.rules.proofs.Lawful.{Lawful, Leaving, Taking, Causing}
 
 pub drop-here : (T : Tables) (own : Bool) (d n : ℕ) → n < piece T d .len → 0 < piece T d .count → SoundNow T → Planned T (dropHere T own d n)
 unfolding dropHere
@@ -197,6 +199,87 @@ drop-none T own (d ∷ ds) n e =
     let own′ = own && eqb (piece T d .count) 1 in
     if-either (λ (p : Plan). p .more ≡ []) (leb (piece T d .len) n) _ _ (λ _. drop-none T own′ ds (n - piece T d .len) (omega arith)) (λ _. here-none T own′ d n e)
 
+-- ---- how many new pieces drop makes
+
+-- the byte n of a piece of which not all before are own
+here-count : (T : Tables) (d a n : ℕ) (xs : List Stretch) → n < piece T d .len
+    → length (dropHere T false d n .more) ≡ splits (stretch (piece T d) ∷ xs) a (a + n)
+unfolding dropHere if_then_else_
+here-count T d a zero xs h = sym (splits-none (stretch (piece T d) ∷ xs) a (a + 0) (omega arith))
+here-count T d a (suc n) xs h = sym (splits-inside (stretch (piece T d)) xs a n h)
+
+plain-count : (T : Tables) (ds : List ℕ) (a n : ℕ) → length (dropPlan T false ds n .more) ≡ splits (stretches T ds) a (a + n)
+unfolding dropPlan stretches
+plain-count T [] a n = sym (splits-nil a (a + n))
+plain-count T (d ∷ ds) a n =
+    let l = piece T d .len in
+    elim (decLe l n) [
+      | yes h ↦
+          ap (λ (p : Plan). length (p .more)) (if-T (leb l n) (dropPlan T false ds (n - l)) (dropHere T false d n) (le→leb l n h))
+          ∙ plain-count T ds (a + l) (n - l) ∙ sym (splits-past (stretch (piece T d)) (stretches T ds) a n h)
+      | no h ↦
+          ap (λ (p : Plan). length (p .more)) (if-F (leb l n) (dropPlan T false ds (n - l)) (dropHere T false d n) (λ t. h (leb→le l n t)))
+          ∙ here-count T d a n (stretches T ds) (omega arith)
+    ]
+
+-- a piece that is own needs no other
+own-none : (T : Tables) (d n : ℕ) → length (dropHere T true d n .more) ≡ 0
+unfolding dropHere if_then_else_
+own-none T d zero = refl
+own-none T d (suc n) = refl
+
+-- the same for the pieces walked from the link m, at most k of them, where all before them are own
+own-count : (T : Tables) (Z : List ℕ) (B k m a n : ℕ) → Good Z B (stretches T (walk k T m))
+    → length (dropPlan T true (walk k T m) n .more)
+    ≡ (if leb (length (cutOut (stretches T (walk k T m)) 0 n)) (length (ownPieces k T m)) then 0 else splits (stretches T (walk k T m)) a (a + n))
+unfolding dropPlan stretches walk ownPieces cutOut if_then_else_
+own-count T Z B zero m a n g = refl
+own-count T Z B (suc k) zero a n g = refl
+own-count T Z B (suc k) (suc d) a n g =
+    let x = stretch (piece T d) in
+    let l = piece T d .len in
+    let next = piece T d .next in
+    let ds = walk k T next in
+    let xs = stretches T ds in
+    let own = eqb (piece T d .count) 1 in
+    let mine = length (if own then d ∷ ownPieces k T next else []) in
+    let cut = length (cutOut (x ∷ xs) 0 n) in
+    let all = splits (x ∷ xs) a (a + n) in
+    ⊎-elim
+    (λ t. (
+    let o = if-T own (d ∷ ownPieces k T next) [] t in
+    let e = is-true own t in
+    elim (decLe l n) [
+      | yes h ↦ (
+          let c = cut-count x xs n (g .1) (omega (arith, g .1)) in
+          ap (λ (p : Plan). length (p .more)) (if-T (leb l n) (dropPlan T own ds (n - l)) (dropHere T own d n) (le→leb l n h))
+          ∙ ap (λ b. length (dropPlan T b ds (n - l) .more)) e ∙ own-count T Z B k next (a + l) (n - l) (g .3)
+          ∙ (λ i. if one-more (length (cutOut xs 0 (n - l))) (length (ownPieces k T next)) i then 0 else sym (splits-past x xs a n h) i)
+          ∙ sym (λ i. if leb (c i) (length (o i)) then 0 else all))
+      | no h ↦
+          ap (λ (p : Plan). length (p .more)) (if-F (leb l n) (dropPlan T own ds (n - l)) (dropHere T own d n) (λ u. h (leb→le l n u)))
+          ∙ ap (λ b. length (dropHere T b d n .more)) e ∙ own-none T d n
+          ∙ sym (if-T (leb cut mine) 0 all (le→leb cut mine (omega (arith, ap length o, cut-first x xs n (g .1) (omega arith)))))
+    ]))
+    (λ t. (
+    let o = if-F own (d ∷ ownPieces k T next) [] t in
+    let e = is-false own t in
+    (λ i. length ((if leb l n then dropPlan T (e i) ds (n - l) else dropHere T (e i) d n) .more))
+    ∙ plain-count T (d ∷ ds) a n
+    ∙ if-either (λ j. all ≡ j) (leb cut mine) 0 all
+    (λ u. splits-none (x ∷ xs) a (a + n) (let q = leb→le cut mine u in let z = cut-nothing x xs n (g .1) (omega (arith, ap length o)) in omega arith))
+    (λ _. refl)))
+    (is-dec own)
+
+-- a piece where the cut falls inside a piece that is not own
+pub drop-count : (T : Tables) (s n : ℕ) → SoundNow T → length (dropped T s n .more) ≡ dropPieces T s n
+drop-count T s n h =
+    let xs = spans T s in
+    let g = spans-good T s h in
+    let z : 0 + n ≡ n = omega arith in
+    own-count T (T .stock) (bufferTotal T) (pieceTotal T) (headOf T s) 0 n g
+    ∙ (λ i. if leb (overlaps-cut (T .stock) (bufferTotal T) xs 0 n g i) (length (ownOf T s)) then 0 else splits xs 0 (z i))
+
 -- ---- drop is lawful
 
 here-sizes : (T : Tables) (own : Bool) (d n : ℕ) → Sizes T (dropHere T own d n .base)
@@ -238,6 +321,18 @@ drop-takes s n S h a =
     (λ _ h′. took-held T _ s _ _ h h′ (drop-gives s n S b h (a .pieces-room)) z k 0 (roomy a)
     (new-front T k (v .rest) (v .used)) (passing-none (isUnheld T) (buffersOf (dropOut (spans T s) n)) (dropOut-none (isUnheld T) (spans T s) n (spans-none T s h))))
 
+drop-caused : (s n : ℕ) → Causing (dropCall s n)
+unfolding found if_then_else_
+drop-caused s n S h f = record {
+  below = omega arith;
+  slip = slip-one (S .tables) s;
+  same = twice-one s;
+  long = none-less 512;
+  range = past-is S h f s n;
+  narrow = none-less 0;
+  asked = λ z. ap (λ k. want 0 k 0) (drop-count (S .tables) s n h);
+}
+
 pub drop-lawful : (s n : ℕ) → Lawful (dropCall s n)
 unfolding dropAfter
 drop-lawful s n = record {
@@ -246,6 +341,7 @@ drop-lawful s n = record {
   stays = λ S _. (let T = S .tables in maybe-stays S _ (eqb n 0) (stays-as S _ (old-storage S (dropped T s n) (freePieces T) s)));
   sound = λ S h a. drop-sound s n S (first-named (S .tables) s _ (a .early) .0) h;
   known = λ S _. (inl refl, tt);
+  caused = drop-caused s n;
   leaves = drop-leaves s n;
   takes = drop-takes s n;
 }

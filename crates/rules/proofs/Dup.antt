@@ -1,25 +1,28 @@
 -- dup: soundness is kept, what its slip then holds, and that it is lawful. Assumes nothing.
-use mathlib.Core.Path.{_≡_, refl, ap}
+use mathlib.Core.Path.{_≡_, refl, ap, sym, _∙_}
 use mathlib.Core.Logic.{inr}
 use mathlib.Core.List.{[], _∷_, List, _++_}
-use Prim.Native.Nat.{ℕ, zero, suc, _<_, _≤_}
+use Prim.Native.Nat.{ℕ, zero, suc, _<_, _≤_, min}
 use native.Mathlib.Omega.{arith}
 use lib.ListN.{length, take, drop}
-use Rattle.rules.specs.Tables.{Tables, piece, headOf}
-use Rattle.rules.specs.Chain.{State, stretches, Stretch, chain, stretch, spans, reads}
+use Rattle.rules.specs.Basics.{if_then_else_}
+use Rattle.rules.specs.Tables.{Tables, piece, headOf, bufferTotal}
+use Rattle.rules.specs.Chain.{State, stretches, Stretch, chain, stretch, spans, reads, total}
 use Rattle.rules.specs.Room.{vacantSlips, freePieces, newSlip, isUnheld}
+use Rattle.rules.specs.Rule.{want}
 use Rattle.rules.specs.Dup.{dupPlan, dupAfter, dupCall}
 use Rattle.rules.proofs.Moves.{SoundNow}
 use Rattle.rules.proofs.Rank.{next-pos, head-pos}
-use Rattle.rules.proofs.Build.{share-sound, still-shared, Planned, plain-planned, new-sound}
+use Rattle.rules.proofs.Build.{share-sound, still-shared, Planned, plain-planned, new-sound, Good}
 use Rattle.rules.proofs.Room.{free-pieces, new-slip-ok, passing-none}
-use Rattle.rules.proofs.Chain.{stretches-good, chain-used}
+use Rattle.rules.proofs.Chain.{stretches-good, chain-used, spans-good}
 use Rattle.rules.proofs.Meets.{Meets, stop, go, chain-meets, same-refl, shared-same}
 use Rattle.rules.proofs.Hang.{Gives, gives-as, new-gives}
+use Rattle.rules.proofs.Caused.{found, slip-one, twice-one, none-less}
 use Rattle.rules.proofs.Sizes.{Sizes, new-sizes, same-sizes, shared-sizes}
-use Rattle.rules.proofs.After.{gives-reading, stays-as}
+use Rattle.rules.proofs.After.{gives-reading, stays-as, reads-length}
 use Rattle.rules.proofs.Takes.{buffersOf, new-front, roomy, spans-none, took-new, used-drop}
-use Rattle.rules.proofs.Lawful.{Lawful, new-vacant, Leaving, Taking}
+use Rattle.rules.proofs.Lawful.{Lawful, new-vacant, Leaving, Taking, Causing}
 
 pub dup-planned : (T : Tables) (n : ℕ) → ((d : ℕ) → n ≡ suc d → 0 < piece T d .count) → SoundNow T → Planned T (dupPlan T n)
 unfolding dupPlan stretches
@@ -84,6 +87,28 @@ dup-takes s S h a h′ =
     took-new T _ _ _ h h′ (dup-gives s S h (a .slips-room) (a .pieces-room)) k 0 (roomy a)
     (new-front T k (drop k (chain T s)) (used-drop T k (chain T s) (chain-used T s h))) (passing-none (isUnheld T) (buffersOf (spans T s)) (spans-none T s h))
 
+-- it wants a piece where its chain has bytes
+dup-count : (T : Tables) (n : ℕ) (l : List ℕ) → Meets T n l → Good (T .stock) (bufferTotal T) (stretches T l)
+    → length (dupPlan T n .more) ≡ min 1 (total (stretches T l))
+unfolding dupPlan stretches total
+dup-count T n l stop g = omega arith
+dup-count T n l (go c) g = omega (arith, g .1)
+
+dup-caused : (s : ℕ) → Causing (dupCall s)
+unfolding found if_then_else_
+dup-caused s S h f = record {
+  below = omega arith;
+  slip = slip-one (S .tables) s;
+  same = twice-one s;
+  long = none-less 512;
+  range = none-less _;
+  narrow = none-less 0;
+  asked = λ z. (
+      let T = S .tables in
+      let k = dup-count T (headOf T s) (chain T s) (chain-meets T s h) (spans-good T s h) in
+      ap (λ j. want 1 j 0) (k ∙ ap (min 1) (sym (reads-length S h f s))));
+}
+
 pub dup-lawful : (s : ℕ) → Lawful (dupCall s)
 unfolding dupAfter
 dup-lawful s = record {
@@ -92,6 +117,7 @@ dup-lawful s = record {
   stays = λ S _. stays-as S (dupAfter s S) refl;
   sound = λ S h a. dup-sound s S (a .slips-room) h;
   known = λ S a. (inr (new-vacant (S .tables) (a .slips-room)), tt);
+  caused = dup-caused s;
   leaves = dup-leaves s;
   takes = dup-takes s;
 }

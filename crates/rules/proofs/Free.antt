@@ -5,6 +5,7 @@ use mathlib.Core.List.{[], _∷_}
 use Prim.Native.Nat.{ℕ, _<_, pred}
 use native.Mathlib.Omega.{arith}
 use native.Mathlib.Decide.{ℕ-discrete}
+use Rattle.rules.specs.Basics.{if_then_else_}
 use Rattle.rules.specs.Tables.{slipTotal, slip, vacant}
 use Rattle.rules.specs.Chain.{State}
 use Rattle.rules.specs.Rule.{vacating, want}
@@ -14,10 +15,11 @@ use Rattle.rules.proofs.Moves.{SoundNow, reorder, SoundWith}
 use Rattle.rules.proofs.Release.{turned-sound, turned-storage}
 use Rattle.rules.proofs.Hang.{turned-entries, turned-entry, turned-others}
 use Rattle.rules.proofs.Codes.{first-named}
+use Rattle.rules.proofs.Caused.{found, slip-one, twice-one, none-less}
 use Rattle.rules.proofs.Sizes.{turned-sizes}
 use Rattle.rules.proofs.After.{Reading, gone-reading, stays-as}
 use Rattle.rules.proofs.Takes.{old-as, old-none, took-none}
-use Rattle.rules.proofs.Lawful.{Lawful}
+use Rattle.rules.proofs.Lawful.{Lawful, Causing}
 
 pub free-sound : (s : ℕ) (S : State) → s < slipTotal (S .tables) → SoundNow (S .tables) → SoundNow (freeAfter s S .tables)
 free-sound s S l (rank, h) = turned-sound S s _ l (rank, reorder (λ d. omega arith) h)
@@ -43,6 +45,18 @@ free-takes s S b h h′ =
     (λ u. elim (ℕ-discrete u s) [ yes e ↦ old-none T T′ u h′ (ap (slip T′) e ∙ gone) | no e ↦ old-as T T′ u u h h′ (stay u e) (turned-others S s 0 b k u e) ])
     (λ u z. elim (ℕ-discrete u s) [ yes e ↦ ap (slip T′) e ∙ gone | no e ↦ stay u e ∙ z ])
 
+free-caused : (s : ℕ) → Causing (freeCall s)
+unfolding found if_then_else_
+free-caused s S h f = record {
+  below = omega arith;
+  slip = slip-one (S .tables) s;
+  same = twice-one s;
+  long = none-less 512;
+  range = none-less _;
+  narrow = none-less 0;
+  asked = λ z. refl;
+}
+
 pub free-lawful : (s : ℕ) → Lawful (freeCall s)
 free-lawful s = record {
   codes = λ S. omega arith;
@@ -50,6 +64,7 @@ free-lawful s = record {
   stays = λ S _. stays-as S (freeAfter s S) (turned-storage S s vacant);
   sound = λ S h a. free-sound s S (first-named (S .tables) s [] (a .early) .0) h;
   known = λ S _. (inl refl, tt);
+  caused = free-caused s;
   leaves = λ S h _ a h′. free-leaves s S (first-named (S .tables) s [] (a .early) .0) h h′;
   takes = λ S h a h′. free-takes s S (first-named (S .tables) s [] (a .early) .0) h h′;
 }

@@ -8,9 +8,9 @@ use lib.ListN.{length, getD, drop, take, take-append-drop, length-drop}
 use lib.Seq.{getD-set-same, getD-set-other, take-all}
 use lib.Dec.{eqb, leb, leb→le, eqb→eq}
 use Rattle.kinds.proofs.Sizes.{size-one}
-use Rattle.rules.specs.Basics.{lastOf}
+use Rattle.rules.specs.Basics.{lastOf, if_then_else_}
 use Rattle.rules.specs.Tables.{Piece, Tables, blank, piece, headOf, slipTotal, bufferTotal, setPiece, withPlace, slip, setSlip, pieceTotal}
-use Rattle.rules.specs.Chain.{State, Stretch, spans, lengthOf, stretch, stretches, cutOut, withTables, contents, reads}
+use Rattle.rules.specs.Chain.{State, Stretch, spans, lengthOf, stretch, stretches, cutOut, withTables, contents, reads, chain, ownOf, overlaps}
 use Rattle.rules.specs.Room.{freePieces, isFree, isUnheld}
 use Rattle.rules.specs.Build.{built, builtLink}
 use Rattle.rules.specs.Rule.{reading, want}
@@ -23,13 +23,15 @@ use Rattle.rules.proofs.Build.{OwnTo, OwnList, own-pieces, own-list-sti
 use Rattle.rules.proofs.Room.{free-pieces, passing-front, passing-none}
 use Rattle.rules.proofs.Chain.{spans-good, cutOut-good, good-drop, good-last, built-own}
 use Rattle.rules.proofs.Meets.{stop, alike, agree-but, agree-stretches, Same, same-by, same-refl, slip-same, Safe, head-safe, own-apart, built-same, built-meets, built-agree}
-use Rattle.rules.proofs.Hang.{Gives, gives-as, gives-from, behind-gives, Run, run-low, own-run, own-short, Ones, ones-used, own-ones, run-still, own-front}
+use Rattle.rules.proofs.Hang.{Gives, gives-as, gives-from, behind-gives, Run, run-low, own-run, own-short, Ones, ones-used, own-ones, run-still, own-front, stretches-length}
 use Rattle.rules.proofs.Contents.{cutOut-contents}
+use Rattle.rules.proofs.Overlaps.{overlaps-cut, cut-short, walk-short, own-fewer}
 use Rattle.rules.proofs.Codes.{first-named}
+use Rattle.rules.proofs.Caused.{found, slip-one, twice-one, none-less, past-is}
 use Rattle.rules.proofs.Sizes.{Sizes, behind-sizes, behind-storage, built-sizes, piece-set, same-sizes, then-sizes, maybe-sizes}
 use Rattle.rules.proofs.After.{Reading, gives-reading, reads-length, same-reading, stays-as, maybe-stays}
 use Rattle.rules.proofs.Takes.{Roomy, buffersOf, cutOut-none, new-pass, nothing-taken, roomy, spans-none, took-held, used-none}
-use Rattle.rules.proofs.Lawful.{Lawful, Leaving, Taking}
+use Rattle.rules.proofs.Lawful.{Lawful, Leaving, Taking, Causing}
 
 own-last : (j : ℕ) (T : Tables) (n l : ℕ) → OwnTo j T n l → piece T l .count ≡ 1
 own-last zero T n l o = o .1
@@ -316,6 +318,31 @@ keep-takes s n S h a h″ =
     (passing-none (isUnheld T) (buffersOf (kept T s n)) (cutOut-none (isUnheld T) (spans T s) 0 n (spans-none T s h))))
     h″ (roomy a)
 
+-- how many new pieces keep makes: one for each piece that the n bytes overlap and that is not own
+keep-count : (T : Tables) (s n : ℕ) → SoundNow T → length (keptNotOwn T s n) ≡ overlaps (spans T s) 0 0 n - length (ownOf T s)
+keep-count T s n h =
+    let P = pieceTotal T in
+    let k = length (kept T s n) in
+    let few : k ≤ P = omega (arith, cut-short (spans T s) 0 n, stretches-length T (chain T s), walk-short P (headOf T s) T) in
+    omega (
+      arith,
+      length-drop (length (keptOwn T s n)) (kept T s n),
+      own-fewer k P (headOf T s) T few,
+      overlaps-cut (T .stock) (bufferTotal T) (spans T s) 0 n (spans-good T s h),
+    )
+
+keep-caused : (s n : ℕ) → Causing (keepCall s n)
+unfolding found if_then_else_
+keep-caused s n S h f = record {
+  below = omega arith;
+  slip = slip-one (S .tables) s;
+  same = twice-one s;
+  long = none-less 512;
+  range = past-is S h f s n;
+  narrow = none-less 0;
+  asked = λ z. (λ i. want 0 (if eqb n (sym (reads-length S h f s) i) then 0 else keep-count (S .tables) s n h i) 0);
+}
+
 pub keep-lawful : (s n : ℕ) → Lawful (keepCall s n)
 unfolding keepAfter
 keep-lawful s n = record {
@@ -324,6 +351,7 @@ keep-lawful s n = record {
   stays = λ S _. (let T = S .tables in maybe-stays S _ (eqb n (lengthOf T s)) (stays-as S _ (kept-storage S s (keptOwn T s n) (kept T s n) (keptNotOwn T s n))));
   sound = λ S h a. keep-sound s n S (first-named (S .tables) s _ (a .early) .0) h;
   known = λ S _. (inl refl, tt);
+  caused = keep-caused s n;
   leaves = keep-leaves s n;
   takes = keep-takes s n;
 }

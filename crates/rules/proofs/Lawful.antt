@@ -7,19 +7,20 @@ use Prim.Native.Nat.{_<_, ℕ}
 use native.Mathlib.Omega.{arith}
 use lib.ListN.{length}
 use lib.Dec.{T-not}
-use Rattle.rules.specs.Basics.{Is}
+use Rattle.rules.specs.Basics.{Is, Among}
 use Rattle.rules.specs.Tables.{Tables, bufferTotal, slip}
 use Rattle.rules.specs.Chain.{State}
 use Rattle.rules.specs.Room.{isVacant, newSlip, vacantSlips}
-use Rattle.rules.specs.Rule.{Change, Meaning, Rule, Wants, looks, want}
+use Rattle.rules.specs.Rule.{Change, Meaning, Rule, Wants, looks, want, Asks, asksNothing}
 use Rattle.rules.specs.Audit.{audit, auditCall}
-use Rattle.rules.specs.After.{Among, changed}
+use Rattle.rules.specs.After.{changed}
 use Rattle.rules.specs.Takes.{Took, firstSlip}
 use Rattle.rules.proofs.Logic.{eq→eqb}
 use Rattle.rules.proofs.Moves.{SoundNow}
 use Rattle.rules.proofs.Room.{new-slip-ok}
 use Rattle.rules.proofs.Contents.{Fit}
 use Rattle.rules.proofs.Codes.{Allowed, InOrder}
+use Rattle.rules.proofs.Caused.{Caused, found, slip-none, none-less}
 use Rattle.rules.proofs.Sizes.{Sizes, same-sizes}
 use Rattle.rules.proofs.After.{at-there, Reading, StorageStays, stays-as}
 use Rattle.rules.proofs.Takes.{nothing-taken}
@@ -38,6 +39,10 @@ abbrev pub Taking : Meaning → Type 0
 Taking m = (S : State) → SoundNow (S .tables) → Allowed (m .rule S) (S .tables) → SoundNow (m .rule S .after .tables)
     → Took (S .tables) (m .rule S .after .tables) (m .rule S .wants) (firstSlip (m .changes S) (m .names))
 
+-- On a sound pool its refusals have the causes of document 01's table, and it wants what it asks.
+abbrev pub Causing : Meaning → Type 0
+Causing m = (S : State) → SoundNow (S .tables) → Fit (S .tables .stock) (bufferTotal (S .tables)) (S .storage) → Caused m S
+
 -- A call is lawful: what its meaning says of it is what its rule does.
 pub record Lawful (m : Meaning) : Type 0 where
   -- the codes that it judges before room rise from 2 on, and none is "torn" or "full"
@@ -48,6 +53,7 @@ pub record Lawful (m : Meaning) : Type 0 where
   -- once it is done: soundness is kept, and only slips that it names or takes are changed
   pub sound : (S : State) → SoundNow (S .tables) → Allowed (m .rule S) (S .tables) → SoundNow (m .rule S .after .tables)
   pub known : (S : State) → Allowed (m .rule S) (S .tables) → Known (S .tables) (m .names) (m .changes S)
+  pub caused : Causing m
   pub leaves : Leaving m
   pub takes : Taking m
 
@@ -67,9 +73,10 @@ others-stay g f T ns (c ∷ cs) t k n v =
 -- ---- the calls that only look
 
 -- a call that leaves everything as it is and wants nothing
-pub looks-lawful : (ns out : List ℕ) (r : State → Rule) → ((S : State) → InOrder (r S .judged)) → ((S : State) → (r S .after ≡ S) × (r S .wants ≡ want 0 0 0))
-    → Lawful (looks ns out r)
-looks-lawful ns out r c e =
+pub looks-lawful : (ns out : List ℕ) (r : State → Rule) (a : State → Asks)
+    → ((S : State) → InOrder (r S .judged)) → ((S : State) → (r S .after ≡ S) × (r S .wants ≡ want 0 0 0))
+    → Causing (looks ns out r a) → Lawful (looks ns out r a)
+looks-lawful ns out r a c e k =
     let t = firstSlip [] ns in
     record {
       codes = c;
@@ -77,10 +84,20 @@ looks-lawful ns out r c e =
       stays = λ S _. stays-as S (r S .after) (ap (λ (X : State). X .storage) (e S .0));
       sound = λ S h _. subst (λ (X : State). SoundNow (X .tables)) (sym (e S .0)) h;
       known = λ S _. tt;
+      caused = k;
       leaves = λ S h f _ _. subst (λ (X : State). Reading S X []) (sym (e S .0)) (record { bytes = λ t. refl; vacancy = λ t. refl });
       takes = λ S h _ _. subst₂ (λ (X : State) (w : Wants). Took (S .tables) (X .tables) w t) (sym (e S .0)) (sym (e S .1)) (nothing-taken (S .tables) t h);
     }
 
 -- audit judges nothing, and only looks
 pub audit-lawful : Lawful auditCall
-audit-lawful = looks-lawful [] [] audit (λ S. omega arith) (λ S. (refl, refl))
+unfolding found
+audit-lawful = looks-lawful [] [] audit asksNothing (λ S. omega arith) (λ S. (refl, refl)) (λ S h f. record {
+  below = tt;
+  slip = slip-none (S .tables);
+  same = (λ t. absurd t, λ x. absurd x);
+  long = none-less 512;
+  range = none-less _;
+  narrow = none-less 0;
+  asked = λ _. refl;
+})

@@ -13,6 +13,7 @@ pub mod Chain
 pub mod Meets
 pub mod Hang
 pub mod Contents
+pub mod Overlaps
 -- the audit's test, and the recount: what is in use stands on a slip's chain
 pub mod Audit
 pub mod Recount
@@ -21,6 +22,7 @@ pub mod Codes
 pub mod Sizes
 pub mod After
 pub mod Takes
+pub mod Caused
 pub mod Lawful
 -- each call that works on a pool, in document 01's order: it is lawful, and what it has besides
 pub mod Put
@@ -43,8 +45,10 @@ pub mod Calls
 -- bytes, and any call on them
 pub mod Bounds
 pub mod Bytes
+pub mod Blind
 pub mod Step
 pub mod Places
+pub mod Causes
 -- what is read again, answered, left alone and filled, and which pieces are own
 pub mod RoundTrip
 pub mod Answers

@@ -1,15 +1,19 @@
 -- list: the records that it writes, and what of the list stays. Assumes nothing.
-use mathlib.Core.Path.{_≡_, refl}
+use mathlib.Core.Path.{_≡_, refl, ap, subst, _∙_}
+use mathlib.Core.Logic.{_↔_}
 use mathlib.Core.List.{List, [], _∷_}
-use Prim.Native.Nat.{ℕ, _*_}
+use Prim.Native.Nat.{ℕ, _*_, _<_}
 use native.Mathlib.Omega.{arith}
 use lib.ListN.{length, take, drop}
+use lib.Dec.{ltb}
+use Rattle.rules.specs.Basics.{Is, if_then_else_}
 use Rattle.rules.specs.Chain.{State, Stretch, chain, spans}
-use Rattle.rules.specs.List.{records, listCall, wireList}
+use Rattle.rules.specs.List.{records, listAsks, listCall, wireList}
 use Rattle.rules.specs.Step.{WireList, rule}
 use Rattle.rules.proofs.Hang.{stretches-length}
 use Rattle.rules.proofs.Codes.{Allowed, no-cause}
-use Rattle.rules.proofs.Lawful.{Lawful, looks-lawful}
+use Rattle.rules.proofs.Caused.{found, slip-one, twice-one, none-less, less-is}
+use Rattle.rules.proofs.Lawful.{Lawful, looks-lawful, Causing}
 use Rattle.rules.proofs.Read.{copied-front, copied-rest, copied-length}
 
 -- a record has two numbers
@@ -42,5 +46,21 @@ list-exact s list S a =
 
 -- ---- list only looks
 
+list-caused : (s : ℕ) (list : List ℕ) → Causing (listCall s list)
+unfolding found if_then_else_
+list-caused s list S h f = record {
+  below = omega arith;
+  slip = slip-one (S .tables) s;
+  same = twice-one s;
+  long = none-less 512;
+  range = none-less _;
+  narrow = (
+      let T = S .tables in
+      let e : length (records (T .stock) (spans T s)) ≡ 2 * length (chain T s) =
+      records-length (T .stock) (spans T s) ∙ ap (λ k. 2 * k) (stretches-length T (chain T s)) in
+      subst (λ k. Is (ltb (length list) (length (records (T .stock) (spans T s)))) ↔ (length list < k)) e (less-is (length list) _));
+  asked = λ z. refl;
+}
+
 pub list-lawful : (s : ℕ) (list : List ℕ) → Lawful (listCall s list)
-list-lawful s list = looks-lawful (s ∷ []) list (wireList s list) (λ S. omega arith) (λ S. (refl, refl))
+list-lawful s list = looks-lawful (s ∷ []) list (wireList s list) (listAsks s) (λ S. omega arith) (λ S. (refl, refl)) (list-caused s list)

@@ -6,6 +6,7 @@ use Prim.Native.Nat.{ℕ, _<_, _≤_}
 use native.Mathlib.Omega.{arith}
 use lib.ListN.{length, take}
 use lib.Dec.{leb}
+use Rattle.rules.specs.Basics.{if_then_else_}
 use Rattle.rules.specs.Tables.{slipTotal, pieceTotal}
 use Rattle.rules.specs.Chain.{State, chain, lengthOf, stretches, contents, reads, spans, withStorage}
 use Rattle.rules.specs.Room.{freePieces, newBuffers, freeBuffers, isFree}
@@ -20,10 +21,11 @@ use Rattle.rules.proofs.Room.{free-pieces}
 use Rattle.rules.proofs.Meets.{stop, same-refl}
 use Rattle.rules.proofs.Hang.{Gives, gives-as, old-gives}
 use Rattle.rules.proofs.Codes.{first-named}
+use Rattle.rules.proofs.Caused.{found, slip-one, twice-one, none-less}
 use Rattle.rules.proofs.Sizes.{old-sizes, old-storage, same-sizes, maybe-sizes}
 use Rattle.rules.proofs.After.{Reading, gives-reading, new-here, new-others, reads-length, same-reading, stays-new, maybe-stays}
 use Rattle.rules.proofs.Takes.{Roomy, new-laid, new-pass, nothing-taken, roomy, took-held}
-use Rattle.rules.proofs.Lawful.{Lawful, Leaving, Taking}
+use Rattle.rules.proofs.Lawful.{Lawful, Leaving, Taking, Causing}
 use Rattle.rules.proofs.Put.{new-good, new-count}
 
 pub pack-sound : (s : ℕ) (S : State) → s < slipTotal (S .tables) → SoundNow (S .tables) → SoundNow (packAfter s S .tables)
@@ -83,6 +85,18 @@ pack-takes s S h a h″ =
     (λ _ h′ r. took-held T _ s _ _ h h′ (pack-gives s S _ b h (r .1) (r .2)) z k k r (new-pass (isFree T) (pieceTotal T) k) (new-laid T k n))
     h″ (roomy a)
 
+pack-caused : (s : ℕ) → Causing (packCall s)
+unfolding found if_then_else_ packWants
+pack-caused s S h f = record {
+  below = omega arith;
+  slip = slip-one (S .tables) s;
+  same = twice-one s;
+  long = none-less 512;
+  range = none-less _;
+  narrow = none-less 0;
+  asked = λ z. ap (λ k. if leb (length (chain (S .tables) s)) 1 then want 0 0 0 else want 0 (buffersFor k) (buffersFor k)) (sym (reads-length S h f s));
+}
+
 pub pack-lawful : (s : ℕ) → Lawful (packCall s)
 unfolding packAfter
 pack-lawful s = record {
@@ -97,6 +111,7 @@ pack-lawful s = record {
       maybe-stays S _ (leb (length (chain T s)) 1) (stays-new S _ k (reads S s) f (old-storage S₁ (plain T (laid (T .stock) bs n)) (freePieces T) s)));
   sound = λ S h a. pack-sound s S (first-named (S .tables) s _ (a .early) .0) h;
   known = λ S _. (inl refl, tt);
+  caused = pack-caused s;
   leaves = pack-leaves s;
   takes = pack-takes s;
 }

@@ -7,13 +7,13 @@ use Prim.Native.Nat.{ℕ, _+_, _≤_, _<_, _-_, suc}
 use native.Mathlib.Omega.{arith}
 use lib.ListN.{length, length-take, take, length-append, drop, take-append-drop}
 use lib.Dec.{leb}
-use Rattle.rules.specs.Basics.{passing}
+use Rattle.rules.specs.Basics.{passing, if_then_else_}
 use Rattle.rules.specs.Tables.{Tables, slipTotal, bufferTotal}
 use Rattle.rules.specs.Chain.{State, spans, firstLength, Stretch, stretches, chain, contents, reads, withStorage}
 use Rattle.rules.specs.Room.{isUnheld, freePieces, freeBuffers, newBuffers}
 use Rattle.rules.specs.Build.{laid, underOld, stored}
 use Rattle.rules.specs.Rule.{Wants, reading, want}
-use Rattle.rules.specs.Drop.{dropped}
+use Rattle.rules.specs.Drop.{dropped, dropPieces}
 use Rattle.rules.specs.Pullup.{pulled, pullupAfter, pullupCall, pullupWants}
 use Rattle.rules.specs.Takes.{Took}
 use Rattle.rules.proofs.Logic.{if-either, not-most, if-F, if-both}
@@ -24,12 +24,13 @@ use Rattle.rules.proofs.Chain.{laid-good, good-append, spans-good}
 use Rattle.rules.proofs.Hang.{Gives, gives-as, old-gives}
 use Rattle.rules.proofs.Contents.{stored-others, dropOut, Off, contents-append, dropOut-contents}
 use Rattle.rules.proofs.Codes.{first-named, no-cause}
+use Rattle.rules.proofs.Caused.{found, slip-one, twice-one, none-less, less-is, past-is}
 use Rattle.rules.proofs.Sizes.{old-sizes, old-storage, maybe-sizes}
 use Rattle.rules.proofs.After.{Reading, gives-reading, new-here, new-others, reads-length, same-reading, spans-off, stays-new, maybe-stays}
 use Rattle.rules.proofs.Takes.{Roomy, buffersOf, dropOut-none, new-front, new-laid, nothing-taken, roomy, spans-none, took-held}
-use Rattle.rules.proofs.Lawful.{Lawful, Leaving, Taking}
+use Rattle.rules.proofs.Lawful.{Lawful, Leaving, Taking, Causing}
 use Rattle.rules.proofs.Put.{new-count}
-use Rattle.rules.proofs.Drop.{dropped-planned, dropped-leaves, plan-sizes}
+use Rattle.rules.proofs.Drop.{dropped-planned, dropped-leaves, plan-sizes, drop-count}
 
 -- n bytes on one new buffer
 pub one-good : (T : Tables) (n : ℕ) → 1 ≤ n → Good (T .stock) (bufferTotal T) (laid (T .stock) (newBuffers T 1) n)
@@ -123,6 +124,21 @@ pullup-takes s n S h a h″ =
     ∙ new-laid T 1 n)))
     h″ (roomy a)
 
+pullup-caused : (s n : ℕ) → Causing (pullupCall s n)
+unfolding found if_then_else_ pullupWants
+pullup-caused s n S h f = record {
+  below = omega arith;
+  slip = slip-one (S .tables) s;
+  same = twice-one s;
+  long = less-is 512 n;
+  range = past-is S h f s n;
+  narrow = none-less 0;
+  asked = λ z. (
+      let T = S .tables in
+      let e : suc (length (dropped T s n .more)) ≡ 1 + dropPieces T s n = omega (arith, drop-count T s n h) in
+      λ i. if leb n (firstLength (spans T s)) then want 0 0 0 else want 0 (e i) 1);
+}
+
 pub pullup-lawful : (s n : ℕ) → Lawful (pullupCall s n)
 unfolding pullupAfter
 pullup-lawful s n = record {
@@ -136,6 +152,7 @@ pullup-lawful s n = record {
       maybe-stays S _ (leb n (firstLength (spans T s))) (stays-new S _ 1 (take n (reads S s)) f (old-storage S₁ (pulled T s n) (freePieces T) s)));
   sound = λ S h a. pullup-sound s n S (first-named (S .tables) s _ (a .early) .0) h;
   known = λ S _. (inl refl, tt);
+  caused = pullup-caused s n;
   leaves = pullup-leaves s n;
   takes = pullup-takes s n;
 }

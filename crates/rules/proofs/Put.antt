@@ -17,10 +17,11 @@ use Rattle.rules.proofs.Chain.{laid-good}
 use Rattle.rules.proofs.Meets.{stop, same-refl}
 use Rattle.rules.proofs.Hang.{Gives, gives-as, new-gives}
 use Rattle.rules.proofs.Contents.{laid-count}
+use Rattle.rules.proofs.Caused.{found, slip-none, none-less}
 use Rattle.rules.proofs.Sizes.{new-sizes, same-sizes}
 use Rattle.rules.proofs.After.{gives-reading, new-here, new-others, stays-new}
 use Rattle.rules.proofs.Takes.{new-laid, new-pass, roomy, took-new}
-use Rattle.rules.proofs.Lawful.{Lawful, new-vacant, Leaving, Taking}
+use Rattle.rules.proofs.Lawful.{Lawful, new-vacant, Leaving, Taking, Causing}
 
 -- n bytes on the lowest free buffers
 pub new-good : (T : Tables) (n : ℕ) → Good (T .stock) (bufferTotal T) (laid (T .stock) (newBuffers T (buffersFor n)) n)
@@ -67,6 +68,18 @@ put-takes input S h a h′ =
     took-new T _ _ _ h h′ (put-gives input S h (a .slips-room) (a .pieces-room) (a .buffers-room)) k k (roomy a)
     (new-pass (isFree T) (pieceTotal T) k) (new-laid T k (length input))
 
+put-caused : (input : List ℕ) → Causing (putCall input)
+unfolding found
+put-caused input S h f = record {
+  below = tt;
+  slip = slip-none (S .tables);
+  same = (λ t. absurd t, λ x. absurd x);
+  long = none-less 512;
+  range = none-less _;
+  narrow = none-less 0;
+  asked = λ z. refl;
+}
+
 pub put-lawful : (input : List ℕ) → Lawful (putCall input)
 unfolding putAfter
 put-lawful input = record {
@@ -75,6 +88,7 @@ put-lawful input = record {
   stays = λ S f. stays-new S _ (buffersFor (length input)) input f refl;
   sound = λ S h a. put-sound input S (a .slips-room) h;
   known = λ S a. (inr (new-vacant (S .tables) (a .slips-room)), tt);
+  caused = put-caused input;
   leaves = put-leaves input;
   takes = put-takes input;
 }

@@ -1,19 +1,21 @@
 -- read: the bytes that it copies, and what of the output stays. Assumes nothing.
 use mathlib.Core.Path.{_≡_, ap, _∙_, refl}
 use mathlib.Core.List.{List, [], _∷_}
-use Prim.Native.Nat.{ℕ, _≤_}
+use Prim.Native.Nat.{ℕ, _≤_, _+_}
 use native.Mathlib.Omega.{arith}
 use lib.ListN.{length, take, drop, length-append, length-take, length-drop}
 use lib.Seq.{take-at, drop-at}
+use Rattle.rules.specs.Basics.{if_then_else_}
 use Rattle.rules.specs.Tables.{bufferTotal}
 use Rattle.rules.specs.Chain.{State, reads}
-use Rattle.rules.specs.Read.{copied, read, readCall}
+use Rattle.rules.specs.Read.{copied, read, readAsks, readCall}
 use Rattle.rules.specs.Step.{Read, rule}
 use Rattle.rules.proofs.Moves.{SoundNow}
 use Rattle.rules.proofs.Contents.{Fit}
 use Rattle.rules.proofs.Codes.{Allowed, no-cause}
 use Rattle.rules.proofs.After.{reads-length}
-use Rattle.rules.proofs.Lawful.{Lawful, looks-lawful}
+use Rattle.rules.proofs.Caused.{found, slip-one, twice-one, none-less, less-is, past-is}
+use Rattle.rules.proofs.Lawful.{Lawful, looks-lawful, Causing}
 
 -- n bytes xs copied to the front of an output
 module _ (n : ℕ) (xs out : List ℕ) (e : length xs ≡ n) where
@@ -48,5 +50,17 @@ read-exact s off n out S h f a =
 
 -- ---- read only looks
 
+read-caused : (s off n : ℕ) (out : List ℕ) → Causing (readCall s off n out)
+unfolding found if_then_else_
+read-caused s off n out S h f = record {
+  below = omega arith;
+  slip = slip-one (S .tables) s;
+  same = twice-one s;
+  long = none-less 512;
+  range = past-is S h f s (off + n);
+  narrow = less-is (length out) n;
+  asked = λ z. refl;
+}
+
 pub read-lawful : (s off n : ℕ) (out : List ℕ) → Lawful (readCall s off n out)
-read-lawful s off n out = looks-lawful (s ∷ []) out (read s off n out) (λ S. omega arith) (λ S. (refl, refl))
+read-lawful s off n out = looks-lawful (s ∷ []) out (read s off n out) (readAsks off n) (λ S. omega arith) (λ S. (refl, refl)) (read-caused s off n out)

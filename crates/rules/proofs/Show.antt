@@ -1,28 +1,30 @@
 -- show: its view shows the first bytes, and what of the scratch stays. Assumes nothing.
 use mathlib.Core.Path.{_≡_, refl, sym, ap, _∙_}
-use mathlib.Core.Bool.{Bool, true, false}
+use mathlib.Core.Logic.{_↔_}
+use mathlib.Core.Bool.{Bool, true, false, not, _&&_}
 use mathlib.Core.List.{List, [], _∷_}
-use Prim.Native.Nat.{ℕ, zero, suc, _≤_}
+use Prim.Native.Nat.{ℕ, zero, suc, _≤_, _<_}
 use native.Mathlib.Omega.{arith}
 use lib.ListN.{length, take, drop, length-take}
 use lib.Seq.{take-append-le, take-take}
-use lib.Dec.{eqb, eqb→eq, leb, leb→le}
+use lib.Dec.{eqb, eqb→eq, leb, leb→le, T-not, not-T, ltb, ltb→lt, lt→ltb, le→leb}
 use Rattle.rules.specs.Basics.{Is, if_then_else_}
 use Rattle.rules.specs.Tables.{bufferTotal}
 use Rattle.rules.specs.Chain.{Stretch, State, spans, total, firstLength, positionOf, bytesOf, contents, reads}
 use Rattle.rules.specs.Rule.{View}
 use Rattle.rules.specs.Read.{copied}
-use Rattle.rules.specs.Show.{scattered, viewOf, show, showCall}
+use Rattle.rules.specs.Show.{scattered, viewOf, show, showAsks, showCall}
 use Rattle.rules.specs.Step.{Show, rule}
 use Rattle.rules.specs.After.{seen}
-use Rattle.rules.proofs.Logic.{if-F, if-either, not-not}
+use Rattle.rules.proofs.Logic.{if-F, if-either, not-not, and-intro, and-0, and-1, not-less}
 use Rattle.rules.proofs.Moves.{SoundNow}
 use Rattle.rules.proofs.Build.{Good}
 use Rattle.rules.proofs.Chain.{spans-good}
 use Rattle.rules.proofs.Contents.{Fit, bytes-length}
 use Rattle.rules.proofs.Codes.{Allowed, not-leb-is, no-cause}
 use Rattle.rules.proofs.After.{reads-length}
-use Rattle.rules.proofs.Lawful.{Lawful, looks-lawful}
+use Rattle.rules.proofs.Caused.{found, slip-one, twice-one, less-is, past-is}
+use Rattle.rules.proofs.Lawful.{Lawful, looks-lawful, Causing}
 use Rattle.rules.proofs.Read.{copied-front, copied-rest, copied-length}
 
 -- a view of the scratch, or of storage from p on
@@ -80,5 +82,27 @@ show-unchanged s n scratch S l = if-F (scattered (spans (S .tables) s) n) _ _ (�
 
 -- ---- show only looks
 
+-- the scratch is too short for what is copied
+narrow-is : (k n c : ℕ) → Is (not (leb n k) && ltb c n) ↔ (c < (if ltb k n then n else 0))
+narrow-is k n c =
+    let u = not (leb n k) in
+    if-either (λ (j : ℕ). Is (u && ltb c n) ↔ (c < j)) (ltb k n) n 0
+    (λ t. (
+    let l = ltb→lt k n t in
+    (λ x. ltb→lt c n (and-1 u (ltb c n) x), λ x. and-intro u (ltb c n) (not-T (leb n k) (λ y. omega (arith, leb→le n k y))) (lt→ltb c n x))))
+    (λ t. (λ x. absurd (T-not (leb n k) (and-0 u (ltb c n) x) (le→leb n k (not-less k n t))), λ x. absurd (omega arith)))
+
+show-caused : (s n : ℕ) (scratch : List ℕ) → Causing (showCall s n scratch)
+unfolding found if_then_else_
+show-caused s n scratch S h f = record {
+  below = omega arith;
+  slip = slip-one (S .tables) s;
+  same = twice-one s;
+  long = less-is 512 n;
+  range = past-is S h f s n;
+  narrow = narrow-is (firstLength (spans (S .tables) s)) n (length scratch);
+  asked = λ z. refl;
+}
+
 pub show-lawful : (s n : ℕ) (scratch : List ℕ) → Lawful (showCall s n scratch)
-show-lawful s n scratch = looks-lawful (s ∷ []) scratch (show s n scratch) (λ S. omega arith) (λ S. (refl, refl))
+show-lawful s n scratch = looks-lawful (s ∷ []) scratch (show s n scratch) (showAsks s n) (λ S. omega arith) (λ S. (refl, refl)) (show-caused s n scratch)

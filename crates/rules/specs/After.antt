@@ -1,12 +1,11 @@
 -- What every slip reads once an operation is done, and which slips are then vacant.
 use mathlib.Core.Path.{_≡_}
-use mathlib.Core.Logic.{_⊎_}
 use mathlib.Core.Bool.{Bool}
 use mathlib.Core.List.{List, [], _∷_}
 use Prim.Native.Nat.{ℕ}
 use lib.ListN.{take, drop}
 use lib.Dec.{eqb}
-use Rattle.rules.specs.Basics.{if_then_else_}
+use Rattle.rules.specs.Basics.{if_then_else_, Among}
 use Rattle.rules.specs.Chain.{State, reads}
 use Rattle.rules.specs.Room.{isVacant}
 use Rattle.rules.specs.Rule.{View, Change}
@@ -34,12 +33,6 @@ vacantAfter o S = changed (λ (c : Change). c .vacated) (meaning o .changes S) (
 pub record ReadsOk (o : Operation) (S : State) : Type 0 where
   pub bytes : (t : ℕ) → reads (rule o S .after) t ≡ readsAfter o S t
   pub vacancy : (t : ℕ) → isVacant (rule o S .after .tables) t ≡ vacantAfter o S t
-
--- t is one of the list
-abbrev pub Among : List ℕ → ℕ → Type 0
-Among [] t = ⊥
-Among (s ∷ []) t = t ≡ s
-Among (s ∷ r ∷ ss) t = (t ≡ s) ⊎ Among (r ∷ ss) t
 
 -- the slips that a call names
 abbrev pub Names : Operation → ℕ → Type 0

@@ -1,21 +1,18 @@
 -- append a, b: a reads as a then b; b is vacant.
 use mathlib.Core.Bool.{Bool, _||_}
 use mathlib.Core.List.{List, [], _∷_, _++_}
-use Prim.Native.Nat.{ℕ}
+use Prim.Native.Nat.{ℕ, _-_}
 use lib.ListN.{length, drop}
 use lib.Dec.{eqb}
 use Rattle.kinds.specs.declared.Refusal.the-variants.{Slip, Same}
 use Rattle.rules.specs.Basics.{if_then_else_}
-use Rattle.rules.specs.Tables.{Tables, slip, headOf, vacant, pieceTotal, setSlip}
-use Rattle.rules.specs.Chain.{State, Stretch, spans, ownPieces, reads, withTables}
+use Rattle.rules.specs.Tables.{Tables, slip, headOf, vacant, setSlip}
+use Rattle.rules.specs.Chain.{State, Stretch, spans, reads, withTables, chain, ownOf}
 use Rattle.rules.specs.Room.{freePieces}
 use Rattle.rules.specs.Build.{built, builtLink, behindOwn}
-use Rattle.rules.specs.Rule.{Rule, _⇐_, unnamed, want, alters, Meaning, means, reading, vacating}
+use Rattle.rules.specs.Rule.{Rule, _⇐_, unnamed, want, alters, Meaning, means, reading, vacating, Asks, asksNew}
 
--- a's own pieces, by the counts at entry; and the stretches of the others, which are replaced
-abbrev pub ownOf : Tables → ℕ → List ℕ
-ownOf T a = ownPieces (pieceTotal T) T (headOf T a)
-
+-- the stretches of a's pieces that are not own, which are replaced
 abbrev pub notOwn : Tables → ℕ → List Stretch
 notOwn T a = drop (length (ownOf T a)) (spans T a)
 
@@ -46,6 +43,12 @@ append a b S =
     let T = S .tables in
     alters ((Slip ⇐ (unnamed T a || unnamed T b)) ∷ (Same ⇐ eqb a b) ∷ []) (want 0 (if oneEmpty T a b then 0 else length (notOwn T a)) 0) 0 (appendAfter a b S)
 
+-- a piece for each piece of a that is not own, where both have bytes
+abbrev pub appendAsks : ℕ → ℕ → State → Asks
+appendAsks a b S =
+    let T = S .tables in
+    asksNew (want 0 (if eqb (length (reads S a)) 0 || eqb (length (reads S b)) 0 then 0 else length (chain T a) - length (ownOf T a)) 0)
+
 -- a reads as a then b; b is vacant
 abbrev pub appendCall : ℕ → ℕ → Meaning
-appendCall a b = means (a ∷ b ∷ []) (append a b) (λ S. reading a (reads S a ++ reads S b) ∷ vacating b ∷ [])
+appendCall a b = means (a ∷ b ∷ []) (append a b) (λ S. reading a (reads S a ++ reads S b) ∷ vacating b ∷ []) (appendAsks a b)

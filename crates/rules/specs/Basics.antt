@@ -1,4 +1,6 @@
 -- Tests, sums and lists by index: the notation of the other modules.
+use mathlib.Core.Path.{_≡_}
+use mathlib.Core.Logic.{_⊎_}
 use mathlib.Core.Bool.{Bool, true, false, _&&_, _||_}
 use mathlib.Core.List.{List, [], _∷_}
 use Prim.Native.Nat.{ℕ, zero, suc, _+_}
@@ -52,6 +54,12 @@ passing f (x ∷ xs) = if f x then x ∷ passing f xs else passing f xs
 unfoldable pub member : ℕ → List ℕ → Bool
 member d [] = false
 member d (x ∷ xs) = eqb x d || member d xs
+
+-- t is one of the list
+abbrev pub Among : List ℕ → ℕ → Type 0
+Among [] t = ⊥
+Among (s ∷ []) t = t ≡ s
+Among (s ∷ r ∷ ss) t = (t ≡ s) ⊎ Among (r ∷ ss) t
 
 -- the last of x and the elements after it
 abbrev pub lastOf : {A : Type 0} → A → List A → A

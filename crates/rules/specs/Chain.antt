@@ -1,10 +1,11 @@
 -- Chains: following next, the pieces that a slip's chain has, their stretches, and their bytes.
+use mathlib.Core.Bool.{_&&_}
 use mathlib.Core.List.{List, [], _∷_, _++_}
 use Prim.Native.Nat.{ℕ, zero, suc, _+_, _-_, min}
 use lib.ListN.{take, drop}
-use lib.Dec.{eqb, leb}
+use lib.Dec.{eqb, ltb, leb}
 use Rattle.kinds.specs.Sizes.{startOf}
-use Rattle.rules.specs.Basics.{if_then_else_}
+use Rattle.rules.specs.Basics.{if_then_else_, bit}
 use Rattle.rules.specs.Tables.{Piece, Tables, piece, headOf, pieceTotal}
 
 -- the link that k follows of next lead to from the link n
@@ -28,6 +29,10 @@ unfoldable pub ownPieces : ℕ → Tables → ℕ → List ℕ
 ownPieces zero T n = []
 ownPieces (suc k) T zero = []
 ownPieces (suc k) T (suc d) = if eqb (piece T d .count) 1 then d ∷ ownPieces k T (piece T d .next) else []
+
+-- the own pieces of a slip, by the counts at entry
+abbrev pub ownOf : Tables → ℕ → List ℕ
+ownOf T s = ownPieces (pieceTotal T) T (headOf T s)
 
 -- A stretch is what a piece covers: len bytes of a buffer, from offset on.
 pub record Stretch : Type 0 where
@@ -67,6 +72,16 @@ cutOut (x ∷ xs) off (suc n) =
     if leb (x .len) off
     then cutOut xs (off - x .len) (suc n)
     else (record { buffer = x .buffer; offset = x .offset + off; len = min (suc n) (x .len - off) } ∷ cutOut xs 0 (suc n - (x .len - off)))
+
+-- how many of the stretches overlap the n bytes from off on; the first starts at byte a
+unfoldable pub overlaps : List Stretch → ℕ → ℕ → ℕ → ℕ
+overlaps [] a off n = 0
+overlaps (x ∷ xs) a off n = bit (ltb 0 n && (ltb a (off + n) && ltb off (a + x .len))) + overlaps xs (a + x .len) off n
+
+-- how many of them byte n falls inside, and not at a border (one or none); the first starts at byte a
+unfoldable pub splits : List Stretch → ℕ → ℕ → ℕ
+splits [] a n = 0
+splits (x ∷ xs) a n = bit (ltb a n && ltb n (a + x .len)) + splits xs (a + x .len) n
 
 -- where a stretch starts in storage, and its bytes there
 abbrev pub positionOf : List ℕ → Stretch → ℕ

@@ -7,11 +7,11 @@ use lib.Dec.{ltb, eqb, leb}
 use Rattle.kinds.specs.declared.Refusal.the-variants.{Slip, Range}
 use Rattle.rules.specs.Basics.{if_then_else_}
 use Rattle.rules.specs.Tables.{Piece, Tables, piece, setPiece, withPlace}
-use Rattle.rules.specs.Chain.{State, stretch, chain, lengthOf, reads}
+use Rattle.rules.specs.Chain.{State, stretch, chain, lengthOf, reads, spans, overlaps, splits, ownOf}
 use Rattle.rules.specs.Room.{freePieces}
 use Rattle.rules.specs.Release.{shared}
 use Rattle.rules.specs.Build.{Plan, plain, underOld}
-use Rattle.rules.specs.Rule.{Rule, _⇐_, unnamed, want, alters, Meaning, means, reading}
+use Rattle.rules.specs.Rule.{Rule, _⇐_, unnamed, want, alters, Meaning, means, reading, Asks, asking}
 
 -- a piece without its first n bytes
 abbrev pub shorter : Piece → ℕ → Piece
@@ -49,6 +49,13 @@ dropFirst s n S =
     let T = S .tables in
     alters ((Slip ⇐ unnamed T s) ∷ (Range ⇐ ltb (lengthOf T s) n) ∷ []) (want 0 (length (dropped T s n .more)) 0) 0 (dropAfter s n S)
 
+-- A piece where n falls inside a piece that is not own: that piece is the last that the n bytes overlap.
+abbrev pub dropPieces : Tables → ℕ → ℕ → ℕ
+dropPieces T s n = let xs = spans T s in if leb (overlaps xs 0 0 n) (length (ownOf T s)) then 0 else splits xs 0 n
+
+abbrev pub dropAsks : ℕ → ℕ → State → Asks
+dropAsks s n S = asking 0 n 0 (want 0 (dropPieces (S .tables) s n) 0)
+
 -- s reads its bytes but the first n
 abbrev pub dropCall : ℕ → ℕ → Meaning
-dropCall s n = means (s ∷ []) (dropFirst s n) (λ S. reading s (drop n (reads S s)) ∷ [])
+dropCall s n = means (s ∷ []) (dropFirst s n) (λ S. reading s (drop n (reads S s)) ∷ []) (dropAsks s n)

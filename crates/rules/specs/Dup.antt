@@ -1,6 +1,6 @@
 -- dup s: a new slip on one new piece equal to the head, sharing its next and buffer (bf_dupacc).
 use mathlib.Core.List.{[], _∷_}
-use Prim.Native.Nat.{ℕ, zero, suc}
+use Prim.Native.Nat.{ℕ, zero, suc, min}
 use lib.ListN.{length}
 use Rattle.kinds.specs.declared.Refusal.the-variants.{Slip}
 use Rattle.rules.specs.Tables.{Tables, piece, headOf}
@@ -8,7 +8,7 @@ use Rattle.rules.specs.Chain.{State, stretch, reads, withTables}
 use Rattle.rules.specs.Room.{freePieces, newSlip}
 use Rattle.rules.specs.Release.{shared}
 use Rattle.rules.specs.Build.{Plan, plain, underNew}
-use Rattle.rules.specs.Rule.{Rule, _⇐_, unnamed, want, alters, Meaning, means, reading}
+use Rattle.rules.specs.Rule.{Rule, _⇐_, unnamed, want, alters, Meaning, means, reading, Asks, asksNew}
 
 -- a second chain like that of the link n; an empty chain needs no piece
 unfoldable pub dupPlan : Tables → ℕ → Plan
@@ -23,6 +23,10 @@ dup s S =
     let T = S .tables in
     alters ((Slip ⇐ unnamed T s) ∷ []) (want 1 (length (dupPlan T (headOf T s) .more)) 0) (newSlip T) (dupAfter s S)
 
+-- a new slip, and a piece where s has bytes
+abbrev pub dupAsks : ℕ → State → Asks
+dupAsks s S = asksNew (want 1 (min 1 (length (reads S s))) 0)
+
 -- the new slip reads what s reads
 abbrev pub dupCall : ℕ → Meaning
-dupCall s = means (s ∷ []) (dup s) (λ S. reading (newSlip (S .tables)) (reads S s) ∷ [])
+dupCall s = means (s ∷ []) (dup s) (λ S. reading (newSlip (S .tables)) (reads S s) ∷ []) (dupAsks s)

@@ -1,16 +1,16 @@
 -- keep s, n: the first n bytes stay.
 use mathlib.Core.Bool.{Bool}
 use mathlib.Core.List.{List, [], _∷_}
-use Prim.Native.Nat.{ℕ}
+use Prim.Native.Nat.{ℕ, _-_}
 use lib.ListN.{length, take, drop}
 use lib.Dec.{ltb, eqb}
 use Rattle.kinds.specs.declared.Refusal.the-variants.{Slip, Range}
 use Rattle.rules.specs.Basics.{if_then_else_, lastOf}
 use Rattle.rules.specs.Tables.{Tables, piece, headOf, setPiece, withPlace}
-use Rattle.rules.specs.Chain.{State, Stretch, spans, lengthOf, ownPieces, cutOut, reads, withTables}
+use Rattle.rules.specs.Chain.{State, Stretch, spans, lengthOf, ownPieces, cutOut, reads, withTables, overlaps, ownOf}
 use Rattle.rules.specs.Room.{freePieces}
 use Rattle.rules.specs.Build.{built, builtLink, behindOwn}
-use Rattle.rules.specs.Rule.{Rule, _⇐_, unnamed, want, alters, Meaning, means, reading}
+use Rattle.rules.specs.Rule.{Rule, _⇐_, unnamed, want, alters, Meaning, means, reading, Asks, asking}
 
 -- the stretches that stay, the last one shortened
 abbrev pub kept : Tables → ℕ → ℕ → List Stretch
@@ -55,6 +55,12 @@ keep s n S =
     alters ((Slip ⇐ unnamed T s) ∷ (Range ⇐ ltb (lengthOf T s) n) ∷ [])
     (want 0 (if keepsAll T s n then 0 else length (keptNotOwn T s n)) 0) 0 (keepAfter s n S)
 
+-- a piece for each piece that the n bytes overlap and that is not own, where they are not the whole
+abbrev pub keepAsks : ℕ → ℕ → State → Asks
+keepAsks s n S =
+    let T = S .tables in
+    asking 0 n 0 (want 0 (if eqb n (length (reads S s)) then 0 else overlaps (spans T s) 0 0 n - length (ownOf T s)) 0)
+
 -- s reads the first n of its bytes
 abbrev pub keepCall : ℕ → ℕ → Meaning
-keepCall s n = means (s ∷ []) (keep s n) (λ S. reading s (take n (reads S s)) ∷ [])
+keepCall s n = means (s ∷ []) (keep s n) (λ S. reading s (take n (reads S s)) ∷ []) (keepAsks s n)

@@ -27,6 +27,7 @@ pub mod List
 pub mod Gather
 pub mod Step
 pub mod Recount
+pub mod Causes
 pub mod Demand
 pub mod After
 pub mod Takes

@@ -1,11 +1,11 @@
 -- list s into a lent list of numbers: one record for each piece in chain order, and the rest of the list is unchanged.
 use mathlib.Core.List.{List, [], _∷_}
-use Prim.Native.Nat.{ℕ}
+use Prim.Native.Nat.{ℕ, _*_}
 use lib.ListN.{length}
 use lib.Dec.{ltb}
 use Rattle.kinds.specs.declared.Refusal.the-variants.{Slip, Narrow}
-use Rattle.rules.specs.Chain.{State, Stretch, spans, positionOf}
-use Rattle.rules.specs.Rule.{Rule, _⇐_, unnamed, want, noView, Meaning, looks}
+use Rattle.rules.specs.Chain.{State, Stretch, spans, positionOf, chain}
+use Rattle.rules.specs.Rule.{Rule, _⇐_, unnamed, want, noView, Meaning, looks, Asks, asking}
 use Rattle.rules.specs.Read.{copied}
 
 -- the records of stretches, two numbers each: the position in storage, then the length (a scatter list)
@@ -25,6 +25,10 @@ wireList s list S =
       view = noView;
     }
 
+-- two numbers for each piece, copied
+abbrev pub listAsks : ℕ → State → Asks
+listAsks s S = asking 0 0 (2 * length (chain (S .tables) s)) (want 0 0 0)
+
 -- it changes nothing, and is lent the list
 abbrev pub listCall : ℕ → List ℕ → Meaning
-listCall s list = looks (s ∷ []) list (wireList s list)
+listCall s list = looks (s ∷ []) list (wireList s list) (listAsks s)

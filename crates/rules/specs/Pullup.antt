@@ -1,7 +1,7 @@
 -- pullup s, n: the first n bytes in one piece.
 use mathlib.Core.Bool.{Bool}
 use mathlib.Core.List.{[], _∷_, _++_}
-use Prim.Native.Nat.{ℕ, suc}
+use Prim.Native.Nat.{ℕ, suc, _+_}
 use lib.ListN.{length, take}
 use lib.Dec.{ltb, leb}
 use Rattle.kinds.specs.declared.Refusal.the-variants.{Slip, Long, Range}
@@ -11,8 +11,8 @@ use Rattle.rules.specs.Tables.{Tables}
 use Rattle.rules.specs.Chain.{State, spans, firstLength, lengthOf, reads, withStorage}
 use Rattle.rules.specs.Room.{freePieces, newBuffers}
 use Rattle.rules.specs.Build.{Plan, underOld, laid, stored}
-use Rattle.rules.specs.Rule.{Rule, _⇐_, unnamed, Wants, want, alters, Meaning, means, reading}
-use Rattle.rules.specs.Drop.{dropped}
+use Rattle.rules.specs.Rule.{Rule, _⇐_, unnamed, Wants, want, alters, Meaning, means, reading, Asks, asking}
+use Rattle.rules.specs.Drop.{dropped, dropPieces}
 
 -- n bytes on a new buffer, before what drop of n leaves
 abbrev pub pulled : Tables → ℕ → ℕ → Plan
@@ -39,6 +39,12 @@ pullup s n S =
     let T = S .tables in
     alters ((Slip ⇐ unnamed T s) ∷ (Long ⇐ ltb bufferSize n) ∷ (Range ⇐ ltb (lengthOf T s) n) ∷ []) (pullupWants T s n) 0 (pullupAfter s n S)
 
+-- n bytes at once; where the first piece does not have them, a piece and a buffer, and what drop of n asks
+abbrev pub pullupAsks : ℕ → ℕ → State → Asks
+pullupAsks s n S =
+    let T = S .tables in
+    asking n n 0 (if leb n (firstLength (spans T s)) then want 0 0 0 else want 0 (1 + dropPieces T s n) 1)
+
 -- s reads as before
 abbrev pub pullupCall : ℕ → ℕ → Meaning
-pullupCall s n = means (s ∷ []) (pullup s n) (λ S. reading s (reads S s) ∷ [])
+pullupCall s n = means (s ∷ []) (pullup s n) (λ S. reading s (reads S s) ∷ []) (pullupAsks s n)

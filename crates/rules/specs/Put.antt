@@ -5,7 +5,7 @@ use lib.ListN.{length}
 use Rattle.rules.specs.Chain.{State, stateOf}
 use Rattle.rules.specs.Room.{freePieces, newSlip, newBuffers}
 use Rattle.rules.specs.Build.{plain, underNew, buffersFor, laid, stored}
-use Rattle.rules.specs.Rule.{Rule, want, alters, Meaning, means, reading}
+use Rattle.rules.specs.Rule.{Rule, want, alters, Meaning, means, reading, Asks, asksNew}
 
 unfoldable pub putAfter : List ℕ → State → State
 putAfter input S =
@@ -18,6 +18,10 @@ put input S =
     let k = buffersFor (length input) in
     alters [] (want 1 k k) (newSlip (S .tables)) (putAfter input S)
 
+-- a new slip, and a piece and a buffer for each 512 bytes begun
+abbrev pub putAsks : List ℕ → State → Asks
+putAsks input S = let k = buffersFor (length input) in asksNew (want 1 k k)
+
 -- the new slip reads the input
 abbrev pub putCall : List ℕ → Meaning
-putCall input = means [] (put input) (λ S. reading (newSlip (S .tables)) input ∷ [])
+putCall input = means [] (put input) (λ S. reading (newSlip (S .tables)) input ∷ []) (putAsks input)

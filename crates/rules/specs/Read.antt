@@ -5,7 +5,7 @@ use lib.ListN.{length, take, drop}
 use lib.Dec.{ltb}
 use Rattle.kinds.specs.declared.Refusal.the-variants.{Slip, Range, Narrow}
 use Rattle.rules.specs.Chain.{State, lengthOf, reads}
-use Rattle.rules.specs.Rule.{Rule, _⇐_, unnamed, want, noView, Meaning, looks}
+use Rattle.rules.specs.Rule.{Rule, _⇐_, unnamed, want, noView, Meaning, looks, Asks, asking}
 
 -- xs at the front of a lent output
 abbrev pub copied : List ℕ → List ℕ → List ℕ
@@ -23,6 +23,10 @@ read s off n out S =
       view = noView;
     }
 
+-- bytes up to off + n, and n copied
+abbrev pub readAsks : ℕ → ℕ → State → Asks
+readAsks off n S = asking 0 (off + n) n (want 0 0 0)
+
 -- it changes nothing, and is lent the output
 abbrev pub readCall : ℕ → ℕ → ℕ → List ℕ → Meaning
-readCall s off n out = looks (s ∷ []) out (read s off n out)
+readCall s off n out = looks (s ∷ []) out (read s off n out) (readAsks off n)

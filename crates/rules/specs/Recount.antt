@@ -28,9 +28,13 @@ references T d = heads T d + sumTo (pieceTotal T) (λ c. bit (reached T c && lea
 unfoldable pub holders : Tables → ℕ → ℕ
 holders T b = sumTo (pieceTotal T) (λ c. bit (reached T c && eqb (piece T c .buffer) b))
 
+-- the tables T with f d for the count of each piece d, and g b for that of each buffer b
+abbrev pub countedBy : Tables → (ℕ → ℕ) → (ℕ → ℕ) → Tables
+countedBy T f g = withBoth T (table (pieceTotal T) (λ d. withCount (piece T d) (f d))) (table (bufferTotal T) g)
+
 -- the tables with every count set to the references found
 unfoldable pub recounted : Tables → Tables
-recounted T = withBoth T (table (pieceTotal T) (λ d. withCount (piece T d) (references T d))) (table (bufferTotal T) (holders T))
+recounted T = countedBy T (references T) (holders T)
 
 -- what the recount leaves: slips vacant, pieces not reached, buffers without references
 unfoldable pub leaves : Tables → Wants
@@ -52,3 +56,12 @@ pub record Recount (T : Tables) : Type 0 where
   pub in-stock : (d : ℕ) → Reached T d → d < pieceTotal T
   pub not-both : (d : ℕ) → Reached T d → piece T d ≢ blank
   pub stock : sumTo (pieceTotal T) (λ d. bit (isBlank (piece T d))) + sumTo (pieceTotal T) (λ d. bit (reached T d)) ≡ pieceTotal T
+
+-- The recount reads no stored count: with any counts f and g in their places it finds the same.
+pub record Blind (T : Tables) (f g : ℕ → ℕ) : Type 0 where
+  pub piece-count : (d : ℕ) → d < pieceTotal T → piece (countedBy T f g) d .count ≡ f d
+  pub buffer-count : (b : ℕ) → b < bufferTotal T → bufferCount (countedBy T f g) b ≡ g b
+  pub same-reached : (d : ℕ) → reached (countedBy T f g) d ≡ reached T d
+  pub same-references : (d : ℕ) → references (countedBy T f g) d ≡ references T d
+  pub same-holders : (b : ℕ) → holders (countedBy T f g) b ≡ holders T b
+  pub same-leaves : leaves (countedBy T f g) ≡ leaves T

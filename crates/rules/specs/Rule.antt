@@ -39,6 +39,24 @@ pub record Wants : Type 0 where
 abbrev pub want : ℕ → ℕ → ℕ → Wants
 want s p b = record { slips = s; pieces = p; buffers = b }
 
+-- What a call asks, in the words of document 01's table of codes: how many bytes at once (pullup and show); up to which byte
+-- of the chain of the slip that it names first; how many numbers are copied to what it is lent; and how many new slips, pieces and buffers.
+pub record Asks : Type 0 where
+  pub atOnce : ℕ
+  pub upTo : ℕ
+  pub copies : ℕ
+  pub new : Wants
+
+abbrev pub asking : ℕ → ℕ → ℕ → Wants → Asks
+asking k n c w = record { atOnce = k; upTo = n; copies = c; new = w }
+
+-- nothing but its slips, and nothing but new ones
+abbrev pub asksNothing : State → Asks
+asksNothing S = asking 0 0 0 (want 0 0 0)
+
+abbrev pub asksNew : Wants → Asks
+asksNew w = asking 0 0 0 w
+
 -- the room at entry
 abbrev pub room : Tables → Wants
 room T = want (length (vacantSlips T)) (length (freePieces T)) (length (freeBuffers T))
@@ -93,17 +111,18 @@ abbrev pub vacating : ℕ → Change
 vacating s = record { slip = s; bytes = []; vacated = true }
 
 -- The meaning of a call: its rule; the output, scratch or list that it is lent; the slips that it
--- names; and what changes for callers, the slip that gets what is new first.
+-- names; what changes for callers, the slip that gets what is new first; and what it asks.
 pub record Meaning : Type 0 where
   pub rule : State → Rule
   pub lent : List ℕ
   pub names : List ℕ
   pub changes : State → List Change
+  pub asks : State → Asks
 
 -- a call that names slips, is lent no output, and changes slips
-abbrev pub means : List ℕ → (State → Rule) → (State → List Change) → Meaning
-means ns r cs = record { rule = r; lent = []; names = ns; changes = cs }
+abbrev pub means : List ℕ → (State → Rule) → (State → List Change) → (State → Asks) → Meaning
+means ns r cs a = record { rule = r; lent = []; names = ns; changes = cs; asks = a }
 
 -- a call that names slips, is lent an output, and changes none
-abbrev pub looks : List ℕ → List ℕ → (State → Rule) → Meaning
-looks ns out r = record { rule = r; lent = out; names = ns; changes = λ S. [] }
+abbrev pub looks : List ℕ → List ℕ → (State → Rule) → (State → Asks) → Meaning
+looks ns out r a = record { rule = r; lent = out; names = ns; changes = λ S. []; asks = a }

@@ -8,7 +8,7 @@ use Rattle.kinds.specs.declared.Refusal.the-variants.{Slip, Long, Range, Narrow
 use Rattle.kinds.specs.Limits.{bufferSize}
 use Rattle.rules.specs.Basics.{if_then_else_}
 use Rattle.rules.specs.Chain.{State, Stretch, spans, firstLength, lengthOf, positionOf, reads}
-use Rattle.rules.specs.Rule.{Rule, _⇐_, unnamed, want, View, noView, Meaning, looks}
+use Rattle.rules.specs.Rule.{Rule, _⇐_, unnamed, want, View, noView, Meaning, looks, Asks, asking}
 use Rattle.rules.specs.Read.{copied}
 
 -- the first piece does not have the n bytes
@@ -36,6 +36,10 @@ show s n scratch S =
       view = viewOf (T .stock) (spans T s) n;
     }
 
+-- n bytes at once, copied where the first piece does not have them
+abbrev pub showAsks : ℕ → ℕ → State → Asks
+showAsks s n S = asking n n (if ltb (firstLength (spans (S .tables) s)) n then n else 0) (want 0 0 0)
+
 -- it changes nothing, and is lent the scratch
 abbrev pub showCall : ℕ → ℕ → List ℕ → Meaning
-showCall s n scratch = looks (s ∷ []) scratch (show s n scratch)
+showCall s n scratch = looks (s ∷ []) scratch (show s n scratch) (showAsks s n)

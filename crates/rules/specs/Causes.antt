@@ -1,0 +1,69 @@
+-- Document 01's table of codes: when each is given.
+use mathlib.Core.Path.{_≡_}
+use mathlib.Core.Logic.{_⊎_, _↔_}
+use mathlib.Core.List.{List, [], _∷_}
+use Prim.Native.Nat.{ℕ, _+_, _*_, _≤_, _<_}
+use lib.ListN.{length, getD}
+use Rattle.kinds.specs.declared.Refusal.{Refusal}
+use Rattle.kinds.specs.declared.Refusal.the-variants.{Counts, Torn, Slip, Same, Long, Range, Narrow, Slips, Pieces, Buffers, WireList}
+use Rattle.kinds.specs.Refusal.{refusalCode}
+use Rattle.rules.specs.Basics.{Is, Among}
+use Rattle.rules.specs.Tables.{Tables, slipTotal}
+use Rattle.rules.specs.Chain.{State, reads}
+use Rattle.rules.specs.Sound.{Lent, Sound}
+use Rattle.rules.specs.Room.{isVacant}
+use Rattle.rules.specs.Rule.{Meaning}
+use Rattle.rules.specs.Step.{Call, Open, Do, meaning, stateIn, step}
+use Rattle.rules.specs.Recount.{leaves}
+
+-- slip t is S or more, or vacant
+abbrev pub Missing : Tables → ℕ → Type 0
+Missing T t = (slipTotal T ≤ t) ⊎ Is (isVacant T t)
+
+-- one slip is named twice
+abbrev pub Twice : List ℕ → Type 0
+Twice [] = ⊥
+Twice (s ∷ ss) = Among ss s ⊎ Twice ss
+
+-- the bytes of the slip that is named first
+abbrev pub firstReads : Meaning → State → List ℕ
+firstReads o S = reads S (getD (o .names) 0 0)
+
+-- The table, row by row: the cause of each code for an operation of meaning o on a sound pool.
+abbrev pub Cause : Refusal → Meaning → State → Type 0
+Cause Counts o S = ⊥
+Cause Torn o S = ⊥
+Cause Slip o S = (t : ℕ) × Among (o .names) t × Missing (S .tables) t
+Cause Same o S = Twice (o .names)
+Cause Long o S = 512 < o .asks S .atOnce
+Cause Range o S = length (firstReads o S) < o .asks S .upTo
+Cause Narrow o S = length (o .lent) < o .asks S .copies
+Cause Slips o S = leaves (S .tables) .slips < o .asks S .new .slips
+Cause Pieces o S = leaves (S .tables) .pieces < o .asks S .new .pieces
+Cause Buffers o S = leaves (S .tables) .buffers < o .asks S .new .buffers
+Cause WireList o S = ⊥
+
+-- open B, P, S: each count is in its range, and both lent lengths are the ones that it asks
+pub record Fitting (B P S : ℕ) (m : Lent) : Type 0 where
+  pub some-buffers : 1 ≤ B
+  pub most-buffers : B ≤ 128
+  pub some-pieces : 1 ≤ P
+  pub most-pieces : P ≤ 256
+  pub some-slips : 1 ≤ S
+  pub most-slips : S ≤ 64
+  pub pool-long : length (m .pool) ≡ 11 + 2 * S + 10 * P + 2 * B
+  pub storage-long : length (m .storage) ≡ 512 * B
+
+-- The cause of each code for any call on any bytes: open finds code 1 alone, and any other call finds code 2 where the pool isn't sound.
+abbrev pub CauseOf : Refusal → Call → Lent → Type 0
+CauseOf r (Open B P S) m = (refusalCode r ≡ 1) × (Fitting B P S m → ⊥)
+CauseOf r (Do o) m = ((refusalCode r ≡ 2) × (Sound m → ⊥)) ⊎ Cause r (meaning o) (stateIn m)
+
+-- r is given: its cause is there, and that of no lower code
+abbrev pub Given : Refusal → Call → Lent → Type 0
+Given r c m = CauseOf r c m × ((q : Refusal) → refusalCode q < refusalCode r → CauseOf q c m → ⊥)
+
+-- The claim about any call on any bytes, proved in proofs/Causes.antt: each code is given exactly when.
+pub record Exactly (c : Call) (m : Lent) : Type 0 where
+  pub given : (r : Refusal) → (step c m .code ≡ refusalCode r) ↔ Given r c m
+  pub done : (step c m .code ≡ 0) ↔ ((r : Refusal) → CauseOf r c m → ⊥)
