@@ -27,7 +27,8 @@ use Rattle.rules.proofs.Chain.{spans-good, good-drop, built-own}
 use Rattle.rules.proofs.Hang.{own-front, own-short}
 use Rattle.rules.proofs.Audit.{tables-now}
 use Rattle.rules.proofs.Codes.{first-yes, first-no, first-none}
-use Rattle.rules.proofs.Keep.{shortened-ok, kept-good, kept-storage}
+use Rattle.rules.proofs.Keep.{shortened-ok, kept-good}
+use Rattle.rules.proofs.Writes.{kept-storage}
 use Rattle.rules.proofs.Bytes.{AllBytes}
 use Rattle.layout.specs.declared.Shape.{Shape}
 use Rattle.tables.specs.Shape.{Holds}

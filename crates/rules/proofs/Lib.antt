@@ -19,8 +19,10 @@ pub mod Recount
 -- what the calls share: codes, sizes, what slips read, what is taken; and what is proved of every call
 pub mod Codes
 pub mod Sizes
+pub mod Storage
 pub mod After
 pub mod Takes
+pub mod Stays
 pub mod Lawful
 -- each call that works on a pool, in document 01's order: it is lawful, and what it has besides
 pub mod Put
@@ -40,6 +42,7 @@ pub mod List
 pub mod Gather
 -- all calls together
 pub mod Calls
+pub mod Writes
 -- bytes, lists of calls, demand 3, the ten rows
 pub mod Bounds
 pub mod Bytes
