@@ -245,7 +245,8 @@ module _ (a b : ℕ) (S : State) (la : a < slipTotal (S .tables)) (za : 0 < slip
       (ap {B = List ℕ} (λ xs. reads S a ++ xs) none ∙ append-nil (reads S a) ∙ sym (first-reading .bytes a ∙ at-there b a [] (reads S) ne))
 
   -- and where neither is
-  joined-reading : Fit (S .tables .stock) (bufferTotal (S .tables)) (S .storage) → SoundNow (joined a b S .tables) → length (notOwn (S .tables) a) ≤ length (freePieces (S .tables))
+  joined-reading : Fit (S .tables .stock) (bufferTotal (S .tables)) (S .storage) → SoundNow (joined a b S .tables)
+      → length (notOwn (S .tables) a) ≤ length (freePieces (S .tables))
       → Reading first (joined a b S) (reading a (reads S a ++ reads S b) ∷ [])
   unfolding joined
   joined-reading f h′ r =

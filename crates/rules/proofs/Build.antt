@@ -130,7 +130,11 @@ pub record Still (T T′ : Tables) : Type 0 where
   pub free-still : (d : ℕ) → piece T d .count ≡ 0 → piece T′ d .count ≡ 0
 
 pub still-refl : (T : Tables) → Still T T
-still-refl T = record { kept = record { slips-kept = refl; pieces-size = refl; counts-size = refl; stock-kept = refl }; counts-still = refl; free-still = λ d e. e }
+still-refl T = record {
+  kept = record { slips-kept = refl; pieces-size = refl; counts-size = refl; stock-kept = refl };
+  counts-still = refl;
+  free-still = λ d e. e;
+}
 
 -- a store to a piece in use
 pub still-store : (T : Tables) (d : ℕ) (p : Piece) → 0 < piece T d .count → Still T (setPiece T d p)

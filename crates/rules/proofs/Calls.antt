@@ -73,8 +73,8 @@ pub rule-sizes : (o : Operation) (S : State) → Sizes (S .tables) (rule o S .af
 unfolding rule
 rule-sizes o S = lawful o .sizes S
 
-pub rule-storage : (o : Operation) (S : State) → SoundNow (S .tables) → Fit (S .tables .stock) (bufferTotal (S .tables)) (S .storage) → Allowed (rule o S) (S .tables)
-    → length (rule o S .after .storage) ≡ length (S .storage)
+pub rule-storage : (o : Operation) (S : State) → SoundNow (S .tables) → Fit (S .tables .stock) (bufferTotal (S .tables)) (S .storage)
+    → Allowed (rule o S) (S .tables) → length (rule o S .after .storage) ≡ length (S .storage)
 unfolding rule
 rule-storage o S h f a = lawful o .stays S h f a .as-long
 
@@ -94,8 +94,8 @@ unfolding rule
 takes o S h a = lawful o .takes S h a (rule-sound o S h a)
 
 -- every byte stays of a buffer that is held before and after, or free before and after
-pub rule-bytes : (o : Operation) (S : State) → SoundNow (S .tables) → Fit (S .tables .stock) (bufferTotal (S .tables)) (S .storage) → Allowed (rule o S) (S .tables)
-    → (b : ℕ) → b < bufferTotal (S .tables) → isUnheld (rule o S .after .tables) b ≡ isUnheld (S .tables) b
+pub rule-bytes : (o : Operation) (S : State) → SoundNow (S .tables) → Fit (S .tables .stock) (bufferTotal (S .tables)) (S .storage)
+    → Allowed (rule o S) (S .tables) → (b : ℕ) → b < bufferTotal (S .tables) → isUnheld (rule o S .after .tables) b ≡ isUnheld (S .tables) b
     → heldBytes (S .tables) (rule o S .after .storage) b ≡ heldBytes (S .tables) (S .storage) b
 unfolding rule
 rule-bytes o S h f a b l e =

@@ -56,7 +56,8 @@ cut-exact s off n S h f a =
 cut-leaves : (s off n : ℕ) → Leaving (cutCall s off n)
 unfolding cutAfter
 cut-leaves s off n S h f a h′ =
-    gives-reading S (cutAfter s off n S) (S .storage) (newSlip (S .tables)) _ _ _ (cut-gives s off n S h (a .slips-room) (a .pieces-room)) h h′ (λ u. refl) (λ u. refl)
+    gives-reading S (cutAfter s off n S) (S .storage) (newSlip (S .tables)) _ _ _ (cut-gives s off n S h (a .slips-room) (a .pieces-room)) h h′
+    (λ u. refl) (λ u. refl)
     (cutOut-contents (S .tables .stock) (bufferTotal (S .tables)) (S .storage) (spans (S .tables) s) off n f (spans-good (S .tables) s h))
 
 cut-takes : (s off n : ℕ) → Taking (cutCall s off n)

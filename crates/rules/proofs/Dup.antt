@@ -76,7 +76,8 @@ dup-leaves : (s : ℕ) → Leaving (dupCall s)
 unfolding dupAfter
 dup-leaves s S h _ a h′ =
     let T = S .tables in
-    gives-reading S (dupAfter s S) (S .storage) (newSlip T) _ (spans T s) (reads S s) (dup-gives s S h (a .slips-room) (a .pieces-room)) h h′ (λ u. refl) (λ u. refl) refl
+    gives-reading S (dupAfter s S) (S .storage) (newSlip T) _ (spans T s) (reads S s) (dup-gives s S h (a .slips-room) (a .pieces-room)) h h′
+    (λ u. refl) (λ u. refl) refl
 
 dup-takes : (s : ℕ) → Taking (dupCall s)
 dup-takes s S h a h′ =

@@ -36,7 +36,8 @@ free-leaves : (s : ℕ) (S : State) → s < slipTotal (S .tables) → SoundNow (
 free-leaves s S b h f h′ =
     let T = S .tables in
     let k = no-head T h in
-    gone-reading S (freeAfter s S) s (keeps-spans (T .stock) refl (turned-keeps S s 0 b k f) h′) (turned-entry S s 0 b k) (turned-entries S s 0 b k) (turned-others S s 0 b k) h h′
+    gone-reading S (freeAfter s S) s (keeps-spans (T .stock) refl (turned-keeps S s 0 b k f) h′)
+    (turned-entry S s 0 b k) (turned-entries S s 0 b k) (turned-others S s 0 b k) h h′
 
 -- it takes nothing
 free-takes : (s : ℕ) (S : State) → s < slipTotal (S .tables) → SoundNow (S .tables) → SoundNow (freeAfter s S .tables)

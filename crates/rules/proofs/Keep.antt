@@ -102,7 +102,8 @@ keep-ready : (T : Tables) (s n : ℕ) → s < slipTotal T → SoundNow T → Rea
 keep-ready T s n l h =
     let xs = kept T s n in
     let g = kept-good T s n h in
-    kept-ready T s (keptOwn T s n) xs (keptNotOwn T s n) l (own-pieces (length xs) (headOf T s) T) g (good-drop (T .stock) (bufferTotal T) (length (keptOwn T s n)) xs g) h
+    kept-ready T s (keptOwn T s n) xs (keptNotOwn T s n) l (own-pieces (length xs) (headOf T s) T) g
+    (good-drop (T .stock) (bufferTotal T) (length (keptOwn T s n)) xs g) h
 
 pub keep-sound : (s n : ℕ) (S : State) → s < slipTotal (S .tables) → SoundNow (S .tables) → SoundNow (keepAfter s n S .tables)
 unfolding keepAfter
@@ -337,7 +338,8 @@ keep-stays s n S h f a =
     maybe-stays S _ (eqb n (lengthOf T s)) 0
     (subst (λ (X : State). StorageStays S X 0) (kept-as S s own xs rest)
     (behind-stays S (keptTables T own xs rest) s (keptLink T rest) own (tables-sizes T own xs rest)
-    (tables-only T own xs rest (drop-none (isUnheld T) (length own) xs (cutOut-none (isUnheld T) (spans T s) 0 n (spans-none T s h)))) (r .below) (r .own-list) (r .held) f))
+    (tables-only T own xs rest (drop-none (isUnheld T) (length own) xs (cutOut-none (isUnheld T) (spans T s) 0 n (spans-none T s h))))
+    (r .below) (r .own-list) (r .held) f))
 
 keep-leaves : (s n : ℕ) → Leaving (keepCall s n)
 unfolding keepAfter

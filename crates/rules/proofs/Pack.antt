@@ -70,7 +70,8 @@ pack-leaves s S h f al =
     let p = plain T (laid (T .stock) bs n) in
     let long = reads-length S h f s in
     gives-reading S _ (S₁ .storage) s _ _ (reads S s) (pack-gives s S S₁ b h rp rb) h h′
-    (old-spans S₁ p (freePieces T) s (plain-planned T (p .more) (new-good T n) h) (free-pieces T) b (new-length S k (reads S s) f ∙ f)) (new-others S h f k (reads S s))
+    (old-spans S₁ p (freePieces T) s (plain-planned T (p .more) (new-good T n) h) (free-pieces T) b (new-length S k (reads S s) f ∙ f))
+    (new-others S h f k (reads S s))
     (ap (λ i. contents (T .stock) (S₁ .storage) (laid (T .stock) bs i)) (sym long) ∙ new-here S h f k (reads S s) rb (omega arith))))
 
 pack-takes : (s : ℕ) → Taking (packCall s)
@@ -94,7 +95,8 @@ pack-stays s S h f a =
     let xs = laid (T .stock) (newBuffers T k) n in
     if-both (λ (X : State) (w : Wants). StorageStays S X (w .buffers)) (leb (length (chain T s)) 1) _ _ (want 0 0 0) (want 0 k k)
     (λ _. stays-as S S 0 refl)
-    (λ _. old-stays S (reads S s) (plain T xs) (freePieces T) s k (plain-planned T xs (new-good T n) h) (free-pieces T) (first-named T s _ (a .early) .0) f (new-laid T k n))
+    (λ _. old-stays S (reads S s) (plain T xs) (freePieces T) s k (plain-planned T xs (new-good T n) h) (free-pieces T)
+    (first-named T s _ (a .early) .0) f (new-laid T k n))
 
 pub pack-lawful : (s : ℕ) → Lawful (packCall s)
 unfolding packAfter

@@ -134,8 +134,10 @@ pullup-stays s n S h f a =
     let xs = laid (T .stock) (newBuffers T 1) n in
     if-both (λ (X : State) (w : Wants). StorageStays S X (w .buffers)) (leb n (firstLength (spans T s))) _ _ (want 0 0 0) (want 0 (suc (length (p .more))) 1)
     (λ _. stays-as S S 0 refl)
-    (λ t. old-stays S (take n (reads S s)) (pulled T s n) (freePieces T) s 1 (pulled-planned T s n (omega (arith, not-most n (firstLength (spans T s)) t)) h) (free-pieces T) b f
-    (ap (passing (isUnheld T)) (map-append (λ (x : Stretch). x .buffer) xs (p .more)) ∙ passing-back (isUnheld T) (buffersOf xs) (buffersOf (p .more)) (dropped-none T s n b h)
+    (λ t. old-stays S (take n (reads S s)) (pulled T s n) (freePieces T) s 1
+    (pulled-planned T s n (omega (arith, not-most n (firstLength (spans T s)) t)) h) (free-pieces T) b f
+    (ap (passing (isUnheld T)) (map-append (λ (x : Stretch). x .buffer) xs (p .more))
+    ∙ passing-back (isUnheld T) (buffersOf xs) (buffersOf (p .more)) (dropped-none T s n b h)
     ∙ new-laid T 1 n))
 
 pub pullup-lawful : (s n : ℕ) → Lawful (pullupCall s n)

@@ -58,8 +58,8 @@ put-leaves : (input : List ℕ) → Leaving (putCall input)
 unfolding putAfter
 put-leaves input S h f a h′ =
     let k = buffersFor (length input) in
-    gives-reading S (putAfter input S) _ (newSlip (S .tables)) _ _ input (put-gives input S h (a .slips-room) (a .pieces-room) (a .buffers-room)) h h′ (λ u. refl)
-    (new-others S h f k input) (new-here S h f k input (a .buffers-room) (omega arith))
+    gives-reading S (putAfter input S) _ (newSlip (S .tables)) _ _ input (put-gives input S h (a .slips-room) (a .pieces-room) (a .buffers-room)) h h′
+    (λ u. refl) (new-others S h f k input) (new-here S h f k input (a .buffers-room) (omega arith))
 
 put-takes : (input : List ℕ) → Taking (putCall input)
 put-takes input S h a h′ =

@@ -69,7 +69,8 @@ maybe-stays S X b k h = if-either (λ (Y : State). StorageStays S Y k) b S X (λ
 -- ---- which buffers are taken
 
 -- a buffer on which no new piece lies keeps its count
-built-count : (T : Tables) (fs : List ℕ) (xs : List Stretch) (tail b : ℕ) → (List·Memᴰ b (buffersOf xs) → ⊥) → bufferCount (built T fs xs tail) b ≡ bufferCount T b
+built-count : (T : Tables) (fs : List ℕ) (xs : List Stretch) (tail b : ℕ) → (List·Memᴰ b (buffersOf xs) → ⊥)
+    → bufferCount (built T fs xs tail) b ≡ bufferCount T b
 unfolding built
 built-count T fs [] tail b n = refl
 built-count T [] (x ∷ xs) tail b n = refl
@@ -84,10 +85,12 @@ built-only T T₀ fs xs tail k c e b n u =
       | yes l ↦ l
       | no l ↦ (
           let z : Is (isUnheld T b) = eq→eqb (bufferCount T b) 0 (omega arith) in
-          omega (arith, built-count T₀ fs xs tail b (λ m. n (subst (List·Memᴰ b) e (passing-in (isUnheld T) b (buffersOf xs) z m))), ap (λ (q : List ℕ). getD q b 0) c))
+          let out : List·Memᴰ b (buffersOf xs) → ⊥ = λ m. n (subst (List·Memᴰ b) e (passing-in (isUnheld T) b (buffersOf xs) z m)) in
+          omega (arith, built-count T₀ fs xs tail b out, ap (λ (q : List ℕ). getD q b 0) c))
     ]
 
-pub made-only : {T : Tables} (p : Plan) (fs : List ℕ) (k : ℕ) → Planned T p → passing (isUnheld T) (buffersOf (p .more)) ≡ newBuffers T k → TakesOnly T (made p fs) k
+pub made-only : {T : Tables} (p : Plan) (fs : List ℕ) (k : ℕ) → Planned T p → passing (isUnheld T) (buffersOf (p .more)) ≡ newBuffers T k
+    → TakesOnly T (made p fs) k
 made-only {T} p fs k h e = built-only T (p .base) fs (p .more) (p .tail) k (h .still .counts-still) e
 
 -- ---- where a chain is hung
@@ -99,7 +102,8 @@ pub old-stays : (S : State) (xs : List ℕ) (p : Plan) (fs : List ℕ) (s k : �
 old-stays S xs p fs s k h r l f e =
     let T = S .tables in
     let S₁ = withStorage S (stored (T .stock) (S .storage) (newBuffers T k) xs) in
-    stays-then (made-sizes p fs h) (made-only p fs k h e) (stays-new S (withTables S₁ (made p fs)) k xs f refl) (old-keeps S₁ p fs s h r l (new-length S k xs f ∙ f))
+    stays-then (made-sizes p fs h) (made-only p fs k h e) (stays-new S (withTables S₁ (made p fs)) k xs f refl)
+    (old-keeps S₁ p fs s h r l (new-length S k xs f ∙ f))
 
 -- no buffer is written, and from the tables T₁ a link goes behind own pieces
 pub behind-stays : (S : State) (T₁ : Tables) (s m : ℕ) (own : List ℕ) → Sizes (S .tables) T₁ → TakesOnly (S .tables) T₁ 0 → s < slipTotal T₁

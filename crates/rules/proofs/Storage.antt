@@ -79,7 +79,8 @@ freed-keeps S d u h f =
     record {
       sizes = both-set T d blank b _;
       as-long = refl;
-      fell = by-place (T .counts) b _ 0 (in-range (T .counts) 0 (λ n. n) b refl (buffer-pos d u h)) (λ n x. n ≤ bufferCount T x) (omega arith) (λ x _. omega arith);
+      fell = by-place (T .counts) b _ 0 (in-range (T .counts) 0 (λ n. n) b refl (buffer-pos d u h))
+          (λ n x. n ≤ bufferCount T x) (omega arith) (λ x _. omega arith);
       others = λ x l k. refl;
     }
 
@@ -96,7 +97,8 @@ releaseIn-keeps (suc k) (suc d) {rank} {fl} S h f =
     let p = freed-keeps S d u h f in
     if-either (Keeps S) _ _ _
     (λ _. record { sizes = piece-set T d _; as-long = refl; fell = λ b. omega arith; others = λ b _ _. refl })
-    (λ t. then-keeps p (releaseIn-keeps k (piece T d .next) {fl = fl} (freed S d) (free-move d (last-one T d u t) h) (p .as-long ∙ fit-by (S .storage) (p .sizes) f)))
+    (λ t. then-keeps p (releaseIn-keeps k (piece T d .next) {fl = fl} (freed S d) (free-move d (last-one T d u t) h)
+    (p .as-long ∙ fit-by (S .storage) (p .sizes) f)))
 
 pub release-keeps : {fl : List ℕ} (S : State) (n : ℕ) → SoundWith (n ∷ fl) (S .tables)
     → Fit (S .tables .stock) (bufferTotal (S .tables)) (S .storage) → Keeps S (release S n)
@@ -156,5 +158,6 @@ keeps-spans {S} {S′} Z e k h u =
 
 pub old-spans : {T : Tables} (S : State) (p : Plan) (fs : List ℕ) (s : ℕ) → Planned T p → Free T fs → s < slipTotal T
     → Fit (T .stock) (bufferTotal T) (S .storage) → (u : ℕ)
-    → contents (T .stock) (underOld S p fs s .storage) (spans (underOld S p fs s .tables) u) ≡ contents (T .stock) (S .storage) (spans (underOld S p fs s .tables) u)
+    → contents (T .stock) (underOld S p fs s .storage) (spans (underOld S p fs s .tables) u)
+    ≡ contents (T .stock) (S .storage) (spans (underOld S p fs s .tables) u)
 old-spans {T} S p fs s h r l f = keeps-spans (T .stock) (made-sizes p fs h .stock-kept) (old-keeps S p fs s h r l f) (old-sound S p fs s h r l)

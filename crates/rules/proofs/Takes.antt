@@ -75,7 +75,8 @@ used-drop T (suc k) (d ∷ l) u = used-drop T k l (u .1)
 pub in-member : (d : ℕ) (l : List ℕ) → List·Memᴰ d l → Is (member d l)
 unfolding member
 in-member d [] m = absurd (List·Memᴰ·not-nil m)
-in-member d (x ∷ l) m = ⊎-elim (λ e. or-left (eqb x d) (member d l) (eq→eqb x d (sym e))) (λ z. or-right (eqb x d) (member d l) (in-member d l z)) (List·Memᴰ·cases-cons m)
+in-member d (x ∷ l) m =
+    ⊎-elim (λ e. or-left (eqb x d) (member d l) (eq→eqb x d (sym e))) (λ z. or-right (eqb x d) (member d l) (in-member d l z)) (List·Memᴰ·cases-cons m)
 
 member-in : (d : ℕ) (l : List ℕ) → Is (member d l) → List·Memᴰ d l
 unfolding member

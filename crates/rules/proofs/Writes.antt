@@ -87,18 +87,21 @@ writes (Drop s n) S = (
 writes (Keep s n) S = (
   [],
   let T = S .tables in
-      if-either (λ (X : State). X .storage ≡ S .storage) (eqb n (lengthOf T s)) _ _ (λ _. refl) (λ _. kept-storage S s (keptOwn T s n) (kept T s n) (keptNotOwn T s n)),
+      if-either (λ (X : State). X .storage ≡ S .storage) (eqb n (lengthOf T s)) _ _ (λ _. refl)
+      (λ _. kept-storage S s (keptOwn T s n) (kept T s n) (keptNotOwn T s n)),
 )
 writes (Pullup s n) S = (
   take n (reads S s),
   let T = S .tables in
-      if-both (λ (X : State) (w : Wants). X .storage ≡ stored (T .stock) (S .storage) (newBuffers T (w .buffers)) (take n (reads S s))) (leb n (firstLength (spans T s))) _ _ _ _
+      if-both (λ (X : State) (w : Wants). X .storage ≡ stored (T .stock) (S .storage) (newBuffers T (w .buffers)) (take n (reads S s)))
+      (leb n (firstLength (spans T s))) _ _ _ _
       (λ _. refl) (λ _. old-storage _ (pulled T s n) (freePieces T) s),
 )
 writes (Pack s) S = (
   reads S s,
   let T = S .tables in
-      if-both (λ (X : State) (w : Wants). X .storage ≡ stored (T .stock) (S .storage) (newBuffers T (w .buffers)) (reads S s)) (leb (length (chain T s)) 1) _ _ _ _
+      if-both (λ (X : State) (w : Wants). X .storage ≡ stored (T .stock) (S .storage) (newBuffers T (w .buffers)) (reads S s))
+      (leb (length (chain T s)) 1) _ _ _ _
       (λ _. refl) (λ _. old-storage _ (plain T _) (freePieces T) s),
 )
 writes (Length s) S = ([], refl)
@@ -108,7 +111,8 @@ writes (WireList s list) S = ([], refl)
 
 -- every byte of a buffer that is not one of those stays, held or free
 pub unwritten : (o : Operation) (S : State) → Fit (S .tables .stock) (bufferTotal (S .tables)) (S .storage) → (b : ℕ) → b < bufferTotal (S .tables)
-    → (List·Memᴰ b (newBuffers (S .tables) (rule o S .wants .buffers)) → ⊥) → heldBytes (S .tables) (rule o S .after .storage) b ≡ heldBytes (S .tables) (S .storage) b
+    → (List·Memᴰ b (newBuffers (S .tables) (rule o S .wants .buffers)) → ⊥)
+    → heldBytes (S .tables) (rule o S .after .storage) b ≡ heldBytes (S .tables) (S .storage) b
 unwritten o S f b l n =
     let (xs, e) = writes o S in
     ap (λ (q : List ℕ). heldBytes (S .tables) q b) e ∙ new-apart S (rule o S .wants .buffers) xs f b l n
