@@ -1,7 +1,7 @@
 -- drop: soundness is kept, what its slip then holds, and that it is lawful. Assumes nothing.
 use mathlib.Core.Path.{_≡_, refl, sym, ap, subst, subst₂, _∙_}
 use mathlib.Core.Logic.{_≢_, inl}
-use mathlib.Core.Bool.{Bool, true, _&&_}
+use mathlib.Core.Bool.{Bool, true}
 use mathlib.Core.List.{List, [], _∷_, _++_, map-append, List·Memᴰ}
 use Prim.Native.Nat.{ℕ, zero, suc, _+_, _-_, _<_, _≤_, pred}
 use native.Mathlib.Nat.{suc-inj}
@@ -12,12 +12,12 @@ use lib.Seq.{getD-set-same, getD-set-other}
 use lib.Dec.{eqb, leb, eqb→eq, leb→le, le→leb}
 use Rattle.rules.specs.Basics.{Is}
 use Rattle.rules.specs.Tables.{Piece, Tables, blank, piece, slipTotal, setPiece, withCount, headOf, setSlip, bufferTotal}
-use Rattle.rules.specs.Chain.{State, chain, stretch, Stretch, stretches, spans, reads}
+use Rattle.rules.specs.Chain.{State, chain, ownAt, stretch, Stretch, stretches, spans, reads}
 use Rattle.rules.specs.Room.{freePieces, isUnheld}
 use Rattle.rules.specs.Release.{shared}
 use Rattle.rules.specs.Build.{Plan, underOld, stored}
 use Rattle.rules.specs.Rule.{reading, want}
-use Rattle.rules.specs.Drop.{shorter, dropHere, dropPlan, dropped, dropAfter, ownAt, dropCall}
+use Rattle.rules.specs.Drop.{shorter, dropHere, dropPlan, dropped, dropAfter, dropCall}
 use Rattle.rules.specs.Takes.{Took}
 use Rattle.rules.proofs.Logic.{if-either, not-most, and-0, and-1, if-T, if-F}
 use Rattle.rules.proofs.Moves.{SoundBy, SoundNow, used-in-range, in-range, buffer-pos, trim-move, reorder, slip-move}
@@ -196,7 +196,7 @@ pub drop-none : (T : Tables) (own : Bool) (ds : List ℕ) (n : ℕ) → n ≡ 0 
 unfolding dropPlan
 drop-none T own [] n e = refl
 drop-none T own (d ∷ ds) n e =
-    let own′ = own && eqb (piece T d .count) 1 in
+    let own′ = ownAt T own d in
     if-either (λ (p : Plan). p .more ≡ []) (leb (piece T d .len) n) _ _ (λ _. drop-none T own′ ds (n - piece T d .len) (omega arith)) (λ _. here-none T own′ d n e)
 
 -- ---- drop is lawful
