@@ -32,7 +32,7 @@ pub record StorageStays (S S′ : State) (k : ℕ) : Type 0 where
 pub stays-as : (S S′ : State) (k : ℕ) → S′ .storage ≡ S .storage → StorageStays S S′ k
 stays-as S S′ k e = record { as-long = ap length e; others = λ b _ _ _. ap (λ (q : List ℕ). heldBytes (S .tables) q b) e }
 
--- new buffers are written: every other buffer keeps its bytes
+-- where new buffers are written every other one keeps its bytes
 pub new-apart : (S : State) (k : ℕ) (xs : List ℕ) → Fit (S .tables .stock) (bufferTotal (S .tables)) (S .storage) → (b : ℕ) → b < bufferTotal (S .tables)
     → (List·Memᴰ b (newBuffers (S .tables) k) → ⊥)
     → heldBytes (S .tables) (stored (S .tables .stock) (S .storage) (newBuffers (S .tables) k) xs) b ≡ heldBytes (S .tables) (S .storage) b
@@ -40,6 +40,7 @@ new-apart S k xs f b l n =
     let T = S .tables in
     stored-other (T .stock) (isUnheld T) 0 (bufferTotal T) (newBuffers T k) (S .storage) xs (wholeOf (T .stock) b) (new-buffers-in T k) f l (omega arith) n
 
+-- new buffers are written
 pub stays-new : (S S′ : State) (k : ℕ) (xs : List ℕ) → Fit (S .tables .stock) (bufferTotal (S .tables)) (S .storage)
     → S′ .storage ≡ stored (S .tables .stock) (S .storage) (newBuffers (S .tables) k) xs → StorageStays S S′ k
 stays-new S S′ k xs f e = record {

@@ -67,6 +67,7 @@ then-keeps {A} {B} {C} p q = record {
       ∙ p .others b l (λ u. omega (arith, h u, q .fell b));
 }
 
+-- storage has the length that tables of the same sizes ask
 pub fit-by : {T T′ : Tables} (st : List ℕ) → Sizes T T′ → Fit (T .stock) (bufferTotal T) st → Fit (T′ .stock) (bufferTotal T′) st
 fit-by st z f = f ∙ ap₂ storageLength (sym (z .stock-kept)) (sym (z .counts-size))
 
