@@ -23,6 +23,8 @@ use Rattle.rules.specs.Step.{Append, rule, stateIn, perform}
 use Rattle.rules.proofs.Logic.{if-T, if-F, eq→eqb, or-left, or-right, or-cases}
 use Rattle.rules.proofs.Codes.{first-yes, first-no, first-none}
 use Rattle.rules.proofs.Sizes.{behind-storage}
+use Rattle.rules.proofs.Writes.{joined-storage}
+use Rattle.rules.proofs.Bounds.{small}
 use Rattle.rules.proofs.Bytes.{AllBytes}
 use Rattle.layout.specs.declared.Shape.{Shape}
 use Rattle.tables.specs.Shape.{Holds}
@@ -50,11 +52,6 @@ module _ (S : State) (a b : ℕ) where
     unfolding appendAfter
     after-joined more =
         sym (if-F (eqb (headOf (S .tables) a) 0) _ _ (λ t. some (eqb→eq _ 0 t)) ∙ if-F (eqb (headOf (S .tables) b) 0) _ _ (λ t. more (eqb→eq _ 0 t)))
-
-  -- a join leaves storage as it is
-  joined-storage : joined a b S .storage ≡ S .storage
-  unfolding joined
-  joined-storage = behind-storage _ a (ownOf (S .tables) a) _
 
 -- the two stores that give a the entry of b
 pub moved : (T : Tables) (a b : ℕ) {p q : List ℕ} {h : Shape} {v : ℕ} → v ≡ slip T b → Holds p h (setSlip T b vacant) → Holds q h (setSlip (decode p) a v)
@@ -137,4 +134,4 @@ module _ (p st : List ℕ) (a b : ℕ) where
               → o ≡ Done (record { state = x; number = 0 }) → AllBytes q → Holds q g (joined a b (stateIn (lent p st)) .tables) → resultOf o q st [] noView ≡ perform (Append a b) (lent p st)
           append-joined l d c is =
               let S = stateIn (lent p st) in
-              left (omega (arith, others-wanted)) d c _ (after-joined S a b some more) (joined-storage S a b) is
+              left (omega (arith, others-wanted)) d c _ (after-joined S a b some more) (joined-storage a b S) is

@@ -9,9 +9,8 @@ use lib.ListN.{length, drop}
 use lib.Dec.{eqb, eqb→eq, ltb, ltb→lt, lt→ltb, leb, leb→le, le→leb}
 use Rattle.rules.specs.Basics.{Is, if_then_else_}
 use Rattle.rules.specs.Tables.{Tables, piece, headOf, slipTotal, pieceTotal, bufferTotal}
-use Rattle.rules.specs.Chain.{Stretch, walk, stretch, total, lengthOf, cutOut, contents}
+use Rattle.rules.specs.Chain.{Stretch, walk, ownAt, stretch, total, lengthOf, cutOut, contents}
 use Rattle.rules.specs.Sound.{linkOk, SoundTables}
-use Rattle.rules.specs.Drop.{ownAt}
 use Rattle.rules.proofs.Logic.{if-T, if-F, not-less, same-test, and-intro, and-parts, eq→eqb}
 use Rattle.rules.proofs.Contents.{Fit, dropOut, dropOut-contents}
 use Rattle.chain.specs.declared.Spot.{Spot}

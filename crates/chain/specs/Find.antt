@@ -4,7 +4,7 @@ use Prim.Native.Nat.{ℕ, zero, suc, _-_}
 use lib.Dec.{eqb, leb, ltb}
 use Rattle.rules.specs.Basics.{if_then_else_}
 use Rattle.rules.specs.Tables.{Tables, piece}
-use Rattle.rules.specs.Drop.{ownAt}
+use Rattle.rules.specs.Chain.{ownAt}
 use Rattle.chain.specs.declared.Spot.{Spot}
 
 -- The place off bytes after the link n, over at most k pieces; own: all pieces before n are own.

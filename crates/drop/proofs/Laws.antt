@@ -22,7 +22,7 @@ use Rattle.rules.specs.Drop.{dropped, dropAfter}
 use Rattle.rules.specs.Step.{Drop, rule, stateIn, perform}
 use Rattle.rules.proofs.Logic.{if-T, if-F, eq→eqb}
 use Rattle.rules.proofs.Codes.{first-yes, first-no, first-none}
-use Rattle.rules.proofs.Sizes.{old-storage}
+use Rattle.rules.proofs.Writes.{old-storage}
 use Rattle.rules.proofs.Drop.{drop-none}
 use Rattle.rules.proofs.Bytes.{AllBytes}
 use Rattle.layout.specs.declared.Shape.{Shape}

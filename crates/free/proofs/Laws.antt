@@ -13,7 +13,7 @@ use Rattle.rules.specs.Sound.{lent}
 use Rattle.rules.specs.Rule.{_⇐_, unnamed, want, noView}
 use Rattle.rules.specs.Free.{freeAfter}
 use Rattle.rules.specs.Step.{Free, rule, stateIn, perform}
-use Rattle.rules.proofs.Release.{turned-storage}
+use Rattle.rules.proofs.Writes.{turned-storage}
 use Rattle.rules.proofs.Codes.{first-yes, first-no, first-none}
 use Rattle.rules.proofs.Bytes.{AllBytes}
 use Rattle.layout.specs.declared.Shape.{Shape}

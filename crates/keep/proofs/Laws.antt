@@ -1,7 +1,7 @@
 -- What keep answers and leaves: the rule's result. Assumes nothing.
 use mathlib.Core.Path.{_≡_, refl, sym, ap, subst, _∙_}
 use mathlib.Core.List.{List, [], _∷_}
-use Prim.Native.Nat.{ℕ, pred, _-_, _≤_, _<_}
+use Prim.Native.Nat.{ℕ, pred, _+_, _-_, _≤_, _<_}
 use native.Mathlib.Omega.{arith}
 use lib.ListN.{length, getD, take, drop, length-drop, drop-of-length-le}
 use lib.Dec.{eqb, eqb→eq, ltb, ltb→lt, lt→ltb}
@@ -27,7 +27,8 @@ use Rattle.rules.proofs.Chain.{spans-good, good-drop, built-own}
 use Rattle.rules.proofs.Hang.{own-front, own-short}
 use Rattle.rules.proofs.Audit.{tables-now}
 use Rattle.rules.proofs.Codes.{first-yes, first-no, first-none}
-use Rattle.rules.proofs.Keep.{shortened-ok, kept-good, kept-storage}
+use Rattle.rules.proofs.Keep.{shortened-ok, kept-good}
+use Rattle.rules.proofs.Writes.{kept-storage}
 use Rattle.rules.proofs.Bytes.{AllBytes}
 use Rattle.layout.specs.declared.Shape.{Shape}
 use Rattle.tables.specs.Shape.{Holds}
@@ -128,9 +129,14 @@ module _ {p : List ℕ} {h : Shape} {s n : ℕ} {own : OwnPart} (w : Seen p h s 
     pub no-others : keptNotOwn T s n ≡ []
     no-others = drop-of-length-le (kept T s n) {i = length mine} (omega (arith, same-count))
 
-    -- the last is long enough to be shortened
-    pub last-long : (own .last ≡ 0 → ⊥) → own .bytes - n ≤ piece T (own .last - 1) .len
-    last-long z = omega (arith, own-bytes, reach same-count .1 (λ e. z (own-last ∙ e)), ap (λ (x : ℕ). piece T (x - 1) .len) own-last)
+    -- the last is long enough to be shortened, and its place is small
+    pub last-long : (own .last ≡ 0 → ⊥)
+        → (own .bytes - n ≤ piece T (own .last - 1) .len) × (piece T (own .last - 1) .offset + piece T (own .last - 1) .len < 65536)
+    last-long z =
+        let u = link-leads T (own .last) (w .opened .sound) (subst (λ (x : ℕ). Is (linkOk T x)) (sym own-last) (laws .last-ok)) z in (
+          omega (arith, own-bytes, reach same-count .1 (λ e. z (own-last ∙ e)), ap (λ (x : ℕ). piece T (x - 1) .len) own-last),
+          omega (arith, u .most),
+        )
 
     -- shortening it is the rule's
     short-is : shortenedBy T (own .last) (own .bytes - n) ≡ shortened T mine (kept T s n)

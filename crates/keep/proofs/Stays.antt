@@ -110,14 +110,17 @@ pub short-none : {p : List ℕ} {h : Shape} (last n : ℕ) → Shaped p h → la
 short-none zero n is z = whole is
 short-none (suc l) n is z = absurd (omega arith)
 
--- the store at the piece that it leads to
-pub short-some : {q : List ℕ} {h : Shape} {a m : ℕ} (T : Tables) (last n : ℕ) → (last ≡ 0 → ⊥) → a ≡ piece T (last - 1) .offset → m ≡ piece T (last - 1) .len
-    → Holds q h (setPiece T (last - 1) (withPlace (piece T (last - 1)) a (m - n))) → Holds q h (shortenedBy T last n)
-short-some T zero n z ea em is = absurd (z refl)
-short-some T (suc l) n z ea em is =
+-- the piece that it leads to is shortened at its end
+pub short-some : {q : List ℕ} {h : Shape} (T : Tables) (last n : ℕ) → (last ≡ 0 → ⊥)
+    → Holds q h (setPiece T (last - 1) (withPlace (piece T (last - 1)) (piece T (last - 1) .offset + 0) (piece T (last - 1) .len - 0 - n)))
+    → Holds q h (shortenedBy T last n)
+short-some T zero n z is = absurd (z refl)
+short-some T (suc l) n z is =
     let e : suc l - 1 ≡ l = omega arith in
+    let o : piece T l .offset + 0 ≡ piece T l .offset = omega arith in
+    let m : piece T l .len - 0 - n ≡ piece T l .len - n = omega arith in
     record {
       shaped = is .shaped;
-      is = is .is ∙ (λ i. setPiece T (suc l - 1) (withPlace (piece T (suc l - 1)) (ea i) (em i - n)))
-          ∙ ap (λ (x : ℕ). setPiece T x (withPlace (piece T x) (piece T x .offset) (piece T x .len - n))) e;
+      is = is .is ∙ ap (λ (x : ℕ). setPiece T x (withPlace (piece T x) (piece T x .offset + 0) (piece T x .len - 0 - n))) e
+          ∙ (λ i. setPiece T l (withPlace (piece T l) (o i) (m i)));
     }

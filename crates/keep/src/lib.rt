@@ -6,7 +6,7 @@ use kinds::SlipNumber;
 use layout::Shape;
 ghost use mathlib.Core.Path.{_≡_};
 ghost use mathlib.Core.List.{List, []};
-ghost use Prim.Native.Nat.{ℕ, _-_, _≤_};
+ghost use Prim.Native.Nat.{ℕ, _+_, _-_, _≤_, _<_};
 ghost use Rattle.kinds.specs.SlipState.{stateOf};
 ghost use Rattle.rules.specs.Tables.{slip, piece};
 ghost use Rattle.rules.specs.Bytes.{decode};
@@ -19,17 +19,15 @@ ghost use Rattle.answer.specs.Result.{resultOf, Leaves};
 ghost use Rattle.keep.specs.Shorten.{shortenedBy};
 
 // The piece that `last` leads to loses its last `over` bytes, and nothing changes where `last` is 0: a data window shortened in place.
-fn shorten(pool: &mut [u8], shape: Shape, last: u16, over: u32)
-    requires { ⌜ Shaped (now pool) shape × (last ≤ shape .pieces) × ((last ≡ 0 → ⊥) → over ≤ piece (decode (now pool)) (last - 1) .len) ⌝ }
+fn trim_end(pool: &mut [u8], shape: Shape, last: u16, over: u32)
+    requires { ⌜ Shaped (now pool) shape × (last ≤ shape .pieces) × ((last ≡ 0 → ⊥) → (over ≤ piece (decode (now pool)) (last - 1) .len)
+        × (piece (decode (now pool)) (last - 1) .offset + piece (decode (now pool)) (last - 1) .len < 65536)) ⌝ }
     ensures { λ _. ⌜ Holds (now (pool .exit)) shape (shortenedBy (decode (now (pool .entry))) last over) ⌝ }
 {
     if last == 0 {
         return;
     }
-    let d = PieceNumber(last - 1);
-    let offset = tables::piece_offset(pool, shape, d);
-    let length = tables::piece_length(pool, shape, d);
-    tables::set_piece_place(pool, shape, d, offset, length - over as u16);
+    own::shorten(pool, shape, PieceNumber(last - 1), 0, over as u16);
 }
 
 // Keeps the first `n` bytes of the chain of slip `s`, in its own pieces and in new ones for those that others hold: a chain trimmed at its end.
@@ -52,7 +50,7 @@ pub fn keep(pool: &mut [u8], shape: Shape, s: SlipNumber, n: u32) -> Outcome
     }
     let own = own::own_part(pool, shape, head, n);
     if n <= own.bytes {
-        shorten(pool, shape, own.last, own.bytes - n);
+        trim_end(pool, shape, own.last, own.bytes - n);
         release::hang(pool, shape, s, own.last, 0);
         return answer::done(pool, shape, s, 0);
     }

@@ -1,4 +1,4 @@
--- The own pieces of a chain, met one by one. Assumes nothing.
+-- The own pieces of a chain, met one by one, and a piece shortened. Assumes nothing.
 use mathlib.Core.Path.{_≡_, refl, sym, ap, subst, _∙_}
 use mathlib.Core.Bool.{Bool, true, false}
 use mathlib.Core.List.{List, [], _∷_, _++_}
@@ -8,12 +8,14 @@ use lib.ListN.{length, drop}
 use lib.Seq.{drop-at}
 use lib.Dec.{eqb}
 use Rattle.rules.specs.Basics.{Is, if_then_else_, lastOf}
-use Rattle.rules.specs.Tables.{Tables, piece, pieceTotal}
+use Rattle.rules.specs.Tables.{Tables, piece, pieceTotal, setPiece, withPlace}
 use Rattle.rules.specs.Chain.{follow, walk, ownPieces, stretches, total, cutOut}
 use Rattle.rules.specs.Sound.{linkOk, SoundTables}
 use Rattle.rules.proofs.Logic.{if-either}
 use Rattle.rules.proofs.Meets.{meets-one}
 use Rattle.rules.proofs.Hang.{Run, run-split, stretches-append, stretches-length}
+use Rattle.layout.specs.declared.Shape.{Shape}
+use Rattle.tables.specs.Shape.{Holds}
 use Rattle.own.specs.declared.OwnRun.{OwnRun}
 use Rattle.own.specs.declared.OwnPart.{OwnPart}
 use Rattle.chain.specs.Length.{stretchesFrom}
@@ -206,3 +208,11 @@ own-laws k n T S t =
       rest = ap (λ (x : List ℕ). drop (length own) (stretches T x)) all ∙ ap (drop (length own)) (stretches-append T own (walk P T m))
           ∙ drop-at (stretches T own) (stretches T (walk P T m)) (length own) (stretches-length T own);
     }
+
+-- ---- a piece shortened in place, from the numbers that the code has
+
+pub shorten-done : (T : Tables) (d front back : ℕ) {h : Shape} {q : List ℕ} {o l : ℕ} → o ≡ piece T d .offset → l ≡ piece T d .len
+    → Holds q h (setPiece T d (withPlace (piece T d) (o + front) (l - front - back)))
+    → Holds q h (setPiece T d (withPlace (piece T d) (piece T d .offset + front) (piece T d .len - front - back)))
+shorten-done T d front back eo el is =
+    record { shaped = is .shaped; is = is .is ∙ (λ i. setPiece T d (withPlace (piece T d) (eo i + front) (el i - front - back))) }

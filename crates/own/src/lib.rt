@@ -1,10 +1,13 @@
-// The own pieces of a chain: those that it shares with no other, as each before them.
+// The own pieces of a chain: those that it shares with no other, as each before them; and a piece shortened in place.
 use kinds::PieceNumber;
 use layout::Shape;
 ghost use mathlib.Core.Path.{_≡_};
+ghost use Prim.Native.Nat.{_+_, _-_, _≤_, _<_};
 ghost use Rattle.rules.specs.Basics.{Is};
+ghost use Rattle.rules.specs.Tables.{piece, setPiece, withPlace};
 ghost use Rattle.rules.specs.Bytes.{decode};
 ghost use Rattle.rules.specs.Sound.{linkOk};
+ghost use Rattle.tables.specs.Shape.{Shaped, Holds};
 ghost use Rattle.chain.specs.Opened.{Opened};
 ghost use Rattle.own.specs.Own.{single, ownRun, ownPart};
 
@@ -71,4 +74,17 @@ pub fn own_part(pool: &[u8], shape: Shape, link: u16, n: u32) -> OwnPart
         last: last,
         next: at,
     }
+}
+
+// Piece `d` loses its first `front` bytes and its last `back` bytes: a data window shortened in place.
+pub fn shorten(pool: &mut [u8], shape: Shape, d: PieceNumber, front: u16, back: u16)
+    requires { ⌜ Shaped (now pool) shape × (d .0 < shape .pieces) ⌝ }
+    requires { ⌜ (front + back ≤ piece (decode (now pool)) (d .0) .len) × (piece (decode (now pool)) (d .0) .offset + front < 65536) ⌝ }
+    ensures { λ _. ⌜ Holds (now (pool .exit)) shape
+        (setPiece (decode (now (pool .entry))) (d .0) (withPlace (piece (decode (now (pool .entry))) (d .0))
+        (piece (decode (now (pool .entry))) (d .0) .offset + front) (piece (decode (now (pool .entry))) (d .0) .len - front - back))) ⌝ }
+{
+    let offset = tables::piece_offset(pool, shape, d);
+    let length = tables::piece_length(pool, shape, d);
+    tables::set_piece_place(pool, shape, d, offset + front, length - front - back);
 }

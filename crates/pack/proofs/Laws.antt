@@ -29,7 +29,7 @@ use Rattle.rules.proofs.Room.{free-pieces}
 use Rattle.rules.proofs.Contents.{Fit}
 use Rattle.rules.proofs.Audit.{tables-now}
 use Rattle.rules.proofs.Codes.{first-yes, first-no, first-none}
-use Rattle.rules.proofs.Sizes.{old-storage}
+use Rattle.rules.proofs.Writes.{old-storage}
 use Rattle.rules.proofs.Put.{new-good}
 use Rattle.rules.proofs.Bytes.{AllBytes}
 use Rattle.layout.specs.declared.Shape.{Shape}

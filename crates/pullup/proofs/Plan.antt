@@ -22,7 +22,7 @@ use Rattle.rules.proofs.Logic.{if-F}
 use Rattle.rules.proofs.Build.{Free, Planned, plain-planned, plan-built}
 use Rattle.rules.proofs.Room.{free-pieces}
 use Rattle.rules.proofs.Audit.{tables-now}
-use Rattle.rules.proofs.Sizes.{old-storage}
+use Rattle.rules.proofs.Writes.{old-storage}
 use Rattle.rules.proofs.Drop.{drop-here}
 use Rattle.layout.specs.declared.Shape.{Shape}
 use Rattle.tables.specs.Shape.{Holds}

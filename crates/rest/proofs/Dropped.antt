@@ -4,9 +4,9 @@ use mathlib.Core.Bool.{Bool, true, false}
 use Prim.Native.Nat.{ℕ, zero, suc, _-_}
 use Rattle.rules.specs.Basics.{if_then_else_}
 use Rattle.rules.specs.Tables.{Tables, piece, headOf, pieceTotal}
-use Rattle.rules.specs.Chain.{walk}
+use Rattle.rules.specs.Chain.{walk, ownAt}
 use Rattle.rules.specs.Build.{Plan}
-use Rattle.rules.specs.Drop.{ownAt, dropPlan, dropped}
+use Rattle.rules.specs.Drop.{dropPlan, dropped}
 use Rattle.chain.specs.declared.Spot.{Spot}
 use Rattle.chain.specs.Find.{spotOf}
 use Rattle.rest.specs.Rest.{restFrom}

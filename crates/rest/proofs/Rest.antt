@@ -84,21 +84,31 @@ pub shared-count : (T : Tables) (n b : ℕ) → bufferCount (shared T n) b ≡ b
 shared-count T zero b = refl
 shared-count T (suc d) b = refl
 
--- the count, then the place
-pub shorten-done : (T : Tables) (d n : ℕ) {h : Shape} {p q : List ℕ} {m o l : ℕ} → d < pieceTotal T → m ≡ piece T d .count → o ≡ piece T d .offset → l ≡ piece T d .len
-    → Holds p h (setPiece T d (withCount (piece T d) (m + 1))) → Holds q h (setPiece (decode p) d (withPlace (piece (decode p) d) (o + n) (l - n)))
-    → Holds q h (setPiece (raised T d) d (shorter (piece (raised T d) d) n))
-shorten-done T d n {m = m} {o = o} {l = l} below em eo el was is =
-    let s : m + 1 ≡ suc (piece T d .count) = omega arith in
-    let now = onward was (λ (U : Tables). setPiece U d (withPlace (piece U d) (o + n) (l - n))) is in
-    let x : piece (raised T d) d ≡ withCount (piece T d) (suc (piece T d .count)) = getD-set-same (T .pieces) d _ blank below in
-    let eo′ : o ≡ piece (raised T d) d .offset = eo ∙ sym (ap (λ (y : Piece). y .offset) x) in
-    let el′ : l ≡ piece (raised T d) d .len = el ∙ sym (ap (λ (y : Piece). y .len) x) in
+-- the piece to which a further reference is made keeps its place
+pub share-place : (T : Tables) (n : ℕ) {h : Shape} {p : List ℕ} → (n ≡ 0 → ⊥) → n - 1 < pieceTotal T → Holds p h (shared T n)
+    → (piece (decode p) (n - 1) .offset ≡ piece T (n - 1) .offset) × (piece (decode p) (n - 1) .len ≡ piece T (n - 1) .len)
+share-place T zero z below is = absurd (z refl)
+share-place T (suc d) {p = p} z below is =
+    let b : suc d - 1 ≡ d = omega arith in
+    let e : piece (decode p) d ≡ withCount (piece T d) (suc (piece T d .count)) =
+    ap (λ (U : Tables). piece U d) (is .is) ∙ getD-set-same (T .pieces) d _ blank (omega arith) in
+    rw b (ap (λ (y : Piece). y .offset) e, ap (λ (y : Piece). y .len) e)
+
+-- the further reference, then the piece shortened
+pub short-done : (T : Tables) (n r : ℕ) {h : Shape} {p q : List ℕ} → (n ≡ 0 → ⊥) → Holds p h (shared T n)
+    → Holds q h (setPiece (decode p) (n - 1) (withPlace (piece (decode p) (n - 1))
+    (piece (decode p) (n - 1) .offset + r) (piece (decode p) (n - 1) .len - r - 0)))
+    → Holds q h (setPiece (raised T (n - 1)) (n - 1) (shorter (piece (raised T (n - 1)) (n - 1)) r))
+short-done T zero r z was is = absurd (z refl)
+short-done T (suc d) r z was is =
+    let b : suc d - 1 ≡ d = omega arith in
+    let trimmed : Tables → ℕ → ℕ → Tables = λ U x m. setPiece U x (withPlace (piece U x) (piece U x .offset + r) m) in
+    let now = onward was (λ (U : Tables). trimmed U (suc d - 1) (piece U (suc d - 1) .len - r - 0)) is in
+    let m : piece (raised T d) d .len - r - 0 ≡ piece (raised T d) d .len - r = omega arith in
     record {
       shaped = now .shaped;
-      is = now .is ∙ ap (λ (k : ℕ). let U = setPiece T d (withCount (piece T d) k) in setPiece U d (withPlace (piece U d) (o + n) (l - n))) s
-          ∙ ap (λ (k : ℕ). setPiece (raised T d) d (withPlace (piece (raised T d) d) (k + n) (l - n))) eo′
-          ∙ ap (λ (k : ℕ). setPiece (raised T d) d (withPlace (piece (raised T d) d) (piece (raised T d) d .offset + n) (k - n))) el′;
+      is = now .is ∙ ap (λ (x : ℕ). trimmed (raised T d) x (piece (raised T d) x .len - r - 0)) b ∙ ap (trimmed (raised T d) d) m
+          ∙ sym (ap (λ (x : ℕ). setPiece (raised T x) x (shorter (piece (raised T x) x) r)) b);
     }
 
 -- the further reference, then the new piece

@@ -2,15 +2,15 @@
 use kinds::PieceNumber;
 use layout::Shape;
 ghost use mathlib.Core.Path.{_≡_};
-ghost use Prim.Native.Nat.{_+_, _-_, _≤_, _<_};
+ghost use Prim.Native.Nat.{_-_, _≤_, _<_};
 ghost use lib.ListN.{length};
 ghost use Rattle.rules.specs.Basics.{Is, places};
-ghost use Rattle.rules.specs.Tables.{Tables, piece, pieceTotal, setPiece};
+ghost use Rattle.rules.specs.Tables.{Tables, piece, pieceTotal};
 ghost use Rattle.rules.specs.Bytes.{decode};
 ghost use Rattle.rules.specs.Chain.{stretch};
 ghost use Rattle.rules.specs.Sound.{linkOk};
 ghost use Rattle.rules.specs.Room.{isFree};
-ghost use Rattle.rules.specs.Release.{raised, shared};
+ghost use Rattle.rules.specs.Release.{shared};
 ghost use Rattle.rules.specs.Build.{taken, fresh, made, madeLink};
 ghost use Rattle.rules.specs.Drop.{shorter};
 ghost use Rattle.tables.specs.Shape.{Shaped, Holds};
@@ -18,20 +18,6 @@ ghost use Rattle.chain.specs.Opened.{Opened};
 ghost use Rattle.build.specs.Share.{Sharable};
 ghost use Rattle.build.specs.Clone.{Copyable};
 ghost use Rattle.rest.specs.Rest.{restFrom};
-
-// Piece `d` gets one reference more and loses its first `n` bytes: a head trimmed in place.
-fn shorten(pool: &mut [u8], shape: Shape, d: PieceNumber, n: u16)
-    requires { ⌜ Shaped (now pool) shape × (d .0 < shape .pieces) × (piece (decode (now pool)) (d .0) .count < 65535) ⌝ }
-    requires { ⌜ (n ≤ piece (decode (now pool)) (d .0) .len) × (piece (decode (now pool)) (d .0) .offset + n < 65536) ⌝ }
-    ensures { λ _. ⌜ Holds (now (pool .exit)) shape
-        (setPiece (raised (decode (now (pool .entry))) (d .0)) (d .0) (shorter (piece (raised (decode (now (pool .entry))) (d .0)) (d .0)) n)) ⌝ }
-{
-    let count = tables::piece_count(pool, shape, d);
-    let offset = tables::piece_offset(pool, shape, d);
-    let length = tables::piece_length(pool, shape, d);
-    tables::set_piece_count(pool, shape, d, count + 1);
-    tables::set_piece_place(pool, shape, d, offset + n, length - n);
-}
 
 // The free piece `f` becomes what piece `d` has from its byte `n` on, before the same next,
 // to which there is one reference more: a descriptor cloned and trimmed.
@@ -88,7 +74,8 @@ pub fn settle(pool: &mut [u8], shape: Shape, link: u16, into: u32, own: bool, fr
     }
     let d = PieceNumber(link - 1);
     if own {
-        shorten(pool, shape, d, into as u16);
+        build::share(pool, shape, link);
+        own::shorten(pool, shape, d, into as u16, 0);
         return link;
     }
     let f = room::next_free_piece(pool, shape, from);

@@ -1,30 +1,28 @@
--- What slips read and what of storage stays where slips come to hold others: laws that the calls share. Assumes nothing.
+-- What slips read where slips come to hold others: laws that the calls share. Assumes nothing.
 use mathlib.Core.Path.{_≡_, refl, sym, ap, _∙_}
-use mathlib.Core.Logic.{_≢_, ⊎-elim}
-use mathlib.Core.Bool.{true, false, Bool}
-use mathlib.Core.List.{List, [], _∷_, List·Memᴰ, List·Memᴰ·not-nil, List·Memᴰ·cases-cons}
+use mathlib.Core.Logic.{_≢_}
+use mathlib.Core.Bool.{true, false}
+use mathlib.Core.List.{List, [], _∷_, List·Memᴰ}
 use Prim.Native.Nat.{ℕ, zero, suc, _*_, _≤_, _<_, pred}
 use native.Mathlib.Decide.{ℕ-discrete}
 use native.Mathlib.Omega.{arith}
 use lib.ListN.{length, length-take}
 use lib.Dec.{eqb, eqb→eq}
 use Rattle.kinds.specs.Limits.{bufferSize}
-use Rattle.kinds.specs.Sizes.{sizeOf}
 use Rattle.rules.specs.Basics.{if_then_else_}
 use Rattle.rules.specs.Tables.{Tables, slip, piece, bufferCount, headOf, pieceTotal, bufferTotal}
-use Rattle.rules.specs.Chain.{Stretch, State, walk, chain, stretches, spans, lengthOf, contents, reads, bytesOf}
+use Rattle.rules.specs.Chain.{Stretch, State, walk, chain, stretches, spans, lengthOf, contents, reads}
 use Rattle.rules.specs.Room.{isVacant, isUnheld, freeBuffers, newBuffers}
 use Rattle.rules.specs.Build.{laid, stored}
 use Rattle.rules.specs.Rule.{Change, reading, vacating}
 use Rattle.rules.specs.After.{at, changed}
-use Rattle.rules.proofs.Logic.{if-T, if-F, is-true, is-false, eq→eqb, if-either}
+use Rattle.rules.proofs.Logic.{if-T, if-F, is-true, is-false, eq→eqb}
 use Rattle.rules.proofs.Moves.{SoundBy, SoundWith, SoundNow, buffer-pos}
-use Rattle.rules.proofs.Room.{AllIn, new-buffers-in}
+use Rattle.rules.proofs.Room.{in-passes, new-buffers-in}
 use Rattle.rules.proofs.Chain.{AllUsed, chain-used, spans-good}
 use Rattle.rules.proofs.Meets.{Same}
 use Rattle.rules.proofs.Hang.{Gives, gives-spans, moved-spans}
-use Rattle.rules.proofs.Contents.{Fit, contents-length, Off, stored-others, stored-laid, stored-other}
-use Rattle.rules.proofs.Sizes.{new-length}
+use Rattle.rules.proofs.Contents.{Fit, contents-length, Off, stored-others, stored-laid}
 
 -- ---- one slip changes
 
@@ -61,15 +59,13 @@ held-false T s h = sym (is-false (isVacant T s) (λ z. (let q = eqb→eq (slip T
 -- ---- new buffers
 
 -- a buffer that is held is not new
-not-free : (T : Tables) (i n b : ℕ) (bs : List ℕ) → AllIn (isUnheld T) i n bs → 0 < bufferCount T b → List·Memᴰ b bs → ⊥
-not-free T i n b [] a h m = List·Memᴰ·not-nil m
-not-free T i n b (x ∷ bs) a h m =
-    ⊎-elim (λ e. (let q = eqb→eq (bufferCount T x) 0 (a .2) in let w = ap (bufferCount T) e in omega arith)) (not-free T (suc x) n b bs (a .3) h) (List·Memᴰ·cases-cons m)
+pub held-not-new : (T : Tables) (k b : ℕ) → 0 < bufferCount T b → List·Memᴰ b (newBuffers T k) → ⊥
+held-not-new T k b h m = omega (arith, eqb→eq (bufferCount T b) 0 (in-passes (isUnheld T) 0 (bufferTotal T) b (newBuffers T k) (new-buffers-in T k) m))
 
 off-by : {rank : ℕ → ℕ} (T : Tables) (k : ℕ) (ds : List ℕ) → SoundBy rank [] T → AllUsed T ds → Off (newBuffers T k) (stretches T ds)
 unfolding stretches
 off-by T k [] h u = tt
-off-by T k (d ∷ ds) h u = (not-free T 0 (bufferTotal T) (piece T d .buffer) (newBuffers T k) (new-buffers-in T k) (buffer-pos d (u .0) h), off-by T k ds h (u .1))
+off-by T k (d ∷ ds) h u = (held-not-new T k (piece T d .buffer) (buffer-pos d (u .0) h), off-by T k ds h (u .1))
 
 -- no chain lies on a new buffer
 pub spans-off : (T : Tables) (k u : ℕ) → SoundNow T → Off (newBuffers T k) (spans T u)
@@ -104,13 +100,14 @@ pub record Reading (S S′ : State) (cs : List Change) : Type 0 where
   pub bytes : (t : ℕ) → readsWith S S′ t ≡ changed (λ (c : Change). c .bytes) cs (reads S) t
   pub vacancy : (t : ℕ) → isVacant (S′ .tables) t ≡ changed (λ (c : Change). c .vacated) cs (isVacant (S .tables)) t
 
--- slip s comes to hold l, which covers xs, and reads ys
-pub gives-reading : {fl : List ℕ} (S S′ : State) (s : ℕ) (l : List ℕ) (xs : List Stretch) (ys : List ℕ)
+-- slip s comes to hold l, which covers xs, and reads ys; all that slips hold is as in the storage st
+pub gives-reading : {fl : List ℕ} (S S′ : State) (st : List ℕ) (s : ℕ) (l : List ℕ) (xs : List Stretch) (ys : List ℕ)
     → Gives (S .tables) (S′ .tables) s l xs → SoundWith fl (S .tables) → SoundNow (S′ .tables)
-    → ((u : ℕ) → contents (S .tables .stock) (S′ .storage) (spans (S .tables) u) ≡ reads S u) → contents (S .tables .stock) (S′ .storage) xs ≡ ys → Reading S S′ (reading s ys ∷ [])
-gives-reading S S′ s l xs ys g h h′ o e = record {
-  bytes = at-by s ys (reads S) (readsWith S S′) (ap (contents (S .tables .stock) (S′ .storage)) (gives-spans g h′) ∙ e)
-      (λ u n. ap (contents (S .tables .stock) (S′ .storage)) (moved-spans u u (g .entries u n) (g .others u n) h h′) ∙ o u);
+    → ((u : ℕ) → readsWith S S′ u ≡ contents (S .tables .stock) st (spans (S′ .tables) u))
+    → ((u : ℕ) → contents (S .tables .stock) st (spans (S .tables) u) ≡ reads S u) → contents (S .tables .stock) st xs ≡ ys → Reading S S′ (reading s ys ∷ [])
+gives-reading S S′ st s l xs ys g h h′ k o e = record {
+  bytes = at-by s ys (reads S) (readsWith S S′) (k s ∙ ap (contents (S .tables .stock) st) (gives-spans g h′) ∙ e)
+      (λ u n. k u ∙ ap (contents (S .tables .stock) st) (moved-spans u u (g .entries u n) (g .others u n) h h′) ∙ o u);
   vacancy = at-by s false (isVacant (S .tables)) (isVacant (S′ .tables)) (sym (held-false (S′ .tables) s (g .held)))
       (λ u n. ap (λ v. eqb v 0) (g .entries u n));
 }
@@ -122,14 +119,15 @@ same-reading S s ys z e = record {
   vacancy = λ t. sym (at-same s t false (isVacant (S .tables)) (held-false (S .tables) s z));
 }
 
--- slip s comes to hold nothing, and storage stays
-pub gone-reading : {fl fl′ : List ℕ} (S S′ : State) (s : ℕ) → S′ .storage ≡ S .storage → slip (S′ .tables) s ≡ 0
-    → ((u : ℕ) → u ≢ s → slip (S′ .tables) u ≡ slip (S .tables) u) → ((u : ℕ) → u ≢ s → Same (S .tables) (S′ .tables) (headOf (S .tables) u))
+-- slip s comes to hold nothing, and all that slips hold is as it was
+pub gone-reading : {fl fl′ : List ℕ} (S S′ : State) (s : ℕ) → ((u : ℕ) → readsWith S S′ u ≡ contents (S .tables .stock) (S .storage) (spans (S′ .tables) u))
+    → slip (S′ .tables) s ≡ 0 → ((u : ℕ) → u ≢ s → slip (S′ .tables) u ≡ slip (S .tables) u)
+    → ((u : ℕ) → u ≢ s → Same (S .tables) (S′ .tables) (headOf (S .tables) u))
     → SoundWith fl (S .tables) → SoundWith fl′ (S′ .tables) → Reading S S′ (vacating s ∷ [])
 unfolding contents
-gone-reading S S′ s st z e f h h′ = record {
+gone-reading S S′ s k z e f h h′ = record {
   bytes = at-by s [] (reads S) (readsWith S S′) (ap (contents (S .tables .stock) (S′ .storage)) (empty-spans (S′ .tables) s (ap pred z)))
-      (λ u n. (λ i. contents (S .tables .stock) (st i) (moved-spans u u (e u n) (f u n) h h′ i)));
+      (λ u n. k u ∙ ap (contents (S .tables .stock) (S .storage)) (moved-spans u u (e u n) (f u n) h h′));
   vacancy = at-by s true (isVacant (S .tables)) (isVacant (S′ .tables)) (is-true (isVacant (S′ .tables) s) (eq→eqb (slip (S′ .tables) s) 0 z))
       (λ u n. ap (λ v. eqb v 0) (e u n));
 }
@@ -151,40 +149,3 @@ then-reading {S} {S₁} {S′} {c} {cs} z r q =
           ∙ at-under (c .slip) t (c .bytes) (reads S₁) (changed (λ (x : Change). x .bytes) cs (reads S)) (sym (with-stock S S₁ S₁ z t) ∙ r .bytes t);
       vacancy = λ t. q .vacancy t ∙ at-under (c .slip) t (c .vacated) (isVacant (S₁ .tables)) (changed (λ (x : Change). x .vacated) cs was) (r .vacancy t);
     }
-
--- ---- what of storage stays
-
--- the whole of buffer b
-abbrev wholeOf : List ℕ → ℕ → Stretch
-wholeOf Z b = record { buffer = b; offset = 0; len = sizeOf Z b }
-
--- its bytes in the storage st, where the buffers lie as in T
-abbrev pub heldBytes : Tables → List ℕ → ℕ → List ℕ
-heldBytes T st b = bytesOf (T .stock) st (wholeOf (T .stock) b)
-
--- From S to S′ the length of storage stays, and so does every byte of a buffer that was held.
-pub record StorageStays (S S′ : State) : Type 0 where
-  pub as-long : length (S′ .storage) ≡ length (S .storage)
-  pub held : (b : ℕ) → b < bufferTotal (S .tables) → 0 < bufferCount (S .tables) b → heldBytes (S .tables) (S′ .storage) b ≡ heldBytes (S .tables) (S .storage) b
-
--- storage is as it was
-pub stays-as : (S S′ : State) → S′ .storage ≡ S .storage → StorageStays S S′
-stays-as S S′ e = record { as-long = ap length e; held = λ b _ _. ap (λ (q : List ℕ). heldBytes (S .tables) q b) e }
-
--- new buffers are written
-pub stays-new : (S S′ : State) (k : ℕ) (xs : List ℕ) → Fit (S .tables .stock) (bufferTotal (S .tables)) (S .storage)
-    → S′ .storage ≡ stored (S .tables .stock) (S .storage) (newBuffers (S .tables) k) xs → StorageStays S S′
-stays-new S S′ k xs f e =
-    let T = S .tables in
-    let B = bufferTotal T in
-    let bs = newBuffers T k in
-    let a = new-buffers-in T k in
-    record {
-      as-long = ap length e ∙ new-length S k xs f;
-      held = λ b l h. ap (λ (q : List ℕ). heldBytes T q b) e
-          ∙ stored-other (T .stock) (isUnheld T) 0 B bs (S .storage) xs (wholeOf (T .stock) b) a f l (omega arith) (not-free T 0 B b bs a h);
-    }
-
--- where it may be that nothing changes
-pub maybe-stays : (S X : State) (b : Bool) → StorageStays S X → StorageStays S (if b then S else X)
-maybe-stays S X b h = if-either (StorageStays S) b S X (λ _. stays-as S S refl) (λ _. h)

@@ -28,10 +28,12 @@ use Rattle.rules.proofs.Hang.{Run, Gives, gives-as, gives-from, behind-
 use Rattle.rules.proofs.Contents.{contents-append, Fit}
 use Rattle.rules.proofs.Codes.{both-named}
 use Rattle.rules.proofs.Caused.{found, slip-both, twice-both, none-less}
-use Rattle.rules.proofs.Sizes.{Sizes, behind-sizes, behind-storage, built-sizes, slip-set, then-sizes}
-use Rattle.rules.proofs.After.{Reading, at-by, at-there, empty-spans, gives-reading, gone-reading, held-false, same-reading, stays-as, then-reading, reads-length}
-use Rattle.rules.proofs.Takes.{buffersOf, new-front, no-slips, old-as, old-none, spans-none, took, took-none, used-none}
-use Rattle.rules.proofs.Lawful.{Lawful, Leaving, Causing}
+use Rattle.rules.proofs.Sizes.{Sizes, behind-sizes, built-sizes, slip-set, then-sizes}
+use Rattle.rules.proofs.After.{Reading, at-by, at-there, empty-spans, gives-reading, gone-reading, held-false, same-reading, then-reading, reads-length}
+use Rattle.rules.proofs.Takes.{buffersOf, new-front, no-slips, old-as, old-none, spans-none, took, took-none, used-none, drop-none}
+use Rattle.rules.proofs.Lawful.{Lawful, Leaving, Causing, Staying}
+use Rattle.rules.proofs.Storage.{behind-keeps, keeps-spans, fit-by}
+use Rattle.rules.proofs.Stays.{StorageStays, built-only, stays-as, behind-stays}
 
 -- ---- before the hanging
 
@@ -137,25 +139,33 @@ joined-gives a b S ne la lb z (rank, h) r =
 
 -- ---- append is lawful
 
+ready-sizes : (T : Tables) (a b : ℕ) → Sizes T (ready T a b)
+ready-sizes T a b = then-sizes (slip-set T b vacant) (built-sizes (setSlip T b vacant) (freePieces T) (notOwn T a) (headOf T b))
+
 joined-sizes : (a b : ℕ) (S : State) → Sizes (S .tables) (joined a b S .tables)
 unfolding joined
 joined-sizes a b S =
     let T = S .tables in
-    let fs = freePieces T in
-    let T₁ = setSlip T b vacant in
-    then-sizes (slip-set T b vacant) (then-sizes (built-sizes T₁ fs (notOwn T a) (headOf T b))
-    (behind-sizes (withTables S (built T₁ fs (notOwn T a) (headOf T b))) a (ownOf T a) (builtLink fs (notOwn T a) (headOf T b))))
+    then-sizes (ready-sizes T a b) (behind-sizes (withTables S (ready T a b)) a (ownOf T a) (readyLink T a b))
 
-joined-storage : (a b : ℕ) (S : State) → joined a b S .storage ≡ S .storage
+joined-stays : (a b : ℕ) (S : State) → a ≢ b → a < slipTotal (S .tables) → b < slipTotal (S .tables) → SoundNow (S .tables)
+    → Fit (S .tables .stock) (bufferTotal (S .tables)) (S .storage) → StorageStays S (joined a b S) 0
 unfolding joined
-joined-storage a b S = behind-storage _ a (ownOf (S .tables) a) _
-
-append-storage : (a b : ℕ) (S : State) → appendAfter a b S .storage ≡ S .storage
-unfolding appendAfter
-append-storage a b S =
+joined-stays a b S ne la lb h f =
     let T = S .tables in
-    if-either (λ (X : State). X .storage ≡ S .storage) (eqb (headOf T a) 0) _ _ (λ _. refl)
-    (λ _. if-either (λ (X : State). X .storage ≡ S .storage) (eqb (headOf T b) 0) _ _ (λ _. refl) (λ _. joined-storage a b S))
+    let r = join-ready T a b ne la lb h in
+    let none = drop-none (isUnheld T) (length (ownOf T a)) (spans T a) (spans-none T a h) in
+    behind-stays S (ready T a b) a (readyLink T a b) (ownOf T a) (ready-sizes T a b)
+    (built-only T (setSlip T b vacant) (freePieces T) (notOwn T a) (headOf T b) 0 refl (passing-none (isUnheld T) (buffersOf (notOwn T a)) none))
+    (r .below) (r .own) (r .held) f
+
+append-stays : (a b : ℕ) → Staying (appendCall a b)
+unfolding appendAfter
+append-stays a b S h f al =
+    let T = S .tables in
+    let ((la, _), (lb, _), ne) = both-named T a b (al .early) in
+    if-either (λ (X : State). StorageStays S X 0) (eqb (headOf T a) 0) _ _ (λ _. stays-as S _ 0 refl)
+    (λ _. if-either (λ (X : State). StorageStays S X 0) (eqb (headOf T b) 0) _ _ (λ _. stays-as S _ 0 refl) (λ _. joined-stays a b S ne la lb h f))
 
 append-sizes : (a b : ℕ) (S : State) → Sizes (S .tables) (appendAfter a b S .tables)
 unfolding appendAfter
@@ -194,7 +204,7 @@ module _ (a b : ℕ) (S : State) (la : a < slipTotal (S .tables)) (za : 0 < slip
   first-sound = (h .0, slip-move {fl = []} b 0 lb (reorder (λ x. omega arith) (h .1)))
 
   first-reading : Reading S first (vacating b ∷ [])
-  first-reading = gone-reading S first b refl gone stay (λ u _. slip-same (S .tables) b 0 (headOf (S .tables) u)) h first-sound
+  first-reading = gone-reading S first b (λ u. refl) gone stay (λ u _. slip-same (S .tables) b 0 (headOf (S .tables) u)) h first-sound
 
   -- an empty a takes b's head
   abbrev taker : Tables
@@ -236,14 +246,18 @@ module _ (a b : ℕ) (S : State) (la : a < slipTotal (S .tables)) (za : 0 < slip
       (ap {B = List ℕ} (λ xs. reads S a ++ xs) none ∙ append-nil (reads S a) ∙ sym (first-reading .bytes a ∙ at-there b a [] (reads S) ne))
 
   -- and where neither is
-  joined-reading : SoundNow (joined a b S .tables) → length (notOwn (S .tables) a) ≤ length (freePieces (S .tables))
+  joined-reading : Fit (S .tables .stock) (bufferTotal (S .tables)) (S .storage) → SoundNow (joined a b S .tables)
+      → length (notOwn (S .tables) a) ≤ length (freePieces (S .tables))
       → Reading first (joined a b S) (reading a (reads S a ++ reads S b) ∷ [])
-  joined-reading h′ r =
+  unfolding joined
+  joined-reading f h′ r =
       let T = S .tables in
-      let st = joined-storage a b S in
-      gives-reading first (joined a b S) a _ _ (reads S a ++ reads S b) (joined-gives a b S ne la lb za h r) first-sound h′
-      (λ u. ap (λ (q : List ℕ). contents (T .stock) q (spans (first .tables) u)) st)
-      (ap (λ (q : List ℕ). contents (T .stock) q (spans T a ++ spans T b)) st ∙ contents-append (T .stock) (S .storage) (spans T a) (spans T b))
+      let y = join-ready T a b ne la lb h in
+      let z = ready-sizes T a b in
+      let k = behind-keeps (withTables S (ready T a b)) a (readyLink T a b) (ownOf T a) (y .below) (y .own) (y .held) (fit-by (S .storage) z f) in
+      gives-reading first (joined a b S) (S .storage) a _ _ (reads S a ++ reads S b) (joined-gives a b S ne la lb za h r) first-sound h′
+      (keeps-spans (T .stock) (z .stock-kept) k h′) (λ u. refl)
+      (contents-append (T .stock) (S .storage) (spans T a) (spans T b))
 
   -- ---- what is taken
 
@@ -310,7 +324,7 @@ module _ (a b : ℕ) (S : State) (la : a < slipTotal (S .tables)) (za : 0 < slip
 
 append-leaves : (a b : ℕ) → Leaving (appendCall a b)
 unfolding appendAfter
-append-leaves a b S h _ al =
+append-leaves a b S h f al =
     let T = S .tables in
     let ((la, za), (lb, zb), ne) = both-named T a b (al .early) in
     let r = first-reading a b S la za lb zb ne h in
@@ -319,7 +333,7 @@ append-leaves a b S h _ al =
     (λ e h′. then-reading refl r (taker-reading a b S la za lb zb ne h (eqb→eq (headOf T a) 0 e) h′))
     (λ na. if-either P (eqb (headOf T b) 0) _ _
     (λ e _. then-reading refl r (stayer-reading a b S la za lb zb ne h (eqb→eq (headOf T b) 0 e)))
-    (λ nb h′. then-reading refl r (joined-reading a b S la za lb zb ne h h′ (wanted-rest T a b (al .pieces-room) na nb))))
+    (λ nb h′. then-reading refl r (joined-reading a b S la za lb zb ne h f h′ (wanted-rest T a b (al .pieces-room) na nb))))
 
 -- a chain is empty where it has no bytes
 meets-none : (T : Tables) (n : ℕ) (l : List ℕ) → Meets T n l → Good (T .stock) (bufferTotal T) (stretches T l)
@@ -358,7 +372,7 @@ pub append-lawful : (a b : ℕ) → Lawful (appendCall a b)
 append-lawful a b = record {
   codes = λ S. omega arith;
   sizes = append-sizes a b;
-  stays = λ S _. stays-as S (appendAfter a b S) (append-storage a b S);
+  stays = append-stays a b;
   sound = λ S h al. (let ((la, _), (lb, _), ne) = both-named (S .tables) a b (al .early) in append-sound a b S ne la lb h);
   known = λ S _. (inl (inl refl), (inl (inr refl), tt));
   caused = append-caused a b;

@@ -8,7 +8,7 @@ use lib.ListN.{length, getD, set, length-set}
 use lib.Seq.{getD-set-same, getD-set-other, set-set, set-comm, set-getD}
 use lib.Dec.{eqb, eqb→eq}
 use Rattle.kinds.specs.Sizes.{sizeOf}
-use Rattle.rules.specs.Basics.{if_then_else_, lastOf}
+use Rattle.rules.specs.Basics.{lastOf}
 use Rattle.rules.specs.Tables.{Piece, Tables, blank, slip, piece, headOf, holding, setSlip, setPiece, withCount, withNext, withSlips, withPieces}
 use Rattle.rules.specs.Chain.{Stretch, State, ownPieces, withTables}
 use Rattle.rules.specs.Release.{shared, relinked}
@@ -122,19 +122,25 @@ relink-deep (suc k) T n l m {fl} (d, e, c, o) (rank, S) =
     (λ x. omega (arith, ap (λ y. hit y x) e, ap (λ (q : Piece). hit (q .next) x) here, ap (λ (q : Piece). hit (q .next) x) pl)) S₂ in
     subst (λ q. SoundWith (n ∷ piece T l .next ∷ fl) (withPieces T q)) same (above (r .0) d (pd .next), S₃)
 
--- ---- what an operation's first steps leave alone: sizes, slips, and which pieces are free
+-- ---- what an operation's first steps leave alone: sizes, slips, buffers' counts, and which pieces are free
 
 pub record Still (T T′ : Tables) : Type 0 where
   pub kept : Kept T T′
+  pub counts-still : T′ .counts ≡ T .counts
   pub free-still : (d : ℕ) → piece T d .count ≡ 0 → piece T′ d .count ≡ 0
 
 pub still-refl : (T : Tables) → Still T T
-still-refl T = record { kept = record { slips-kept = refl; pieces-size = refl; counts-size = refl; stock-kept = refl }; free-still = λ d e. e }
+still-refl T = record {
+  kept = record { slips-kept = refl; pieces-size = refl; counts-size = refl; stock-kept = refl };
+  counts-still = refl;
+  free-still = λ d e. e;
+}
 
 -- a store to a piece in use
 pub still-store : (T : Tables) (d : ℕ) (p : Piece) → 0 < piece T d .count → Still T (setPiece T d p)
 still-store T d p h = record {
   kept = record { slips-kept = refl; pieces-size = length-set (T .pieces) d p; counts-size = refl; stock-kept = refl };
+  counts-still = refl;
   free-still = λ x e. ap (λ (q : Piece). q .count) (getD-set-other (T .pieces) d x p blank (λ y. (let q = ap (λ z. piece T z .count) y in omega arith))) ∙ e;
 }
 
@@ -146,6 +152,7 @@ still-trans s t = record {
     counts-size = t .kept .counts-size ∙ s .kept .counts-size;
     stock-kept = t .kept .stock-kept ∙ s .kept .stock-kept;
   };
+  counts-still = t .counts-still ∙ s .counts-still;
   free-still = λ d e. t .free-still d (s .free-still d e);
 }
 

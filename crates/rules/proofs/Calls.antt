@@ -1,27 +1,32 @@
 -- Every operation is lawful, and the laws of all operations that follow. Assumes nothing.
-use mathlib.Core.Path.{_≡_, sym, _∙_}
-use mathlib.Core.Bool.{not}
+use mathlib.Core.Path.{_≡_, sym, subst, _∙_}
+use mathlib.Core.Bool.{Bool, not, _&&_}
+use mathlib.Core.List.{List·Memᴰ}
 use Prim.Native.Nat.{_<_, ℕ}
+use native.Mathlib.Omega.{arith}
 use lib.ListN.{length}
+use lib.Dec.{eqb→eq, T-not}
 use Rattle.kinds.specs.declared.Refusal.the-variants.{Torn}
 use Rattle.kinds.specs.Refusal.{refusalCode}
 use Rattle.rules.specs.Basics.{Is}
-use Rattle.rules.specs.Layout.{storageLength}
 use Rattle.rules.specs.Tables.{bufferCount, bufferTotal}
 use Rattle.rules.specs.Chain.{State, reads}
-use Rattle.rules.specs.Room.{isVacant}
+use Rattle.rules.specs.Room.{isVacant, isUnheld}
 use Rattle.rules.specs.Rule.{Change, firstCode, codeIn}
 use Rattle.rules.specs.Step.{Operation, Audit, Put, Free, Dup, Cut, Append, Drop, Keep, Pullup, Pack, Length, Read, Show, WireList, meaning, rule}
 use Rattle.rules.specs.Causes.{Cause}
 use Rattle.rules.specs.After.{Names, ReadsOk, readsAfter, vacantAfter}
 use Rattle.rules.specs.Takes.{TakesOk}
+use Rattle.rules.proofs.Logic.{and-0, and-1, not-zero}
 use Rattle.rules.proofs.Moves.{SoundNow}
+use Rattle.rules.proofs.Room.{in-passes, all-free}
 use Rattle.rules.proofs.Contents.{Fit}
 use Rattle.rules.proofs.Recount.{leaves-room}
 use Rattle.rules.proofs.Codes.{Allowed, Apart, Other, Rising, apart-first}
 use Rattle.rules.proofs.Caused.{Before, Settled, before-settled, code-settled}
 use Rattle.rules.proofs.Sizes.{Sizes}
-use Rattle.rules.proofs.After.{heldBytes, with-stock}
+use Rattle.rules.proofs.Storage.{heldBytes}
+use Rattle.rules.proofs.After.{with-stock}
 use Rattle.rules.proofs.Lawful.{Lawful, others-stay, audit-lawful}
 use Rattle.rules.proofs.Put.{put-lawful}
 use Rattle.rules.proofs.Free.{free-lawful}
@@ -88,16 +93,10 @@ pub rule-sizes : (o : Operation) (S : State) → Sizes (S .tables) (rule o S .af
 unfolding rule
 rule-sizes o S = lawful o .sizes S
 
-pub rule-storage : (o : Operation) (S : State) → length (S .storage) ≡ storageLength (S .tables .stock) (bufferTotal (S .tables))
-    → length (rule o S .after .storage) ≡ length (S .storage)
+pub rule-storage : (o : Operation) (S : State) → SoundNow (S .tables) → Fit (S .tables .stock) (bufferTotal (S .tables)) (S .storage)
+    → Allowed (rule o S) (S .tables) → length (rule o S .after .storage) ≡ length (S .storage)
 unfolding rule
-rule-storage o S f = lawful o .stays S f .as-long
-
--- every byte of a buffer that was held at entry stays
-pub held-stays : (S : State) → Fit (S .tables .stock) (bufferTotal (S .tables)) (S .storage) → (b : ℕ) → b < bufferTotal (S .tables) → 0 < bufferCount (S .tables) b
-    → (o : Operation) → heldBytes (S .tables) (rule o S .after .storage) b ≡ heldBytes (S .tables) (S .storage) b
-unfolding rule
-held-stays S f b l h o = lawful o .stays S f .held b l h
+rule-storage o S h f a = lawful o .stays S h f a .as-long
 
 -- an operation that is done keeps the tables sound
 pub rule-sound : (o : Operation) (S : State) → SoundNow (S .tables) → Allowed (rule o S) (S .tables) → SoundNow (rule o S .after .tables)
@@ -113,6 +112,21 @@ reads-ok o S h f a = (let S′ = rule o S .after in let r = lawful o .leaves S h
 pub takes : (o : Operation) (S : State) → SoundNow (S .tables) → Allowed (rule o S) (S .tables) → TakesOk o S
 unfolding rule
 takes o S h a = lawful o .takes S h a (rule-sound o S h a)
+
+-- every byte stays of a buffer that is held before and after, or free before and after
+pub rule-bytes : (o : Operation) (S : State) → SoundNow (S .tables) → Fit (S .tables .stock) (bufferTotal (S .tables)) (S .storage)
+    → Allowed (rule o S) (S .tables) → (b : ℕ) → b < bufferTotal (S .tables) → isUnheld (rule o S .after .tables) b ≡ isUnheld (S .tables) b
+    → heldBytes (S .tables) (rule o S .after .storage) b ≡ heldBytes (S .tables) (S .storage) b
+unfolding rule
+rule-bytes o S h f a b l e =
+    let T = S .tables in
+    let T′ = rule o S .after .tables in
+    let taken : ℕ → Bool = λ x. isUnheld T x && not (isUnheld T′ x) in
+    lawful o .stays S h f a .others b l
+    (λ m. (
+    let t = in-passes taken 0 (bufferTotal T) b _ (all-free taken (bufferTotal T)) (subst (List·Memᴰ b) (sym (takes o S h a .buffers)) m) in
+    T-not (isUnheld T′ b) (and-1 (isUnheld T b) _ t) (subst Is (sym e) (and-0 (isUnheld T b) _ t))))
+    (λ u. not-zero (bufferCount T′ b) (λ t. omega (arith, eqb→eq (bufferCount T b) 0 (subst Is e t))))
 
 -- and it changes no held slip that it does not name
 pub others-same : (o : Operation) (S : State) → Allowed (rule o S) (S .tables) → (t : ℕ) → (Names o t → ⊥) → Is (not (isVacant (S .tables) t))

@@ -10,7 +10,7 @@ use lib.Dec.{leb}
 use Rattle.kinds.specs.Limits.{bufferSize}
 use Rattle.kinds.specs.Sizes.{sizeOf}
 use Rattle.kinds.proofs.Sizes.{size-one}
-use Rattle.rules.specs.Basics.{if_then_else_, lastOf}
+use Rattle.rules.specs.Basics.{lastOf}
 use Rattle.rules.specs.Tables.{Piece, Tables, piece, headOf, pieceTotal}
 use Rattle.rules.specs.Chain.{Stretch, walk, chain, stretches, spans, cutOut}
 use Rattle.rules.specs.Build.{built, laid}

@@ -82,7 +82,8 @@ total-append (x ∷ xs) ys = let e = total-append xs ys in omega arith
 bytes-rest : (Z : List ℕ) (st : List ℕ) (x : Stretch) (off : ℕ) → bytesOf Z st (record { buffer = x .buffer; offset = x .offset + off; len = x .len - off }) ≡ drop off (bytesOf Z st x)
 bytes-rest Z st x off = rw (drop-take, drop-drop, add-assoc)
 
-bytes-part : (Z : List ℕ) (st : List ℕ) (x : Stretch) (off n : ℕ) → bytesOf Z st (record { buffer = x .buffer; offset = x .offset + off; len = min n (x .len - off) }) ≡ take n (drop off (bytesOf Z st x))
+pub bytes-part : (Z : List ℕ) (st : List ℕ) (x : Stretch) (off n : ℕ)
+    → bytesOf Z st (record { buffer = x .buffer; offset = x .offset + off; len = min n (x .len - off) }) ≡ take n (drop off (bytesOf Z st x))
 bytes-part Z st x off n = rw (← bytes-rest Z st x off, take-take-min)
 
 -- the bytes of the range are those of its stretches

@@ -24,9 +24,10 @@ use Rattle.rules.proofs.Overlaps.{overlaps-cut}
 use Rattle.rules.proofs.Codes.{Allowed, no-cause}
 use Rattle.rules.proofs.Caused.{found, slip-one, twice-one, none-less, past-is}
 use Rattle.rules.proofs.Sizes.{new-sizes, same-sizes}
-use Rattle.rules.proofs.After.{gives-reading, stays-as}
+use Rattle.rules.proofs.After.{gives-reading}
 use Rattle.rules.proofs.Takes.{buffersOf, cutOut-none, new-pass, roomy, spans-none, took-new}
 use Rattle.rules.proofs.Lawful.{Lawful, new-vacant, Leaving, Taking, Causing}
+use Rattle.rules.proofs.Stays.{stays-as}
 
 pub cut-sound : (s off n : ℕ) (S : State) → 0 < length (vacantSlips (S .tables)) → SoundNow (S .tables) → SoundNow (cutAfter s off n S .tables)
 unfolding cutAfter
@@ -59,7 +60,8 @@ cut-exact s off n S h f a =
 cut-leaves : (s off n : ℕ) → Leaving (cutCall s off n)
 unfolding cutAfter
 cut-leaves s off n S h f a h′ =
-    gives-reading S (cutAfter s off n S) (newSlip (S .tables)) _ _ _ (cut-gives s off n S h (a .slips-room) (a .pieces-room)) h h′ (λ u. refl)
+    gives-reading S (cutAfter s off n S) (S .storage) (newSlip (S .tables)) _ _ _ (cut-gives s off n S h (a .slips-room) (a .pieces-room)) h h′
+    (λ u. refl) (λ u. refl)
     (cutOut-contents (S .tables .stock) (bufferTotal (S .tables)) (S .storage) (spans (S .tables) s) off n f (spans-good (S .tables) s h))
 
 cut-takes : (s off n : ℕ) → Taking (cutCall s off n)
@@ -86,7 +88,7 @@ unfolding cutAfter
 cut-lawful s off n = record {
   codes = λ S. omega arith;
   sizes = λ S. new-sizes (plain (S .tables) _) (freePieces (S .tables)) (newSlip (S .tables)) (same-sizes (S .tables));
-  stays = λ S _. stays-as S (cutAfter s off n S) refl;
+  stays = λ S _ _ _. stays-as S (cutAfter s off n S) 0 refl;
   sound = λ S h a. cut-sound s off n S (a .slips-room) h;
   known = λ S a. (inr (new-vacant (S .tables) (a .slips-room)), tt);
   caused = cut-caused s off n;

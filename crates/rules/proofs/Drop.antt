@@ -1,8 +1,8 @@
 -- drop: soundness is kept, what its slip then holds, and that it is lawful. Assumes nothing.
 use mathlib.Core.Path.{_≡_, refl, sym, ap, subst, subst₂, _∙_}
 use mathlib.Core.Logic.{_≢_, inl, ⊎-elim}
-use mathlib.Core.Bool.{Bool, true, _&&_, false}
-use mathlib.Core.List.{List, [], _∷_, _++_, List·Memᴰ}
+use mathlib.Core.Bool.{Bool, true, false}
+use mathlib.Core.List.{List, [], _∷_, _++_, List·Memᴰ, map-append}
 use Prim.Native.Nat.{ℕ, zero, suc, _+_, _-_, _<_, _≤_, pred}
 use native.Mathlib.Nat.{suc-inj}
 use native.Mathlib.Decide.{decLe}
@@ -12,19 +12,19 @@ use lib.Seq.{getD-set-same, getD-set-other}
 use lib.Dec.{eqb, leb, eqb→eq, leb→le, le→leb}
 use Rattle.rules.specs.Basics.{Is, if_then_else_}
 use Rattle.rules.specs.Tables.{Piece, Tables, blank, piece, slipTotal, setPiece, withCount, headOf, setSlip, bufferTotal, pieceTotal}
-use Rattle.rules.specs.Chain.{State, chain, stretch, Stretch, stretches, spans, contents, reads, walk, ownPieces, ownOf, cutOut, splits}
+use Rattle.rules.specs.Chain.{State, chain, stretch, Stretch, stretches, spans, reads, walk, ownPieces, ownOf, cutOut, splits, ownAt}
 use Rattle.rules.specs.Room.{freePieces, isUnheld}
 use Rattle.rules.specs.Release.{shared}
-use Rattle.rules.specs.Build.{Plan, underOld}
+use Rattle.rules.specs.Build.{Plan, underOld, stored}
 use Rattle.rules.specs.Rule.{reading, want}
-use Rattle.rules.specs.Drop.{shorter, dropHere, dropPlan, dropped, dropAfter, ownAt, dropCall, dropPieces}
+use Rattle.rules.specs.Drop.{shorter, dropHere, dropPlan, dropped, dropAfter, dropCall, dropPieces}
 use Rattle.rules.specs.Takes.{Took}
 use Rattle.rules.proofs.Logic.{if-either, not-most, and-0, and-1, if-T, if-F, is-true, is-false, is-dec}
 use Rattle.rules.proofs.Moves.{SoundBy, SoundNow, used-in-range, in-range, buffer-pos, trim-move, reorder, slip-move}
 use Rattle.rules.proofs.Rank.{next-pos}
 use Rattle.rules.proofs.Release.{held-pos}
 use Rattle.rules.proofs.Build.{share-sound, still-shared, still-store, still-trans, Planned, plain-planned, old-sound, OwnTo, own-still, Good}
-use Rattle.rules.proofs.Room.{free-pieces, passing-none}
+use Rattle.rules.proofs.Room.{free-pieces, passing-none, NoneOf, none-front}
 use Rattle.rules.proofs.Chain.{AllUsed, chain-used, spans-good}
 use Rattle.rules.proofs.Meets.{Meets, stop, go, chain-meets, meets-low, Alike, alike, Agree, agree-but, agree-meets, agree-stretches, Same, same-by, same-refl, slip-same, shared-same, Safe, head-safe, own-apart}
 use Rattle.rules.proofs.Hang.{Gives, gives-as, old-gives}
@@ -32,10 +32,12 @@ use Rattle.rules.proofs.Contents.{dropOut, dropOut-contents}
 use Rattle.rules.proofs.Overlaps.{overlaps-cut, cut-count, cut-first, cut-nothing, splits-nil, splits-none, splits-past, splits-inside, one-more}
 use Rattle.rules.proofs.Codes.{first-named}
 use Rattle.rules.proofs.Caused.{found, slip-one, twice-one, none-less, past-is}
-use Rattle.rules.proofs.Sizes.{Sizes, old-sizes, old-storage, piece-set, shared-sizes, then-sizes, same-sizes, maybe-sizes}
-use Rattle.rules.proofs.After.{Reading, gives-reading, same-reading, stays-as, maybe-stays}
+use Rattle.rules.proofs.Sizes.{Sizes, old-sizes, piece-set, shared-sizes, then-sizes, same-sizes, maybe-sizes}
+use Rattle.rules.proofs.After.{Reading, gives-reading, same-reading}
 use Rattle.rules.proofs.Takes.{buffersOf, dropOut-none, new-front, nothing-taken, roomy, spans-none, took-held}
-use Rattle.rules.proofs.Lawful.{Lawful, Leaving, Taking, Causing}
+use Rattle.rules.proofs.Lawful.{Lawful, Leaving, Taking, Causing, Staying}
+use Rattle.rules.proofs.Storage.{old-spans}
+use Rattle.rules.proofs.Stays.{maybe-stays, old-stays}
 
 pub drop-here : (T : Tables) (own : Bool) (d n : ℕ) → n < piece T d .len → 0 < piece T d .count → SoundNow T → Planned T (dropHere T own d n)
 unfolding dropHere
@@ -196,7 +198,7 @@ pub drop-none : (T : Tables) (own : Bool) (ds : List ℕ) (n : ℕ) → n ≡ 0 
 unfolding dropPlan
 drop-none T own [] n e = refl
 drop-none T own (d ∷ ds) n e =
-    let own′ = own && eqb (piece T d .count) 1 in
+    let own′ = ownAt T own d in
     if-either (λ (p : Plan). p .more ≡ []) (leb (piece T d .len) n) _ _ (λ _. drop-none T own′ ds (n - piece T d .len) (omega arith)) (λ _. here-none T own′ d n e)
 
 -- ---- how many new pieces drop makes
@@ -304,10 +306,25 @@ drop-leaves s n S h f al =
     if-either (λ (X : State). SoundNow (X .tables) → Reading S X (reading s (drop n (reads S s)) ∷ [])) (eqb n 0) _ _
     (λ e _. same-reading S s (drop n (reads S s)) z (ap (λ k. drop k (reads S s)) (eqb→eq n 0 e)))
     (λ _ h′. (
-    let st = old-storage S (dropped T s n) (freePieces T) s in
-    gives-reading S _ s _ _ (drop n (reads S s)) (drop-gives s n S b h (al .pieces-room)) h h′
-    (λ u. ap (λ (q : List ℕ). contents (T .stock) q (spans T u)) st)
-    (ap (λ (q : List ℕ). contents (T .stock) q (dropOut (spans T s) n)) st ∙ dropOut-contents (T .stock) (bufferTotal T) (S .storage) (spans T s) n f (spans-good T s h))))
+    gives-reading S _ (S .storage) s _ _ (drop n (reads S s)) (drop-gives s n S b h (al .pieces-room)) h h′
+    (old-spans S (dropped T s n) (freePieces T) s (dropped-planned T s n h) (free-pieces T) b f) (λ u. refl)
+    (dropOut-contents (T .stock) (bufferTotal T) (S .storage) (spans T s) n f (spans-good T s h))))
+
+-- a new piece lies on a buffer of the chain
+pub dropped-none : (T : Tables) (s n : ℕ) → s < slipTotal T → SoundNow T → NoneOf (isUnheld T) (buffersOf (dropped T s n .more))
+dropped-none T s n b h =
+    let v = dropped-leaves T s n b h in
+    let p = dropped T s n in
+    let e = sym (map-append (λ (x : Stretch). x .buffer) (p .more) (stretches (p .base) (v .rest))) ∙ ap buffersOf (v .covers) in
+    none-front (isUnheld T) (buffersOf (p .more)) _ (subst (NoneOf (isUnheld T)) (sym e) (dropOut-none (isUnheld T) (spans T s) n (spans-none T s h)))
+
+drop-stays : (s n : ℕ) → Staying (dropCall s n)
+unfolding dropAfter underOld stored
+drop-stays s n S h f a =
+    let T = S .tables in
+    let b = first-named T s _ (a .early) .0 in
+    maybe-stays S _ (eqb n 0) 0
+    (old-stays S [] (dropped T s n) (freePieces T) s 0 (dropped-planned T s n h) (free-pieces T) b f (passing-none (isUnheld T) _ (dropped-none T s n b h)))
 
 drop-takes : (s n : ℕ) → Taking (dropCall s n)
 unfolding dropAfter
@@ -338,7 +355,7 @@ unfolding dropAfter
 drop-lawful s n = record {
   codes = λ S. omega arith;
   sizes = λ S. (let T = S .tables in maybe-sizes S _ (eqb n 0) (old-sizes S (dropped T s n) (freePieces T) s (plan-sizes T true (chain T s) n)));
-  stays = λ S _. (let T = S .tables in maybe-stays S _ (eqb n 0) (stays-as S _ (old-storage S (dropped T s n) (freePieces T) s)));
+  stays = drop-stays s n;
   sound = λ S h a. drop-sound s n S (first-named (S .tables) s _ (a .early) .0) h;
   known = λ S _. (inl refl, tt);
   caused = drop-caused s n;

@@ -20,9 +20,10 @@ use Rattle.rules.proofs.Meets.{Meets, stop, go, chain-meets, same-refl,
 use Rattle.rules.proofs.Hang.{Gives, gives-as, new-gives}
 use Rattle.rules.proofs.Caused.{found, slip-one, twice-one, none-less}
 use Rattle.rules.proofs.Sizes.{Sizes, new-sizes, same-sizes, shared-sizes}
-use Rattle.rules.proofs.After.{gives-reading, stays-as, reads-length}
+use Rattle.rules.proofs.After.{gives-reading, reads-length}
 use Rattle.rules.proofs.Takes.{buffersOf, new-front, roomy, spans-none, took-new, used-drop}
 use Rattle.rules.proofs.Lawful.{Lawful, new-vacant, Leaving, Taking, Causing}
+use Rattle.rules.proofs.Stays.{stays-as}
 
 pub dup-planned : (T : Tables) (n : ℕ) → ((d : ℕ) → n ≡ suc d → 0 < piece T d .count) → SoundNow T → Planned T (dupPlan T n)
 unfolding dupPlan stretches
@@ -78,7 +79,8 @@ dup-leaves : (s : ℕ) → Leaving (dupCall s)
 unfolding dupAfter
 dup-leaves s S h _ a h′ =
     let T = S .tables in
-    gives-reading S (dupAfter s S) (newSlip T) _ (spans T s) (reads S s) (dup-gives s S h (a .slips-room) (a .pieces-room)) h h′ (λ u. refl) refl
+    gives-reading S (dupAfter s S) (S .storage) (newSlip T) _ (spans T s) (reads S s) (dup-gives s S h (a .slips-room) (a .pieces-room)) h h′
+    (λ u. refl) (λ u. refl) refl
 
 dup-takes : (s : ℕ) → Taking (dupCall s)
 dup-takes s S h a h′ =
@@ -114,7 +116,7 @@ unfolding dupAfter
 dup-lawful s = record {
   codes = λ S. omega arith;
   sizes = λ S. (let T = S .tables in new-sizes (dupPlan T (headOf T s)) (freePieces T) (newSlip T) (dup-sizes T (headOf T s)));
-  stays = λ S _. stays-as S (dupAfter s S) refl;
+  stays = λ S _ _ _. stays-as S (dupAfter s S) 0 refl;
   sound = λ S h a. dup-sound s S (a .slips-room) h;
   known = λ S a. (inr (new-vacant (S .tables) (a .slips-room)), tt);
   caused = dup-caused s;

@@ -25,7 +25,7 @@ use Rattle.rules.specs.Pack.{packAfter, packWants}
 use Rattle.rules.specs.Step.{Operation, Audit, Put, Free, Dup, Cut, Append, Drop, Keep, Pullup, Pack, Length, Read, Show, WireList}
 use Rattle.rules.specs.Step.{Do, rule, stateIn, step, next}
 use Rattle.rules.specs.Takes.{tookBuffers}
-use Rattle.rules.specs.Stays.{Still}
+use Rattle.rules.specs.Still.{Still}
 use Rattle.rules.specs.Fills.{wholes, Filled, fills}
 use Rattle.rules.proofs.Logic.{if-both}
 use Rattle.rules.proofs.Moves.{SoundNow}
@@ -33,7 +33,7 @@ use Rattle.rules.proofs.Room.{AllIn, above-not, new-buffers-in}
 use Rattle.rules.proofs.Contents.{Fit, filled-length, stored-other}
 use Rattle.rules.proofs.Audit.{sound-now}
 use Rattle.rules.proofs.Codes.{Allowed, allowed, no-cause}
-use Rattle.rules.proofs.Sizes.{old-storage}
+use Rattle.rules.proofs.Writes.{old-storage}
 use Rattle.rules.proofs.After.{reads-length}
 use Rattle.rules.proofs.Step.{after-state, did, slips-took, sound-within}
 

@@ -6,31 +6,40 @@ use Prim.Native.Nat.{ℕ, _<_, pred}
 use native.Mathlib.Omega.{arith}
 use native.Mathlib.Decide.{ℕ-discrete}
 use Rattle.rules.specs.Basics.{if_then_else_}
-use Rattle.rules.specs.Tables.{slipTotal, slip, vacant}
+use Rattle.rules.specs.Tables.{slipTotal, slip, vacant, Tables, bufferTotal}
 use Rattle.rules.specs.Chain.{State}
 use Rattle.rules.specs.Rule.{vacating, want}
 use Rattle.rules.specs.Free.{freeAfter, freeCall}
 use Rattle.rules.specs.Takes.{Took}
 use Rattle.rules.proofs.Moves.{SoundNow, reorder, SoundWith}
-use Rattle.rules.proofs.Release.{turned-sound, turned-storage}
+use Rattle.rules.proofs.Release.{turned-sound}
 use Rattle.rules.proofs.Hang.{turned-entries, turned-entry, turned-others}
+use Rattle.rules.proofs.Contents.{Fit}
 use Rattle.rules.proofs.Codes.{first-named}
 use Rattle.rules.proofs.Caused.{found, slip-one, twice-one, none-less}
-use Rattle.rules.proofs.Sizes.{turned-sizes}
-use Rattle.rules.proofs.After.{Reading, gone-reading, stays-as}
+use Rattle.rules.proofs.Sizes.{turned-sizes, same-sizes}
+use Rattle.rules.proofs.After.{Reading, gone-reading}
 use Rattle.rules.proofs.Takes.{old-as, old-none, took-none}
 use Rattle.rules.proofs.Lawful.{Lawful, Causing}
+use Rattle.rules.proofs.Storage.{turned-keeps, keeps-spans}
+use Rattle.rules.proofs.Stays.{stays-as, stays-then}
+
+-- the link that its slip then holds leads nowhere
+no-head : (T : Tables) → SoundNow T → SoundWith (pred vacant ∷ []) T
+no-head T h = (h .0, reorder (λ d. omega arith) (h .1))
 
 pub free-sound : (s : ℕ) (S : State) → s < slipTotal (S .tables) → SoundNow (S .tables) → SoundNow (freeAfter s S .tables)
-free-sound s S l (rank, h) = turned-sound S s _ l (rank, reorder (λ d. omega arith) h)
+free-sound s S l h = turned-sound S s _ l (no-head (S .tables) h)
 
 -- ---- free is lawful
 
-free-leaves : (s : ℕ) (S : State) → s < slipTotal (S .tables) → SoundNow (S .tables) → SoundNow (freeAfter s S .tables)
-    → Reading S (freeAfter s S) (vacating s ∷ [])
-free-leaves s S b h h′ =
-    let k : SoundWith (pred 0 ∷ []) (S .tables) = (h .0, reorder (λ d. omega arith) (h .1)) in
-    gone-reading S (freeAfter s S) s (turned-storage S s 0) (turned-entry S s 0 b k) (turned-entries S s 0 b k) (turned-others S s 0 b k) h h′
+free-leaves : (s : ℕ) (S : State) → s < slipTotal (S .tables) → SoundNow (S .tables) → Fit (S .tables .stock) (bufferTotal (S .tables)) (S .storage)
+    → SoundNow (freeAfter s S .tables) → Reading S (freeAfter s S) (vacating s ∷ [])
+free-leaves s S b h f h′ =
+    let T = S .tables in
+    let k = no-head T h in
+    gone-reading S (freeAfter s S) s (keeps-spans (T .stock) refl (turned-keeps S s 0 b k f) h′)
+    (turned-entry S s 0 b k) (turned-entries S s 0 b k) (turned-others S s 0 b k) h h′
 
 -- it takes nothing
 free-takes : (s : ℕ) (S : State) → s < slipTotal (S .tables) → SoundNow (S .tables) → SoundNow (freeAfter s S .tables)
@@ -38,7 +47,7 @@ free-takes : (s : ℕ) (S : State) → s < slipTotal (S .tables) → SoundNow (S
 free-takes s S b h h′ =
     let T = S .tables in
     let T′ = freeAfter s S .tables in
-    let k : SoundWith (pred 0 ∷ []) T = (h .0, reorder (λ d. omega arith) (h .1)) in
+    let k = no-head T h in
     let gone = turned-entry S s 0 b k in
     let stay = turned-entries S s 0 b k in
     took-none T T′ s h′
@@ -61,10 +70,12 @@ pub free-lawful : (s : ℕ) → Lawful (freeCall s)
 free-lawful s = record {
   codes = λ S. omega arith;
   sizes = λ S. turned-sizes S s vacant;
-  stays = λ S _. stays-as S (freeAfter s S) (turned-storage S s vacant);
+  stays = λ S h f a. (
+      let l = first-named (S .tables) s [] (a .early) .0 in
+      stays-then (same-sizes (S .tables)) (λ b _ u. u) (stays-as S S 0 refl) (turned-keeps S s vacant l (no-head (S .tables) h) f));
   sound = λ S h a. free-sound s S (first-named (S .tables) s [] (a .early) .0) h;
   known = λ S _. (inl refl, tt);
   caused = free-caused s;
-  leaves = λ S h _ a h′. free-leaves s S (first-named (S .tables) s [] (a .early) .0) h h′;
+  leaves = λ S h f a h′. free-leaves s S (first-named (S .tables) s [] (a .early) .0) h f h′;
   takes = λ S h a h′. free-takes s S (first-named (S .tables) s [] (a .early) .0) h h′;
 }

@@ -8,7 +8,7 @@ use native.Mathlib.Omega.{arith}
 use lib.ListN.{length, getD, take}
 use lib.Seq.{getD-set-same, getD-set-other, take-at}
 use lib.Dec.{eqb, eqb→eq}
-use Rattle.rules.specs.Basics.{if_then_else_, lastOf}
+use Rattle.rules.specs.Basics.{lastOf}
 use Rattle.rules.specs.Tables.{Piece, Tables, blank, slip, piece, headOf, holding, slipTotal, pieceTotal, setSlip, withNext}
 use Rattle.rules.specs.Chain.{Stretch, State, chain, stretch, stretches, spans, ownPieces, withTables}
 use Rattle.rules.specs.Release.{release, turned, relinked}

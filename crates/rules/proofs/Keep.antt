@@ -10,17 +10,17 @@ use lib.Dec.{eqb, leb, leb→le, eqb→eq}
 use Rattle.kinds.proofs.Sizes.{size-one}
 use Rattle.rules.specs.Basics.{lastOf, if_then_else_}
 use Rattle.rules.specs.Tables.{Piece, Tables, blank, piece, headOf, slipTotal, bufferTotal, setPiece, withPlace, slip, setSlip, pieceTotal}
-use Rattle.rules.specs.Chain.{State, Stretch, spans, lengthOf, stretch, stretches, cutOut, withTables, contents, reads, chain, ownOf, overlaps}
+use Rattle.rules.specs.Chain.{State, Stretch, spans, lengthOf, stretch, stretches, cutOut, withTables, reads, chain, ownOf, overlaps}
 use Rattle.rules.specs.Room.{freePieces, isFree, isUnheld}
-use Rattle.rules.specs.Build.{built, builtLink}
+use Rattle.rules.specs.Build.{built, builtLink, behindOwn}
 use Rattle.rules.specs.Rule.{reading, want}
 use Rattle.rules.specs.Keep.{kept, keptOwn, keptNotOwn, shortened, keptBy, keepAfter, keepCall}
 use Rattle.rules.specs.Takes.{Took}
 use Rattle.rules.proofs.Logic.{if-either, if-F, if-both}
-use Rattle.rules.proofs.Moves.{SoundBy, SoundNow, used-in-range, by-place, reorder, trim-move, slip-move}
+use Rattle.rules.proofs.Moves.{SoundBy, SoundWith, SoundNow, used-in-range, by-place, reorder, trim-move, slip-move}
 use Rattle.rules.proofs.Rank.{head-pos}
 use Rattle.rules.proofs.Build.{OwnTo, OwnList, own-pieces, own-list-still, Good, built-sound, built-kept, behind-sound, own-still}
-use Rattle.rules.proofs.Room.{free-pieces, passing-front, passing-none}
+use Rattle.rules.proofs.Room.{free-pieces, NoneOf, passing-front, passing-none}
 use Rattle.rules.proofs.Chain.{spans-good, cutOut-good, good-drop, good-last, built-own}
 use Rattle.rules.proofs.Meets.{stop, alike, agree-but, agree-stretches, Same, same-by, same-refl, slip-same, Safe, head-safe, own-apart, built-same, built-meets, built-agree}
 use Rattle.rules.proofs.Hang.{Gives, gives-as, gives-from, behind-gives, Run, run-low, own-run, own-short, Ones, ones-used, own-ones, run-still, own-front, stretches-length}
@@ -28,10 +28,12 @@ use Rattle.rules.proofs.Contents.{cutOut-contents}
 use Rattle.rules.proofs.Overlaps.{overlaps-cut, cut-short, walk-short, own-fewer}
 use Rattle.rules.proofs.Codes.{first-named}
 use Rattle.rules.proofs.Caused.{found, slip-one, twice-one, none-less, past-is}
-use Rattle.rules.proofs.Sizes.{Sizes, behind-sizes, behind-storage, built-sizes, piece-set, same-sizes, then-sizes, maybe-sizes}
-use Rattle.rules.proofs.After.{Reading, gives-reading, reads-length, same-reading, stays-as, maybe-stays}
-use Rattle.rules.proofs.Takes.{Roomy, buffersOf, cutOut-none, new-pass, nothing-taken, roomy, spans-none, took-held, used-none}
-use Rattle.rules.proofs.Lawful.{Lawful, Leaving, Taking, Causing}
+use Rattle.rules.proofs.Sizes.{Sizes, behind-sizes, built-sizes, piece-set, same-sizes, then-sizes, maybe-sizes}
+use Rattle.rules.proofs.After.{Reading, gives-reading, reads-length, same-reading}
+use Rattle.rules.proofs.Takes.{Roomy, buffersOf, cutOut-none, new-pass, nothing-taken, roomy, spans-none, took-held, used-none, drop-none}
+use Rattle.rules.proofs.Lawful.{Lawful, Leaving, Taking, Causing, Staying}
+use Rattle.rules.proofs.Storage.{Keeps, behind-keeps, keeps-spans, fit-by}
+use Rattle.rules.proofs.Stays.{StorageStays, TakesOnly, built-only, maybe-stays, behind-stays}
 
 own-last : (j : ℕ) (T : Tables) (n l : ℕ) → OwnTo j T n l → piece T l .count ≡ 1
 own-last zero T n l o = o .1
@@ -54,34 +56,65 @@ shortened-ok T n (d ∷ ds) (x ∷ xs) o g (rank, S) =
           (by-place (T .pieces) l p blank (used-in-range T l (omega arith)) (λ q e. piece T e .count ≡ 1 → (q .count ≡ 1) × (q .next ≡ piece T e .next)) (λ z. (z, refl)) (λ e _ z. (z, refl))) o,
     )
 
-kept-by-sound : (S : State) (s : ℕ) (own : List ℕ) (xs rest : List Stretch) → s < slipTotal (S .tables) → OwnList (S .tables) (headOf (S .tables) s) own
-    → Good (S .tables .stock) (bufferTotal (S .tables)) xs → Good (S .tables .stock) (bufferTotal (S .tables)) rest → SoundNow (S .tables) → SoundNow (keptBy S s own xs rest .tables)
-unfolding keptBy
-kept-by-sound S s own xs [] l o g h f =
-    let T = S .tables in
+-- the tables before the hanging, and the link that is hung behind the own pieces
+abbrev keptTables : Tables → List ℕ → List Stretch → List Stretch → Tables
+keptTables T own xs [] = shortened T own xs
+keptTables T own xs (y ∷ ys) = built T (freePieces T) (y ∷ ys) 0
+
+abbrev keptLink : Tables → List Stretch → ℕ
+keptLink T rest = builtLink (freePieces T) rest 0
+
+kept-as : (S : State) (s : ℕ) (own : List ℕ) (xs rest : List Stretch)
+    → behindOwn (withTables S (keptTables (S .tables) own xs rest)) s own (keptLink (S .tables) rest) ≡ keptBy S s own xs rest
+unfolding keptBy builtLink
+kept-as S s own xs [] = refl
+kept-as S s own xs (y ∷ ys) = refl
+
+-- the entry of s stands, its own pieces are own still, and the link is held
+record Ready (T : Tables) (s : ℕ) (own : List ℕ) (xs rest : List Stretch) : Type 0 where
+  below : s < slipTotal (keptTables T own xs rest)
+  own-list : OwnList (keptTables T own xs rest) (headOf (keptTables T own xs rest) s) own
+  held : SoundWith (keptLink T rest ∷ []) (keptTables T own xs rest)
+
+kept-ready : (T : Tables) (s : ℕ) (own : List ℕ) (xs rest : List Stretch) → s < slipTotal T → OwnList T (headOf T s) own → Good (T .stock) (bufferTotal T) xs
+    → Good (T .stock) (bufferTotal T) rest → SoundNow T → Ready T s own xs rest
+unfolding builtLink
+kept-ready T s own xs [] l o g h f =
     let r = shortened-ok T (headOf T s) own xs o g f in
-    behind-sound (withTables S (shortened T own xs)) s 0 own (subst (λ (q : List ℕ). s < length q) (sym (r .1)) l)
-    (subst (λ (q : List ℕ). OwnList (shortened T own xs) (pred (getD q s 0)) own) (sym (r .1)) (r .2)) (r .0 .0, reorder (λ x. omega arith) (r .0 .1))
-kept-by-sound S s own xs (y ∷ ys) l o g h f =
-    let T = S .tables in
+    record {
+      below = subst (λ (q : List ℕ). s < length q) (sym (r .1)) l;
+      own-list = subst (λ (q : List ℕ). OwnList (shortened T own xs) (pred (getD q s 0)) own) (sym (r .1)) (r .2);
+      held = (r .0 .0, reorder (λ x. omega arith) (r .0 .1));
+    }
+kept-ready T s own xs (y ∷ ys) l o g h f =
     let fs = freePieces T in
     let T₁ = built T fs (y ∷ ys) 0 in
     let k = built-kept T fs (y ∷ ys) 0 .slips-kept in
-    behind-sound (withTables S T₁) s (builtLink fs (y ∷ ys) 0) own (subst (λ (q : List ℕ). s < length q) (sym k) l)
-    (subst (λ (q : List ℕ). OwnList T₁ (pred (getD q s 0)) own) (sym k) (own-list-still T T₁ (headOf T s) own (λ d c. built-own T fs (y ∷ ys) 0 (free-pieces T) d c) o))
-    (built-sound T fs (y ∷ ys) 0 (free-pieces T) h (f .0, reorder (λ x. omega arith) (f .1)))
+    record {
+      below = subst (λ (q : List ℕ). s < length q) (sym k) l;
+      own-list = subst (λ (q : List ℕ). OwnList T₁ (pred (getD q s 0)) own) (sym k)
+          (own-list-still T T₁ (headOf T s) own (λ d c. built-own T fs (y ∷ ys) 0 (free-pieces T) d c) o);
+      held = built-sound T fs (y ∷ ys) 0 (free-pieces T) h (f .0, reorder (λ x. omega arith) (f .1));
+    }
 
 pub kept-good : (T : Tables) (s n : ℕ) → SoundNow T → Good (T .stock) (bufferTotal T) (kept T s n)
 kept-good T s n S = cutOut-good (T .stock) (bufferTotal T) (spans T s) 0 n (spans-good T s S)
+
+keep-ready : (T : Tables) (s n : ℕ) → s < slipTotal T → SoundNow T → Ready T s (keptOwn T s n) (kept T s n) (keptNotOwn T s n)
+keep-ready T s n l h =
+    let xs = kept T s n in
+    let g = kept-good T s n h in
+    kept-ready T s (keptOwn T s n) xs (keptNotOwn T s n) l (own-pieces (length xs) (headOf T s) T) g
+    (good-drop (T .stock) (bufferTotal T) (length (keptOwn T s n)) xs g) h
 
 pub keep-sound : (s n : ℕ) (S : State) → s < slipTotal (S .tables) → SoundNow (S .tables) → SoundNow (keepAfter s n S .tables)
 unfolding keepAfter
 keep-sound s n S l h =
     let T = S .tables in
-    let xs = kept T s n in
+    let r = keep-ready T s n l h in
     if-either (λ (X : State). SoundNow (X .tables)) (eqb n (lengthOf T s)) _ _ (λ _. h)
-    (λ _. kept-by-sound S s (keptOwn T s n) xs (keptNotOwn T s n) l (own-pieces (length xs) (headOf T s) T) (kept-good T s n h)
-    (good-drop (T .stock) (bufferTotal T) (length (keptOwn T s n)) xs (kept-good T s n h)) h)
+    (λ _. subst (λ (X : State). SoundNow (X .tables)) (kept-as S s (keptOwn T s n) (kept T s n) (keptNotOwn T s n))
+    (behind-sound _ s (keptLink T (keptNotOwn T s n)) (keptOwn T s n) (r .below) (r .own-list) (r .held)))
 
 -- ---- the stretches that stay
 
@@ -275,34 +308,59 @@ shortened-sizes T [] xs = same-sizes T
 shortened-sizes T (d ∷ ds) [] = same-sizes T
 shortened-sizes T (d ∷ ds) (x ∷ xs) = piece-set T (lastOf d ds) _
 
-kept-sizes : (S : State) (s : ℕ) (own : List ℕ) (xs rest : List Stretch) → Sizes (S .tables) (keptBy S s own xs rest .tables)
-unfolding keptBy
-kept-sizes S s own xs [] =
-    let T = S .tables in
-    then-sizes (shortened-sizes T own xs) (behind-sizes (withTables S (shortened T own xs)) s own 0)
-kept-sizes S s own xs (y ∷ ys) =
-    let T = S .tables in
-    let fs = freePieces T in
-    then-sizes (built-sizes T fs (y ∷ ys) 0) (behind-sizes (withTables S (built T fs (y ∷ ys) 0)) s own (builtLink fs (y ∷ ys) 0))
+tables-sizes : (T : Tables) (own : List ℕ) (xs rest : List Stretch) → Sizes T (keptTables T own xs rest)
+tables-sizes T own xs [] = shortened-sizes T own xs
+tables-sizes T own xs (y ∷ ys) = built-sizes T (freePieces T) (y ∷ ys) 0
 
-pub kept-storage : (S : State) (s : ℕ) (own : List ℕ) (xs rest : List Stretch) → keptBy S s own xs rest .storage ≡ S .storage
-unfolding keptBy
-kept-storage S s own xs [] = behind-storage _ s own 0
-kept-storage S s own xs (y ∷ ys) = behind-storage _ s own _
+kept-sizes : (S : State) (s : ℕ) (own : List ℕ) (xs rest : List Stretch) → Sizes (S .tables) (keptBy S s own xs rest .tables)
+kept-sizes S s own xs rest =
+    let T = S .tables in
+    subst (λ (X : State). Sizes T (X .tables)) (kept-as S s own xs rest)
+    (then-sizes (tables-sizes T own xs rest) (behind-sizes (withTables S (keptTables T own xs rest)) s own (keptLink T rest)))
+
+-- shortening takes no buffer, and new pieces lie on those of the chain
+shortened-only : (T : Tables) (own : List ℕ) (xs : List Stretch) → TakesOnly T (shortened T own xs) 0
+unfolding shortened
+shortened-only T [] xs b _ u = u
+shortened-only T (d ∷ ds) [] b _ u = u
+shortened-only T (d ∷ ds) (x ∷ xs) b _ u = u
+
+tables-only : (T : Tables) (own : List ℕ) (xs rest : List Stretch) → NoneOf (isUnheld T) (buffersOf rest) → TakesOnly T (keptTables T own xs rest) 0
+tables-only T own xs [] n = shortened-only T own xs
+tables-only T own xs (y ∷ ys) n = built-only T T (freePieces T) (y ∷ ys) 0 0 refl (passing-none (isUnheld T) (buffersOf (y ∷ ys)) n)
+
+keep-stays : (s n : ℕ) → Staying (keepCall s n)
+unfolding keepAfter
+keep-stays s n S h f a =
+    let T = S .tables in
+    let own = keptOwn T s n in
+    let xs = kept T s n in
+    let rest = keptNotOwn T s n in
+    let r = keep-ready T s n (first-named T s _ (a .early) .0) h in
+    maybe-stays S _ (eqb n (lengthOf T s)) 0
+    (subst (λ (X : State). StorageStays S X 0) (kept-as S s own xs rest)
+    (behind-stays S (keptTables T own xs rest) s (keptLink T rest) own (tables-sizes T own xs rest)
+    (tables-only T own xs rest (drop-none (isUnheld T) (length own) xs (cutOut-none (isUnheld T) (spans T s) 0 n (spans-none T s h))))
+    (r .below) (r .own-list) (r .held) f))
 
 keep-leaves : (s n : ℕ) → Leaving (keepCall s n)
 unfolding keepAfter
 keep-leaves s n S h f al =
     let T = S .tables in
-    let (b, z) = first-named T s _ (al .early) in
+    let (b, z₀) = first-named T s _ (al .early) in
     if-either (λ (X : State). SoundNow (X .tables) → Reading S X (reading s (take n (reads S s)) ∷ [])) (eqb n (lengthOf T s)) _ _
-    (λ e _. same-reading S s (take n (reads S s)) z (take-all n (reads S s) (omega (arith, reads-length S h f s, eqb→eq n (lengthOf T s) e))))
+    (λ e _. same-reading S s (take n (reads S s)) z₀ (take-all n (reads S s) (omega (arith, reads-length S h f s, eqb→eq n (lengthOf T s) e))))
     (λ ne h′. (
-    let st = kept-storage S s (keptOwn T s n) (kept T s n) (keptNotOwn T s n) in
+    let own = keptOwn T s n in
+    let xs = kept T s n in
+    let rest = keptNotOwn T s n in
+    let e = keep-ready T s n b h in
+    let z = tables-sizes T own xs rest in
+    let k = subst (Keeps (withTables S (keptTables T own xs rest))) (kept-as S s own xs rest)
+    (behind-keeps _ s (keptLink T rest) own (e .below) (e .own-list) (e .held) (fit-by (S .storage) z f)) in
     let r : length (keptNotOwn T s n) ≤ length (freePieces T) = omega (arith, al .pieces-room, if-F (eqb n (lengthOf T s)) 0 (length (keptNotOwn T s n)) ne) in
-    gives-reading S _ s _ _ (take n (reads S s)) (keep-gives s n S b z h r) h h′
-    (λ u. ap (λ (q : List ℕ). contents (T .stock) q (spans T u)) st)
-    (ap (λ (q : List ℕ). contents (T .stock) q (kept T s n)) st ∙ cutOut-contents (T .stock) (bufferTotal T) (S .storage) (spans T s) 0 n f (spans-good T s h))))
+    gives-reading S _ (S .storage) s _ _ (take n (reads S s)) (keep-gives s n S b z₀ h r) h h′ (keeps-spans (T .stock) (z .stock-kept) k h′) (λ u. refl)
+    (cutOut-contents (T .stock) (bufferTotal T) (S .storage) (spans T s) 0 n f (spans-good T s h))))
 
 keep-takes : (s n : ℕ) → Taking (keepCall s n)
 unfolding keepAfter
@@ -348,7 +406,7 @@ unfolding keepAfter
 keep-lawful s n = record {
   codes = λ S. omega arith;
   sizes = λ S. (let T = S .tables in maybe-sizes S _ (eqb n (lengthOf T s)) (kept-sizes S s (keptOwn T s n) (kept T s n) (keptNotOwn T s n)));
-  stays = λ S _. (let T = S .tables in maybe-stays S _ (eqb n (lengthOf T s)) (stays-as S _ (kept-storage S s (keptOwn T s n) (kept T s n) (keptNotOwn T s n))));
+  stays = keep-stays s n;
   sound = λ S h a. keep-sound s n S (first-named (S .tables) s _ (a .early) .0) h;
   known = λ S _. (inl refl, tt);
   caused = keep-caused s n;

@@ -22,8 +22,9 @@ use Rattle.rules.proofs.Contents.{Fit}
 use Rattle.rules.proofs.Codes.{Allowed, InOrder}
 use Rattle.rules.proofs.Caused.{Caused, found, slip-none, none-less}
 use Rattle.rules.proofs.Sizes.{Sizes, same-sizes}
-use Rattle.rules.proofs.After.{at-there, Reading, StorageStays, stays-as}
+use Rattle.rules.proofs.After.{at-there, Reading}
 use Rattle.rules.proofs.Takes.{nothing-taken}
+use Rattle.rules.proofs.Stays.{StorageStays, stays-as}
 
 -- each change is of a slip that is named, or that was vacant
 abbrev pub Known : Tables → List ℕ → List Change → Type 0
@@ -34,6 +35,10 @@ Known T ns (c ∷ cs) = (Among ns (c .slip) ⊎ Is (isVacant T (c .slip))) × Kn
 abbrev pub Leaving : Meaning → Type 0
 Leaving m = (S : State) → SoundNow (S .tables) → Fit (S .tables .stock) (bufferTotal (S .tables)) (S .storage) → Allowed (m .rule S) (S .tables)
     → SoundNow (m .rule S .after .tables) → Reading S (m .rule S .after) (m .changes S)
+
+abbrev pub Staying : Meaning → Type 0
+Staying m = (S : State) → SoundNow (S .tables) → Fit (S .tables .stock) (bufferTotal (S .tables)) (S .storage) → Allowed (m .rule S) (S .tables)
+    → StorageStays S (m .rule S .after) (m .rule S .wants .buffers)
 
 abbrev pub Taking : Meaning → Type 0
 Taking m = (S : State) → SoundNow (S .tables) → Allowed (m .rule S) (S .tables) → SoundNow (m .rule S .after .tables)
@@ -47,10 +52,11 @@ Causing m = (S : State) → SoundNow (S .tables) → Fit (S .tables .stock) (buf
 pub record Lawful (m : Meaning) : Type 0 where
   -- the codes that it judges before room rise from 2 on, and none is "torn" or "full"
   pub codes : (S : State) → InOrder (m .rule S .judged)
-  -- tables and storage stay as long as they were, and so does every byte of a buffer that was held
+  -- tables stay as long as they were
   pub sizes : (S : State) → Sizes (S .tables) (m .rule S .after .tables)
-  pub stays : (S : State) → Fit (S .tables .stock) (bufferTotal (S .tables)) (S .storage) → StorageStays S (m .rule S .after)
-  -- once it is done: soundness is kept, and only slips that it names or takes are changed
+  -- once it is done: storage stays as long as it was, and so does every byte of a buffer that is neither taken nor set free
+  pub stays : Staying m
+  -- soundness is kept, and only slips that it names or takes are changed
   pub sound : (S : State) → SoundNow (S .tables) → Allowed (m .rule S) (S .tables) → SoundNow (m .rule S .after .tables)
   pub known : (S : State) → Allowed (m .rule S) (S .tables) → Known (S .tables) (m .names) (m .changes S)
   pub caused : Causing m
@@ -81,7 +87,7 @@ looks-lawful ns out r a c e k =
     record {
       codes = c;
       sizes = λ S. subst (λ (X : State). Sizes (S .tables) (X .tables)) (sym (e S .0)) (same-sizes (S .tables));
-      stays = λ S _. stays-as S (r S .after) (ap (λ (X : State). X .storage) (e S .0));
+      stays = λ S _ _ _. stays-as S (r S .after) _ (ap (λ (X : State). X .storage) (e S .0));
       sound = λ S h _. subst (λ (X : State). SoundNow (X .tables)) (sym (e S .0)) h;
       known = λ S _. tt;
       caused = k;

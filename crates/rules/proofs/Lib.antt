@@ -20,8 +20,10 @@ pub mod Recount
 -- what the calls share: codes, sizes, what slips read, what is taken; and what is proved of every call
 pub mod Codes
 pub mod Sizes
+pub mod Storage
 pub mod After
 pub mod Takes
+pub mod Stays
 pub mod Caused
 pub mod Lawful
 -- each call that works on a pool, in document 01's order: it is lawful, and what it has besides
@@ -42,6 +44,7 @@ pub mod List
 pub mod Gather
 -- all calls together
 pub mod Calls
+pub mod Writes
 -- bytes, and any call on them
 pub mod Bounds
 pub mod Bytes
@@ -52,7 +55,7 @@ pub mod Causes
 -- what is read again, answered, left alone and filled, and which pieces are own
 pub mod RoundTrip
 pub mod Answers
-pub mod Stays
+pub mod Still
 pub mod Fills
 pub mod Own
 -- demand 3, lists of calls, the ten rows

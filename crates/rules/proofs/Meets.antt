@@ -6,7 +6,6 @@ use Prim.Native.Nat.{ℕ, zero, suc, _+_, _-_, _≤_, _<_}
 use native.Mathlib.Omega.{arith}
 use lib.ListN.{length, take}
 use lib.Seq.{getD-set-same, getD-set-other}
-use Rattle.rules.specs.Basics.{if_then_else_}
 use Rattle.rules.specs.Tables.{Piece, Tables, blank, piece, headOf, pieceTotal, setSlip, withCount}
 use Rattle.rules.specs.Chain.{Stretch, State, walk, chain, stretch, stretches}
 use Rattle.rules.specs.Sound.{heads}

@@ -9,9 +9,9 @@ use lib.ListN.{length, getD, take}
 use lib.Dec.{eqb, eqb→eq, leb, le→leb, leb→le, ltb, ltb→lt, lt→ltb}
 use Rattle.rules.specs.Basics.{if_then_else_}
 use Rattle.rules.specs.Tables.{Tables, piece, headOf, pieceTotal}
-use Rattle.rules.specs.Chain.{Stretch, walk, chain, ownPieces, ownOf, stretches, spans, total, cutOut}
+use Rattle.rules.specs.Chain.{Stretch, walk, chain, ownPieces, ownOf, stretches, spans, total, cutOut, ownAt}
 use Rattle.rules.specs.Keep.{kept, keptOwn}
-use Rattle.rules.specs.Drop.{dropHere, ownAt, dropPlan, dropped}
+use Rattle.rules.specs.Drop.{dropHere, dropPlan, dropped}
 use Rattle.rules.proofs.Logic.{if-T, if-F, if-either, if-both, is-true, is-false, same-test, eq→eqb}
 use Rattle.rules.proofs.Hang.{stretches-length}
 use Rattle.rules.proofs.Bounds.{chain-short}

@@ -1,14 +1,14 @@
 -- pack: soundness is kept, what its slip then holds, and that it is lawful. Assumes nothing.
 use mathlib.Core.Path.{ap, _∙_, refl, sym}
 use mathlib.Core.Logic.{inl}
-use mathlib.Core.List.{[], append-nil, _∷_, List}
+use mathlib.Core.List.{[], append-nil, _∷_}
 use Prim.Native.Nat.{ℕ, _<_, _≤_}
 use native.Mathlib.Omega.{arith}
 use lib.ListN.{length, take}
 use lib.Dec.{leb}
 use Rattle.rules.specs.Basics.{if_then_else_}
 use Rattle.rules.specs.Tables.{slipTotal, pieceTotal}
-use Rattle.rules.specs.Chain.{State, chain, lengthOf, stretches, contents, reads, spans, withStorage}
+use Rattle.rules.specs.Chain.{State, chain, lengthOf, stretches, contents, reads, withStorage}
 use Rattle.rules.specs.Room.{freePieces, newBuffers, freeBuffers, isFree}
 use Rattle.rules.specs.Build.{plain, buffersFor, laid, underOld, stored}
 use Rattle.rules.specs.Rule.{Wants, reading, want}
@@ -22,10 +22,12 @@ use Rattle.rules.proofs.Meets.{stop, same-refl}
 use Rattle.rules.proofs.Hang.{Gives, gives-as, old-gives}
 use Rattle.rules.proofs.Codes.{first-named}
 use Rattle.rules.proofs.Caused.{found, slip-one, twice-one, none-less}
-use Rattle.rules.proofs.Sizes.{old-sizes, old-storage, same-sizes, maybe-sizes}
-use Rattle.rules.proofs.After.{Reading, gives-reading, new-here, new-others, reads-length, same-reading, stays-new, maybe-stays}
+use Rattle.rules.proofs.Sizes.{old-sizes, same-sizes, maybe-sizes, new-length}
+use Rattle.rules.proofs.After.{Reading, gives-reading, new-here, new-others, reads-length, same-reading}
 use Rattle.rules.proofs.Takes.{Roomy, new-laid, new-pass, nothing-taken, roomy, took-held}
-use Rattle.rules.proofs.Lawful.{Lawful, Leaving, Taking, Causing}
+use Rattle.rules.proofs.Lawful.{Lawful, Leaving, Taking, Causing, Staying}
+use Rattle.rules.proofs.Storage.{old-spans}
+use Rattle.rules.proofs.Stays.{StorageStays, stays-as, old-stays}
 use Rattle.rules.proofs.Put.{new-good, new-count}
 
 pub pack-sound : (s : ℕ) (S : State) → s < slipTotal (S .tables) → SoundNow (S .tables) → SoundNow (packAfter s S .tables)
@@ -67,11 +69,12 @@ pack-leaves s S h f al =
     let rb : k ≤ length (freeBuffers T) = omega (arith, al .buffers-room, ap (λ (x : Wants). x .buffers) w) in
     let bs = newBuffers T k in
     let S₁ = withStorage S (stored (T .stock) (S .storage) bs (reads S s)) in
-    let st = old-storage S₁ (plain T (laid (T .stock) bs n)) (freePieces T) s in
+    let p = plain T (laid (T .stock) bs n) in
     let long = reads-length S h f s in
-    gives-reading S _ s _ _ (reads S s) (pack-gives s S S₁ b h rp rb) h h′
-    (λ u. ap (λ (q : List ℕ). contents (T .stock) q (spans T u)) st ∙ new-others S h f k (reads S s) u)
-    (ap (λ (q : List ℕ). contents (T .stock) q (laid (T .stock) bs n)) st ∙ ap (λ i. contents (T .stock) (S₁ .storage) (laid (T .stock) bs i)) (sym long) ∙ new-here S h f k (reads S s) rb (omega arith))))
+    gives-reading S _ (S₁ .storage) s _ _ (reads S s) (pack-gives s S S₁ b h rp rb) h h′
+    (old-spans S₁ p (freePieces T) s (plain-planned T (p .more) (new-good T n) h) (free-pieces T) b (new-length S k (reads S s) f ∙ f))
+    (new-others S h f k (reads S s))
+    (ap (λ i. contents (T .stock) (S₁ .storage) (laid (T .stock) bs i)) (sym long) ∙ new-here S h f k (reads S s) rb (omega arith))))
 
 pack-takes : (s : ℕ) → Taking (packCall s)
 unfolding packAfter packWants
@@ -97,18 +100,24 @@ pack-caused s S h f = record {
   asked = λ z. ap (λ k. if leb (length (chain (S .tables) s)) 1 then want 0 0 0 else want 0 (buffersFor k) (buffersFor k)) (sym (reads-length S h f s));
 }
 
+pack-stays : (s : ℕ) → Staying (packCall s)
+unfolding packAfter packWants
+pack-stays s S h f a =
+    let T = S .tables in
+    let n = lengthOf T s in
+    let k = buffersFor n in
+    let xs = laid (T .stock) (newBuffers T k) n in
+    if-both (λ (X : State) (w : Wants). StorageStays S X (w .buffers)) (leb (length (chain T s)) 1) _ _ (want 0 0 0) (want 0 k k)
+    (λ _. stays-as S S 0 refl)
+    (λ _. old-stays S (reads S s) (plain T xs) (freePieces T) s k (plain-planned T xs (new-good T n) h) (free-pieces T)
+    (first-named T s _ (a .early) .0) f (new-laid T k n))
+
 pub pack-lawful : (s : ℕ) → Lawful (packCall s)
 unfolding packAfter
 pack-lawful s = record {
   codes = λ S. omega arith;
   sizes = λ S. (let T = S .tables in maybe-sizes S _ (leb (length (chain T s)) 1) (old-sizes _ (plain T _) (freePieces T) s (same-sizes T)));
-  stays = λ S f. (
-      let T = S .tables in
-      let n = lengthOf T s in
-      let k = buffersFor n in
-      let bs = newBuffers T k in
-      let S₁ = withStorage S (stored (T .stock) (S .storage) bs (reads S s)) in
-      maybe-stays S _ (leb (length (chain T s)) 1) (stays-new S _ k (reads S s) f (old-storage S₁ (plain T (laid (T .stock) bs n)) (freePieces T) s)));
+  stays = pack-stays s;
   sound = λ S h a. pack-sound s S (first-named (S .tables) s _ (a .early) .0) h;
   known = λ S _. (inl refl, tt);
   caused = pack-caused s;

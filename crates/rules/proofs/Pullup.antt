@@ -25,12 +25,14 @@ use Rattle.rules.proofs.Hang.{Gives, gives-as, old-gives}
 use Rattle.rules.proofs.Contents.{stored-others, dropOut, Off, contents-append, dropOut-contents}
 use Rattle.rules.proofs.Codes.{first-named, no-cause}
 use Rattle.rules.proofs.Caused.{found, slip-one, twice-one, none-less, less-is, past-is}
-use Rattle.rules.proofs.Sizes.{old-sizes, old-storage, maybe-sizes}
-use Rattle.rules.proofs.After.{Reading, gives-reading, new-here, new-others, reads-length, same-reading, spans-off, stays-new, maybe-stays}
+use Rattle.rules.proofs.Sizes.{old-sizes, maybe-sizes, new-length}
+use Rattle.rules.proofs.After.{Reading, gives-reading, new-here, new-others, reads-length, same-reading, spans-off}
 use Rattle.rules.proofs.Takes.{Roomy, buffersOf, dropOut-none, new-front, new-laid, nothing-taken, roomy, spans-none, took-held}
-use Rattle.rules.proofs.Lawful.{Lawful, Leaving, Taking, Causing}
+use Rattle.rules.proofs.Lawful.{Lawful, Leaving, Taking, Causing, Staying}
 use Rattle.rules.proofs.Put.{new-count}
-use Rattle.rules.proofs.Drop.{dropped-planned, dropped-leaves, plan-sizes, drop-count}
+use Rattle.rules.proofs.Drop.{dropped-planned, dropped-leaves, plan-sizes, drop-count, dropped-none}
+use Rattle.rules.proofs.Storage.{old-spans}
+use Rattle.rules.proofs.Stays.{StorageStays, stays-as, old-stays}
 
 -- n bytes on one new buffer
 pub one-good : (T : Tables) (n : ℕ) → 1 ≤ n → Good (T .stock) (bufferTotal T) (laid (T .stock) (newBuffers T 1) n)
@@ -92,17 +94,17 @@ pullup-leaves s n S h f al =
     let rb : 1 ≤ length (freeBuffers T) = omega (arith, al .buffers-room, ap (λ (x : Wants). x .buffers) w) in
     let front = take n (reads S s) in
     let S₁ = withStorage S (stored (T .stock) (S .storage) (newBuffers T 1) front) in
-    let st = old-storage S₁ (pulled T s n) (freePieces T) s in
     let long : length front ≡ n = omega (arith, length-take n (reads S s), reads-length S h f s) in
     let bs = newBuffers T 1 in
     let fst : contents (T .stock) (S₁ .storage) (laid (T .stock) bs n) ≡ front = ap (λ k. contents (T .stock) (S₁ .storage) (laid (T .stock) bs k)) (sym long) ∙ new-here S h f 1 front rb (omega arith) in
     let rst : contents (T .stock) (S₁ .storage) (dropOut (spans T s) n) ≡ drop n (reads S s) =
     stored-others (T .stock) (isUnheld T) 0 (bufferTotal T) bs (S .storage) front (dropOut (spans T s) n) (new-buffers-in T 1) f (good-dropOut (T .stock) (bufferTotal T) (spans T s) n (spans-good T s h)) (off-drop bs (spans T s) n (spans-off T 1 s h))
     ∙ dropOut-contents (T .stock) (bufferTotal T) (S .storage) (spans T s) n f (spans-good T s h) in
-    let g = pullup-gives s n S S₁ b h (omega (arith, not-most n (firstLength (spans T s)) ne)) (omega (arith, pulled-count T s n rb)) in
-    gives-reading S _ s _ _ (reads S s) g h h′
-    (λ u. ap (λ (q : List ℕ). contents (T .stock) q (spans T u)) st ∙ new-others S h f 1 front u)
-    (ap (λ (q : List ℕ). contents (T .stock) q (laid (T .stock) bs n ++ dropOut (spans T s) n)) st ∙ contents-append (T .stock) (S₁ .storage) (laid (T .stock) bs n) (dropOut (spans T s) n)
+    let some : 1 ≤ n = omega (arith, not-most n (firstLength (spans T s)) ne) in
+    let g = pullup-gives s n S S₁ b h some (omega (arith, pulled-count T s n rb)) in
+    gives-reading S _ (S₁ .storage) s _ _ (reads S s) g h h′
+    (old-spans S₁ (pulled T s n) (freePieces T) s (pulled-planned T s n some h) (free-pieces T) b (new-length S 1 front f ∙ f)) (new-others S h f 1 front)
+    (contents-append (T .stock) (S₁ .storage) (laid (T .stock) bs n) (dropOut (spans T s) n)
     ∙ (λ j. fst j ++ rst j) ∙ take-append-drop n (reads S s))))
 
 pullup-takes : (s n : ℕ) → Taking (pullupCall s n)
@@ -139,6 +141,21 @@ pullup-caused s n S h f = record {
       λ i. if leb n (firstLength (spans T s)) then want 0 0 0 else want 0 (e i) 1);
 }
 
+pullup-stays : (s n : ℕ) → Staying (pullupCall s n)
+unfolding pullupAfter pullupWants
+pullup-stays s n S h f a =
+    let T = S .tables in
+    let b = first-named T s _ (a .early) .0 in
+    let p = dropped T s n in
+    let xs = laid (T .stock) (newBuffers T 1) n in
+    if-both (λ (X : State) (w : Wants). StorageStays S X (w .buffers)) (leb n (firstLength (spans T s))) _ _ (want 0 0 0) (want 0 (suc (length (p .more))) 1)
+    (λ _. stays-as S S 0 refl)
+    (λ t. old-stays S (take n (reads S s)) (pulled T s n) (freePieces T) s 1
+    (pulled-planned T s n (omega (arith, not-most n (firstLength (spans T s)) t)) h) (free-pieces T) b f
+    (ap (passing (isUnheld T)) (map-append (λ (x : Stretch). x .buffer) xs (p .more))
+    ∙ passing-back (isUnheld T) (buffersOf xs) (buffersOf (p .more)) (dropped-none T s n b h)
+    ∙ new-laid T 1 n))
+
 pub pullup-lawful : (s n : ℕ) → Lawful (pullupCall s n)
 unfolding pullupAfter
 pullup-lawful s n = record {
@@ -146,10 +163,7 @@ pullup-lawful s n = record {
   sizes = λ S. (
       let T = S .tables in
       maybe-sizes S _ (leb n (firstLength (spans T s))) (old-sizes _ (pulled T s n) (freePieces T) s (plan-sizes T true (chain T s) n)));
-  stays = λ S f. (
-      let T = S .tables in
-      let S₁ = withStorage S (stored (T .stock) (S .storage) (newBuffers T 1) (take n (reads S s))) in
-      maybe-stays S _ (leb n (firstLength (spans T s))) (stays-new S _ 1 (take n (reads S s)) f (old-storage S₁ (pulled T s n) (freePieces T) s)));
+  stays = pullup-stays s n;
   sound = λ S h a. pullup-sound s n S (first-named (S .tables) s _ (a .early) .0) h;
   known = λ S _. (inl refl, tt);
   caused = pullup-caused s n;

@@ -19,9 +19,10 @@ use Rattle.rules.proofs.Hang.{Gives, gives-as, new-gives}
 use Rattle.rules.proofs.Contents.{laid-count}
 use Rattle.rules.proofs.Caused.{found, slip-none, none-less}
 use Rattle.rules.proofs.Sizes.{new-sizes, same-sizes}
-use Rattle.rules.proofs.After.{gives-reading, new-here, new-others, stays-new}
+use Rattle.rules.proofs.After.{gives-reading, new-here, new-others}
 use Rattle.rules.proofs.Takes.{new-laid, new-pass, roomy, took-new}
 use Rattle.rules.proofs.Lawful.{Lawful, new-vacant, Leaving, Taking, Causing}
+use Rattle.rules.proofs.Stays.{stays-new}
 
 -- n bytes on the lowest free buffers
 pub new-good : (T : Tables) (n : ℕ) → Good (T .stock) (bufferTotal T) (laid (T .stock) (newBuffers T (buffersFor n)) n)
@@ -58,8 +59,8 @@ put-leaves : (input : List ℕ) → Leaving (putCall input)
 unfolding putAfter
 put-leaves input S h f a h′ =
     let k = buffersFor (length input) in
-    gives-reading S (putAfter input S) (newSlip (S .tables)) _ _ input (put-gives input S h (a .slips-room) (a .pieces-room) (a .buffers-room)) h h′
-    (new-others S h f k input) (new-here S h f k input (a .buffers-room) (omega arith))
+    gives-reading S (putAfter input S) _ (newSlip (S .tables)) _ _ input (put-gives input S h (a .slips-room) (a .pieces-room) (a .buffers-room)) h h′
+    (λ u. refl) (new-others S h f k input) (new-here S h f k input (a .buffers-room) (omega arith))
 
 put-takes : (input : List ℕ) → Taking (putCall input)
 put-takes input S h a h′ =
@@ -85,7 +86,7 @@ unfolding putAfter
 put-lawful input = record {
   codes = λ S. omega arith;
   sizes = λ S. new-sizes (plain (S .tables) _) (freePieces (S .tables)) (newSlip (S .tables)) (same-sizes (S .tables));
-  stays = λ S f. stays-new S _ (buffersFor (length input)) input f refl;
+  stays = λ S _ f _. stays-new S _ (buffersFor (length input)) input f refl;
   sound = λ S h a. put-sound input S (a .slips-room) h;
   known = λ S a. (inr (new-vacant (S .tables) (a .slips-room)), tt);
   caused = put-caused input;

@@ -1,4 +1,4 @@
--- Release keeps soundness, and leaves storage alone. Assumes nothing.
+-- Release keeps soundness, and leaves the slips alone. Assumes nothing.
 use mathlib.Core.Path.{_≡_, refl, subst}
 use mathlib.Core.List.{List, _∷_}
 use Prim.Native.Nat.{ℕ, zero, suc, _-_, _<_, pred}
@@ -6,7 +6,7 @@ use native.Mathlib.Decide.{decLt}
 use native.Mathlib.Omega.{arith}
 use lib.ListN.{length}
 use lib.Dec.{ltb→lt, lt→ltb}
-use Rattle.rules.specs.Basics.{Is, if_then_else_}
+use Rattle.rules.specs.Basics.{Is}
 use Rattle.rules.specs.Tables.{Tables, piece, headOf, pieceTotal, setSlip}
 use Rattle.rules.specs.Chain.{State, withTables}
 use Rattle.rules.specs.Release.{another, freed, releaseIn, release, turned}
@@ -52,25 +52,6 @@ release-sound {fl} S n (rank, h) =
 pub turned-sound : {fl : List ℕ} (S : State) (s v : ℕ) → s < length (S .tables .slips) → SoundWith (pred v ∷ fl) (S .tables) → SoundWith fl (turned S s v .tables)
 unfolding turned
 turned-sound S s v l (rank, h) = release-sound (withTables S (setSlip (S .tables) s v)) (headOf (S .tables) s) (rank, slip-move s v l h)
-
--- storage
-
-releaseIn-storage : (k : ℕ) (S : State) (n : ℕ) → releaseIn k S n .storage ≡ S .storage
-unfolding releaseIn
-releaseIn-storage zero S n = refl
-releaseIn-storage (suc k) S zero = refl
-releaseIn-storage (suc k) S (suc d) =
-    let T = S .tables in
-    if-either (λ (X : State). X .storage ≡ S .storage) _ _ _
-    (λ _. refl) (λ _. releaseIn-storage k (freed S d) (piece T d .next))
-
-pub release-storage : (S : State) (n : ℕ) → release S n .storage ≡ S .storage
-unfolding release
-release-storage S n = releaseIn-storage (pieceTotal (S .tables)) S n
-
-pub turned-storage : (S : State) (s v : ℕ) → turned S s v .storage ≡ S .storage
-unfolding turned
-turned-storage S s v = release-storage (withTables S (setSlip (S .tables) s v)) (headOf (S .tables) s)
 
 -- slips
 

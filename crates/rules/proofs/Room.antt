@@ -35,6 +35,11 @@ pub above-not : (f : ℕ → Bool) (i n x : ℕ) (xs : List ℕ) → x < i → A
 above-not f i n x [] h a m = List·Memᴰ·not-nil m
 above-not f i n x (y ∷ ys) h a m = ⊎-elim (λ e. omega (arith, a .0)) (λ m′. above-not f (suc y) n x ys (omega (arith, a .0)) (a .3) m′) (List·Memᴰ·cases-cons m)
 
+-- a number of such a list passes
+pub in-passes : (f : ℕ → Bool) (i n x : ℕ) (xs : List ℕ) → AllIn f i n xs → List·Memᴰ x xs → Is (f x)
+in-passes f i n x [] a m = absurd (List·Memᴰ·not-nil m)
+in-passes f i n x (y ∷ ys) a m = ⊎-elim (λ e. subst (λ j. Is (f j)) (sym e) (a .2)) (in-passes f (suc y) n x ys (a .3)) (List·Memᴰ·cases-cons m)
+
 in-free : (T : Tables) (i : ℕ) (xs : List ℕ) → AllIn (isFree T) i (pieceTotal T) xs → Free T xs
 in-free T i [] a = tt
 in-free T i (x ∷ xs) a = (a .1, eqb→eq (piece T x .count) 0 (a .2), above-not (isFree T) (suc x) (pieceTotal T) x xs (omega arith) (a .3), in-free T (suc x) xs (a .3))
@@ -110,6 +115,11 @@ NoneOf f (x ∷ l) = (Is (f x) → ⊥) × NoneOf f l
 pub none-not : (f : ℕ → Bool) (x : ℕ) (l : List ℕ) → NoneOf f l → Is (f x) → List·Memᴰ x l → ⊥
 none-not f x [] n t m = List·Memᴰ·not-nil m
 none-not f x (y ∷ l) n t m = ⊎-elim (λ e. n .0 (subst (λ i. Is (f i)) e t)) (λ z. none-not f x l (n .1) t z) (List·Memᴰ·cases-cons m)
+
+-- a part of such a list
+pub none-front : (f : ℕ → Bool) (a l : List ℕ) → NoneOf f (a ++ l) → NoneOf f a
+none-front f [] l n = tt
+none-front f (x ∷ a) l n = (n .0, none-front f a l (n .1))
 
 -- a part of which none passes, in front or behind
 pub passing-front : (f : ℕ → Bool) (a l : List ℕ) → NoneOf f a → passing f (a ++ l) ≡ passing f l

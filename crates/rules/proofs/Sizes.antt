@@ -12,8 +12,7 @@ use Rattle.rules.specs.Room.{isUnheld, newBuffers}
 use Rattle.rules.specs.Release.{shared, freed, releaseIn, release, turned, relinked}
 use Rattle.rules.specs.Build.{built, Plan, made, madeLink, underNew, underOld, behindOwn, stored}
 use Rattle.rules.proofs.Logic.{if-either}
-use Rattle.rules.proofs.Release.{release-storage, turned-storage}
-use Rattle.rules.proofs.Build.{built-kept}
+use Rattle.rules.proofs.Build.{Planned, built-kept}
 use Rattle.rules.proofs.Room.{new-buffers-in}
 use Rattle.rules.proofs.Contents.{stored-length}
 
@@ -48,7 +47,7 @@ slip-set T s v = record { slips-size = length-set (T .slips) s v; pieces-size = 
 pub piece-set : (T : Tables) (d : ℕ) (p : Piece) → Sizes T (setPiece T d p)
 piece-set T d p = record { slips-size = refl; pieces-size = length-set (T .pieces) d p; counts-size = refl; stock-kept = refl }
 
-both-set : (T : Tables) (d : ℕ) (p : Piece) (b n : ℕ) → Sizes T (setPieceCount T d p b n)
+pub both-set : (T : Tables) (d : ℕ) (p : Piece) (b n : ℕ) → Sizes T (setPieceCount T d p b n)
 both-set T d p b n = record { slips-size = refl; pieces-size = length-set (T .pieces) d p; counts-size = length-set (T .counts) b n; stock-kept = refl }
 
 -- the steps that the operations share
@@ -76,6 +75,13 @@ built-sizes T fs xs tail =
     let k = built-kept T fs xs tail in
     record { slips-size = ap length (k .slips-kept); pieces-size = k .pieces-size; counts-size = k .counts-size; stock-kept = k .stock-kept }
 
+-- a plan that is made
+pub made-sizes : {T : Tables} (p : Plan) (fs : List ℕ) → Planned T p → Sizes T (made p fs)
+made-sizes p fs h =
+    let k = h .still .kept in
+    then-sizes (record { slips-size = ap length (k .slips-kept); pieces-size = k .pieces-size; counts-size = k .counts-size; stock-kept = k .stock-kept })
+    (built-sizes (p .base) fs (p .more) (p .tail))
+
 pub new-sizes : {T : Tables} (p : Plan) (fs : List ℕ) (t : ℕ) → Sizes T (p .base) → Sizes T (underNew p fs t)
 unfolding underNew
 new-sizes p fs t h = then-sizes h (then-sizes (built-sizes (p .base) fs (p .more) (p .tail)) (slip-set (made p fs) t _))
@@ -102,12 +108,3 @@ shared-sizes T (suc d) = piece-set T d _
 pub new-length : (S : State) (k : ℕ) (xs : List ℕ) → length (S .storage) ≡ storageLength (S .tables .stock) (bufferTotal (S .tables))
     → length (stored (S .tables .stock) (S .storage) (newBuffers (S .tables) k) xs) ≡ length (S .storage)
 new-length S k xs h = let T = S .tables in stored-length (T .stock) (isUnheld T) 0 (bufferTotal T) (newBuffers T k) (S .storage) xs (new-buffers-in T k) h
-
-pub old-storage : (S : State) (p : Plan) (fs : List ℕ) (s : ℕ) → underOld S p fs s .storage ≡ S .storage
-unfolding underOld
-old-storage S p fs s = turned-storage (withTables S (made p fs)) s (holding (madeLink p fs))
-
-pub behind-storage : (S : State) (s : ℕ) (own : List ℕ) (n : ℕ) → behindOwn S s own n .storage ≡ S .storage
-unfolding behindOwn relinked
-behind-storage S s [] n = turned-storage S s (holding n)
-behind-storage S s (d ∷ ds) n = release-storage (withTables S (setPiece (S .tables) (lastOf d ds) _)) (piece (S .tables) (lastOf d ds) .next)

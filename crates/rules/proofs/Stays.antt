@@ -1,180 +1,114 @@
--- Which done operations leave every byte as it is. Assumes nothing.
-use mathlib.Core.Path.{_≡_, refl, sym, ap, subst, _∙_}
-use mathlib.Core.Logic.{_↔_}
-use mathlib.Core.Bool.{Bool, true, not}
-use mathlib.Core.List.{List, [], _∷_}
-use Prim.Native.Nat.{ℕ, _≤_}
-use native.Mathlib.Decide.{ℕ-discrete}
+-- What of storage stays of a whole operation: every byte of a buffer that it neither takes nor sets free. Assumes nothing.
+use mathlib.Core.Path.{_≡_, refl, ap, subst, _∙_}
+use mathlib.Core.Bool.{Bool}
+use mathlib.Core.List.{List, [], _∷_, List·Memᴰ, List·Memᴰ·head, List·Memᴰ·tail}
+use Prim.Native.Nat.{ℕ, _<_}
+use native.Mathlib.Decide.{decLt}
 use native.Mathlib.Omega.{arith}
-use lib.ListN.{length, length-take, length-drop, take}
-use lib.Dec.{eqb, leb, leb→le, le→leb, T-not}
-use Rattle.rules.specs.Basics.{Is}
-use Rattle.rules.specs.Tables.{Tables, piece, bufferTotal}
-use Rattle.rules.specs.Bytes.{encode}
-use Rattle.rules.specs.Chain.{Stretch, State, chain, stretches, spans, total, firstLength, lengthOf, reads}
-use Rattle.rules.specs.Sound.{Lent, headerOk, sound, lent}
-use Rattle.rules.specs.Room.{isVacant}
-use Rattle.rules.specs.Build.{Plan, buffersFor}
-use Rattle.rules.specs.Rule.{Wants, want, room, full, firstCode}
-use Rattle.rules.specs.Drop.{dropHere, dropPlan, dropped, dropAfter}
-use Rattle.rules.specs.Keep.{keepAfter}
-use Rattle.rules.specs.Pullup.{pullupAfter, pullupWants}
-use Rattle.rules.specs.Pack.{packAfter, packWants}
-use Rattle.rules.specs.Step.{Operation, Audit, Put, Free, Dup, Cut, Append, Drop, Keep, Pullup, Pack, Length, Read, Show, WireList}
-use Rattle.rules.specs.Step.{Do, rule, stateIn, done, step, next, leftBy}
-use Rattle.rules.specs.After.{at, readsAfter, vacantAfter}
-use Rattle.rules.specs.Takes.{Took}
-use Rattle.rules.specs.Stays.{Still}
-use Rattle.rules.proofs.Logic.{if-T, if-F, if-either, and-0, eq→eqb}
-use Rattle.rules.proofs.Moves.{SoundNow}
-use Rattle.rules.proofs.Build.{Good}
-use Rattle.rules.proofs.Chain.{spans-good}
-use Rattle.rules.proofs.Hang.{stretches-length}
-use Rattle.rules.proofs.Contents.{Fit}
-use Rattle.rules.proofs.Audit.{sound-now}
-use Rattle.rules.proofs.Codes.{Allowed, Other, allowed, first-append, first-named, both-named, no-cause, none-full}
-use Rattle.rules.proofs.After.{at-here, at-there, held-false, reads-length}
-use Rattle.rules.proofs.Takes.{nothing-taken}
-use Rattle.rules.proofs.Calls.{judged-early, reads-ok, takes}
-use Rattle.rules.proofs.Bytes.{AllBytes, header-facts, encode-decode}
-use Rattle.rules.proofs.Step.{after-state, code-is, did, next-refused, sound-within}
+use lib.ListN.{length, getD}
+use lib.Seq.{getD-set-other}
+use Rattle.rules.specs.Basics.{Is, if_then_else_, passing}
+use Rattle.rules.specs.Tables.{Tables, bufferCount, headOf, slipTotal, bufferTotal}
+use Rattle.rules.specs.Chain.{Stretch, State, bytesOf, withTables, withStorage}
+use Rattle.rules.specs.Room.{isUnheld, newBuffers}
+use Rattle.rules.specs.Build.{built, Plan, made, underOld, behindOwn, stored}
+use Rattle.rules.proofs.Logic.{eq→eqb, if-either}
+use Rattle.rules.proofs.Moves.{SoundWith}
+use Rattle.rules.proofs.Build.{Free, Planned, OwnList}
+use Rattle.rules.proofs.Room.{new-buffers-in, passing-in}
+use Rattle.rules.proofs.Contents.{Fit, stored-other}
+use Rattle.rules.proofs.Sizes.{Sizes, made-sizes, new-length}
+use Rattle.rules.proofs.Storage.{wholeOf, heldBytes, Keeps, fit-by, old-keeps, behind-keeps}
+use Rattle.rules.proofs.Takes.{buffersOf}
 
--- ---- nothing is altered or wanted
+-- From S to S′ the length of storage stays, and so does every byte of a buffer that is not one of
+-- the k lowest free, and is not set free: it was free, or is held afterwards.
+pub record StorageStays (S S′ : State) (k : ℕ) : Type 0 where
+  pub as-long : length (S′ .storage) ≡ length (S .storage)
+  pub others : (b : ℕ) → b < bufferTotal (S .tables) → (List·Memᴰ b (newBuffers (S .tables) k) → ⊥)
+      → (0 < bufferCount (S .tables) b → 0 < bufferCount (S′ .tables) b) → heldBytes (S .tables) (S′ .storage) b ≡ heldBytes (S .tables) (S .storage) b
 
--- drop of no bytes replaces no piece
-none-dropped : (Z : List ℕ) (B : ℕ) (T : Tables) (own : Bool) (ds : List ℕ) → Good Z B (stretches T ds) → dropPlan T own ds 0 .more ≡ []
-unfolding dropPlan dropHere stretches
-none-dropped Z B T own [] g = refl
-none-dropped Z B T own (d ∷ ds) g =
-    ap (λ (p : Plan). p .more) (if-F (leb (piece T d .len) 0) _ _ (λ t. (let l = leb→le (piece T d .len) 0 t in omega (arith, g .1))))
+-- storage is as it was
+pub stays-as : (S S′ : State) (k : ℕ) → S′ .storage ≡ S .storage → StorageStays S S′ k
+stays-as S S′ k e = record { as-long = ap length e; others = λ b _ _ _. ap (λ (q : List ℕ). heldBytes (S .tables) q b) e }
 
-module _ (S : State) (h : SoundNow (S .tables)) (f : Fit (S .tables .stock) (bufferTotal (S .tables)) (S .storage)) where
-  -- an operation with nothing to do leaves the state, and wants nothing
-  pub still-stays : (o : Operation) → Still o S → (rule o S .after ≡ S) × (rule o S .wants ≡ want 0 0 0)
-  unfolding rule dropAfter keepAfter pullupAfter pullupWants packAfter packWants
-  still-stays Audit q = (refl, refl)
-  still-stays (Put input) q = absurd q
-  still-stays (Free s) q = absurd q
-  still-stays (Dup s) q = absurd q
-  still-stays (Cut s off n) q = absurd q
-  still-stays (Append a b) q = absurd q
-  still-stays (Drop s n) q = (
-    if-T (eqb n 0) S _ (eq→eqb n 0 q),
-    ap (λ (k : ℕ). want 0 k 0)
-        (ap (λ i. length (dropped (S .tables) s i .more)) q
-        ∙ ap {B = ℕ} length (none-dropped _ _ (S .tables) true (chain (S .tables) s) (spans-good (S .tables) s h))),
-  )
-  still-stays (Keep s n) q =
-      let t = eq→eqb n (lengthOf (S .tables) s) (q ∙ reads-length S h f s) in
-      (if-T (eqb n (lengthOf (S .tables) s)) S _ t, ap (λ (k : ℕ). want 0 k 0) (if-T (eqb n (lengthOf (S .tables) s)) 0 _ t))
-  still-stays (Pullup s n) q =
-      let k = firstLength (spans (S .tables) s) in
-      let t = le→leb n k q in
-      (if-T (leb n k) S _ t, if-T (leb n k) (want 0 0 0) _ t)
-  still-stays (Pack s) q =
-      let k = length (chain (S .tables) s) in
-      let t = le→leb k 1 q in
-      (if-T (leb k 1) S _ t, if-T (leb k 1) (want 0 0 0) _ t)
-  still-stays (Length s) q = (refl, refl)
-  still-stays (Read s off n out) q = (refl, refl)
-  still-stays (Show s n scratch) q = (refl, refl)
-  still-stays (WireList s list) q = (refl, refl)
+-- where new buffers are written every other one keeps its bytes
+pub new-apart : (S : State) (k : ℕ) (xs : List ℕ) → Fit (S .tables .stock) (bufferTotal (S .tables)) (S .storage) → (b : ℕ) → b < bufferTotal (S .tables)
+    → (List·Memᴰ b (newBuffers (S .tables) k) → ⊥)
+    → heldBytes (S .tables) (stored (S .tables .stock) (S .storage) (newBuffers (S .tables) k) xs) b ≡ heldBytes (S .tables) (S .storage) b
+new-apart S k xs f b l n =
+    let T = S .tables in
+    stored-other (T .stock) (isUnheld T) 0 (bufferTotal T) (newBuffers T k) (S .storage) xs (wholeOf (T .stock) b) (new-buffers-in T k) f l (omega arith) n
 
--- ---- and otherwise something is
+-- new buffers are written
+pub stays-new : (S S′ : State) (k : ℕ) (xs : List ℕ) → Fit (S .tables .stock) (bufferTotal (S .tables)) (S .storage)
+    → S′ .storage ≡ stored (S .tables .stock) (S .storage) (newBuffers (S .tables) k) xs → StorageStays S S′ k
+stays-new S S′ k xs f e = record {
+  as-long = ap length e ∙ new-length S k xs f;
+  others = λ b l n _. ap (λ (q : List ℕ). heldBytes (S .tables) q b) e ∙ new-apart S k xs f b l n;
+}
 
-none-took : (w : ℕ) (l : List ℕ) → [] ≡ take w l → w ≤ length l → w ≡ 0
-none-took w l e r = omega (arith, ap {B = ℕ} length e, length-take w l)
+-- of buffers, T₁ takes only the k lowest free of T
+abbrev pub TakesOnly : Tables → Tables → ℕ → Type 0
+TakesOnly T T₁ k = (b : ℕ) → (List·Memᴰ b (newBuffers T k) → ⊥) → 0 < bufferCount T₁ b → 0 < bufferCount T b
 
--- where the tables stay nothing is taken, so nothing was wanted
-none-wanted : (T T′ : Tables) (w : Wants) (t : ℕ) → SoundNow T → Took T T′ w t → T′ ≡ T → (w .slips ≡ 0) × (w .pieces ≡ 0) × (w .buffers ≡ 0)
-none-wanted T T′ w t h k e =
-    let n = nothing-taken T t h in
-    let r = subst (λ X. Took T X w t) e k in (
-      none-took (w .slips) _ (sym (n .slips) ∙ r .slips) (r .slips-room),
-      none-took (w .pieces) _ (sym (n .pieces) ∙ r .pieces) (r .pieces-room),
-      none-took (w .buffers) _ (sym (n .buffers) ∙ r .buffers) (r .buffers-room),
-    )
+-- then references are released
+pub stays-then : {S S₁ S′ : State} {k : ℕ} → Sizes (S .tables) (S₁ .tables) → TakesOnly (S .tables) (S₁ .tables) k → StorageStays S S₁ k → Keeps S₁ S′
+    → StorageStays S S′ k
+stays-then {S} {S₁} {S′} z o w q = record {
+  as-long = q .as-long ∙ w .as-long;
+  others = λ b l n h.
+      subst (λ (Z : List ℕ). bytesOf Z (S′ .storage) (wholeOf Z b) ≡ bytesOf Z (S₁ .storage) (wholeOf Z b)) (z .stock-kept)
+      (q .others b (omega (arith, z .counts-size)) (λ u. h (o b n u)))
+      ∙ w .others b l n (λ u. omega (arith, h u, q .fell b));
+}
 
--- each stretch has a byte
-count-total : (Z : List ℕ) (B : ℕ) (xs : List Stretch) → Good Z B xs → length xs ≤ total xs
-unfolding total
-count-total Z B [] g = omega arith
-count-total Z B (x ∷ xs) g = omega (arith, g .1, count-total Z B xs (g .3))
+-- where it may be that nothing changes
+pub maybe-stays : (S X : State) (b : Bool) (k : ℕ) → StorageStays S X k → StorageStays S (if b then S else X) k
+maybe-stays S X b k h = if-either (λ (Y : State). StorageStays S Y k) b S X (λ _. stays-as S S k refl) (λ _. h)
 
-module _ (S : State) (h : SoundNow (S .tables)) (f : Fit (S .tables .stock) (bufferTotal (S .tables)) (S .storage)) where
-  -- a done operation that leaves the state had nothing to do
-  pub stays-still : (o : Operation) → Allowed (rule o S) (S .tables) → rule o S .after ≡ S → Still o S
-  unfolding rule readsAfter vacantAfter pullupWants packWants
-  stays-still Audit a e = tt
-  stays-still (Put input) a e = (let w = none-wanted _ _ _ _ h (takes (Put input) S h a) (ap (λ (X : State). X .tables) e) in omega arith)
-  stays-still (Free s) a e =
-      let v = reads-ok (Free s) S h f a .vacancy s ∙ at-here s s true (isVacant (S .tables)) refl in
-      let n = first-named (S .tables) s _ (a .early) in
-      T-not true (subst (λ b. Is (not b)) (held-false (S .tables) s (n .1) ∙ sym (ap (λ (X : State). isVacant (X .tables) s) e) ∙ v) tt) tt
-  stays-still (Dup s) a e = (let w = none-wanted _ _ _ _ h (takes (Dup s) S h a) (ap (λ (X : State). X .tables) e) in omega arith)
-  stays-still (Cut s off n) a e = (let w = none-wanted _ _ _ _ h (takes (Cut s off n) S h a) (ap (λ (X : State). X .tables) e) in omega arith)
-  stays-still (Append x y) a e =
-      let n = both-named (S .tables) x y (a .early) in
-      let v = reads-ok (Append x y) S h f a .vacancy y ∙ at-there x y _ (at y true (isVacant (S .tables))) (λ q. n .2 (sym q))
-      ∙ at-here y y true (isVacant (S .tables)) refl in
-      T-not true (subst (λ b. Is (not b)) (held-false (S .tables) y (n .1 .1) ∙ sym (ap (λ (X : State). isVacant (X .tables) y) e) ∙ v) tt) tt
-  stays-still (Drop s n) a e =
-      let c = simp no-cause at (a .early) in
-      let r = sym (ap (λ (X : State). reads X s) e) ∙ reads-ok (Drop s n) S h f a .bytes s ∙ at-here s s _ (reads S) refl in
-      omega (arith, ap {B = ℕ} length r, length-drop n (reads S s), reads-length S h f s)
-  stays-still (Keep s n) a e =
-      let c = simp no-cause at (a .early) in
-      let r = sym (ap (λ (X : State). reads X s) e) ∙ reads-ok (Keep s n) S h f a .bytes s ∙ at-here s s _ (reads S) refl in
-      omega (arith, ap {B = ℕ} length r, length-take n (reads S s), reads-length S h f s)
-  stays-still (Pullup s n) a e =
-      let w = none-wanted _ _ _ _ h (takes (Pullup s n) S h a) (ap (λ (X : State). X .tables) e) in
-      if-either (λ (x : Wants). x .buffers ≡ 0 → n ≤ firstLength (spans (S .tables) s)) (leb n (firstLength (spans (S .tables) s))) _ _
-      (λ t _. leb→le _ _ t) (λ _ z. absurd (omega arith)) (w .2)
-  stays-still (Pack s) a e =
-      let w = none-wanted _ _ _ _ h (takes (Pack s) S h a) (ap (λ (X : State). X .tables) e) in
-      let k = buffersFor (lengthOf (S .tables) s) in
-      if-either (λ (x : Wants). x .buffers ≡ 0 → length (chain (S .tables) s) ≤ 1) (leb (length (chain (S .tables) s)) 1) (want 0 0 0) (want 0 k k)
-      (λ t _. leb→le _ _ t)
-      (λ _ z. omega (arith, count-total _ _ (spans (S .tables) s) (spans-good (S .tables) s h), stretches-length (S .tables) (chain (S .tables) s))) (w .2)
-  stays-still (Length s) a e = tt
-  stays-still (Read s off n out) a e = tt
-  stays-still (Show s n scratch) a e = tt
-  stays-still (WireList s list) a e = tt
+-- ---- which buffers are taken
 
--- ---- in bytes
+-- a buffer on which no new piece lies keeps its count
+built-count : (T : Tables) (fs : List ℕ) (xs : List Stretch) (tail b : ℕ) → (List·Memᴰ b (buffersOf xs) → ⊥)
+    → bufferCount (built T fs xs tail) b ≡ bufferCount T b
+unfolding built
+built-count T fs [] tail b n = refl
+built-count T [] (x ∷ xs) tail b n = refl
+built-count T (f ∷ fs) (x ∷ xs) tail b n =
+    getD-set-other (built T fs xs tail .counts) (x .buffer) b _ 0 (λ e. n (List·Memᴰ·head e)) ∙ built-count T fs xs tail b (λ m. n (List·Memᴰ·tail m))
 
--- A call with nothing to do leaves every byte of pool and storage.
-pub still-next : (o : Operation) (m : Lent) → AllBytes (m .pool) → Still o (stateIn m) → next (Do o) m ≡ m
-unfolding sound done
-still-next o m b q =
-    elim (ℕ-discrete (step (Do o) m .code) 0) [
-      | yes e ↦ (
-          let d = did o m e in
-          let t = d .was-sound in
-          let k = header-facts m (and-0 (headerOk m) _ t) in
-          ap leftBy (d .result)
-          ∙ ap (λ (X : State). lent (encode (X .tables)) (X .storage)) (still-stays (stateIn m) (sound-now m t) (sound-within m t .storage-fits) o q .0)
-          ∙ ap (λ (p : List ℕ). lent p (m .storage)) (encode-decode (m .pool) b (k .is-marked) (k .pool-long)))
-      | no e ↦ next-refused (Do o) m e
+-- from T₀, which counts buffers as T does: new pieces for xs take no buffer but the k lowest free
+pub built-only : (T T₀ : Tables) (fs : List ℕ) (xs : List Stretch) (tail k : ℕ) → T₀ .counts ≡ T .counts
+    → passing (isUnheld T) (buffersOf xs) ≡ newBuffers T k → TakesOnly T (built T₀ fs xs tail) k
+built-only T T₀ fs xs tail k c e b n u =
+    elim (decLt 0 (bufferCount T b)) [
+      | yes l ↦ l
+      | no l ↦ (
+          let z : Is (isUnheld T b) = eq→eqb (bufferCount T b) 0 (omega arith) in
+          let out : List·Memᴰ b (buffersOf xs) → ⊥ = λ m. n (subst (List·Memᴰ b) e (passing-in (isUnheld T) b (buffersOf xs) z m)) in
+          omega (arith, built-count T₀ fs xs tail b out, ap (λ (q : List ℕ). getD q b 0) c))
     ]
 
--- A call with nothing to do is never "full" on a sound pool.
-pub still-room : (o : Operation) (m : Lent) → Is (sound m) → Still o (stateIn m) → Other (step (Do o) m .code)
-still-room o m t q =
-    let S = stateIn m in
-    let js = rule o S .judged in
-    let w = still-stays S (sound-now m t) (sound-within m t .storage-fits) o q .1 in
-    let r = room (S .tables) in
-    let z : firstCode (full (rule o S .wants) r) ≡ 0 = ap (λ x. firstCode (full x r)) w ∙ none-full r in
-    subst Other (sym (code-is o m t ∙ first-append js (full (rule o S .wants) r)))
-    (if-either Other (eqb (firstCode js) 0) (firstCode (full (rule o S .wants) r)) (firstCode js) (λ _. omega arith) (λ _. judged-early o S))
+pub made-only : {T : Tables} (p : Plan) (fs : List ℕ) (k : ℕ) → Planned T p → passing (isUnheld T) (buffersOf (p .more)) ≡ newBuffers T k
+    → TakesOnly T (made p fs) k
+made-only {T} p fs k h e = built-only T (p .base) fs (p .more) (p .tail) k (h .still .counts-still) e
 
--- A done call leaves every byte just where it has nothing to do.
-pub still-exact : (o : Operation) (m : Lent) → AllBytes (m .pool) → step (Do o) m .code ≡ 0 → (next (Do o) m ≡ m) ↔ Still o (stateIn m)
-still-exact o m b e =
-    let d = did o m e in
-    let t = d .was-sound in
-    let S = stateIn m in (
-      λ q. stays-still S (sound-now m t) (sound-within m t .storage-fits) o (allowed _ _ (d .allowed-code)) (sym (after-state o m e) ∙ ap stateIn q),
-      still-next o m b,
-    )
+-- ---- where a chain is hung
+
+-- new buffers are written, and a new chain on them comes under a slip
+pub old-stays : (S : State) (xs : List ℕ) (p : Plan) (fs : List ℕ) (s k : ℕ) → Planned (S .tables) p → Free (S .tables) fs → s < slipTotal (S .tables)
+    → Fit (S .tables .stock) (bufferTotal (S .tables)) (S .storage) → passing (isUnheld (S .tables)) (buffersOf (p .more)) ≡ newBuffers (S .tables) k
+    → StorageStays S (underOld (withStorage S (stored (S .tables .stock) (S .storage) (newBuffers (S .tables) k) xs)) p fs s) k
+old-stays S xs p fs s k h r l f e =
+    let T = S .tables in
+    let S₁ = withStorage S (stored (T .stock) (S .storage) (newBuffers T k) xs) in
+    stays-then (made-sizes p fs h) (made-only p fs k h e) (stays-new S (withTables S₁ (made p fs)) k xs f refl)
+    (old-keeps S₁ p fs s h r l (new-length S k xs f ∙ f))
+
+-- no buffer is written, and from the tables T₁ a link goes behind own pieces
+pub behind-stays : (S : State) (T₁ : Tables) (s m : ℕ) (own : List ℕ) → Sizes (S .tables) T₁ → TakesOnly (S .tables) T₁ 0 → s < slipTotal T₁
+    → OwnList T₁ (headOf T₁ s) own → SoundWith (m ∷ []) T₁ → Fit (S .tables .stock) (bufferTotal (S .tables)) (S .storage)
+    → StorageStays S (behindOwn (withTables S T₁) s own m) 0
+behind-stays S T₁ s m own z t l o h f =
+    stays-then z t (stays-as S (withTables S T₁) 0 refl) (behind-keeps (withTables S T₁) s m own l o h (fit-by (S .storage) z f))

@@ -1,34 +1,38 @@
 -- Any call on any bytes: a no alters nothing, a done call is its rule on bytes, and soundness is kept. Assumes nothing.
 use mathlib.Core.Path.{_≡_, refl, sym, ap, ap₂, subst, _∙_}
 use mathlib.Core.Logic.{_≢_, _↔_, ⊎-elim}
-use mathlib.Core.List.{List, [], _∷_}
+use mathlib.Core.Bool.{not}
+use mathlib.Core.List.{List, [], _∷_, List·Memᴰ}
 use Prim.Native.Nat.{ℕ, _≤_, _<_}
 use native.Mathlib.Decide.{ℕ-discrete}
 use native.Mathlib.Omega.{arith}
 use lib.ListN.{length, length-replicate}
-use lib.Dec.{eqb, eqb→eq, leb, le→leb}
+use lib.Dec.{eqb, eqb→eq, leb, le→leb, T-not}
 use Rattle.kinds.specs.declared.Refusal.{Refusal}
 use Rattle.kinds.specs.declared.Refusal.the-variants.{Counts, Torn}
 use Rattle.kinds.specs.Limits.{mostBuffers, mostPieces, mostSlips, counted}
 use Rattle.kinds.specs.Refusal.{refusalCode}
-use Rattle.rules.specs.Basics.{Is}
+use Rattle.rules.specs.Basics.{Is, member}
 use Rattle.rules.specs.Layout.{storageLength}
 use Rattle.rules.specs.Tables.{Tables, slipTotal, pieceTotal, bufferTotal, blank, freshTables, bufferCount}
 use Rattle.rules.specs.Bytes.{stockIn, decode, encode}
 use Rattle.rules.specs.Chain.{State, reads, stateOf}
 use Rattle.rules.specs.Sound.{Lent, headerOk, soundTables, sound, lent, countsOk}
-use Rattle.rules.specs.Room.{isVacant}
+use Rattle.rules.specs.Room.{isVacant, isUnheld, newBuffers}
 use Rattle.rules.specs.Rule.{codeIn}
 use Rattle.rules.specs.Open.{openable}
 use Rattle.rules.specs.Step.{Operation, Call, Open, Do, rule, lentOut, Result, refused, stateIn, done, perform, step, next, lentTo, leftBy}
 use Rattle.rules.specs.After.{readsAfter, vacantAfter}
-use Rattle.rules.specs.Takes.{Took, target}
+use Rattle.rules.specs.Takes.{Took, target, tookBuffers}
 use Rattle.rules.proofs.Logic.{if-T, if-F, if-either, and-intro, and-0, eq→eqb, is-dec, and-parts}
 use Rattle.rules.proofs.Moves.{SoundNow}
 use Rattle.rules.proofs.Audit.{tables-pass, sound-now, fresh-sound}
-use Rattle.rules.proofs.Codes.{allowed, first-listed}
-use Rattle.rules.proofs.After.{heldBytes}
-use Rattle.rules.proofs.Calls.{held-stays, reads-ok, rule-sizes, rule-sound, rule-storage, takes}
+use Rattle.rules.proofs.Codes.{Allowed, allowed, first-listed}
+use Rattle.rules.proofs.Storage.{heldBytes}
+use Rattle.rules.proofs.After.{held-not-new}
+use Rattle.rules.proofs.Takes.{in-member}
+use Rattle.rules.proofs.Calls.{reads-ok, rule-bytes, rule-sizes, rule-sound, rule-storage, takes}
+use Rattle.rules.proofs.Writes.{unwritten}
 use Rattle.rules.proofs.Bounds.{small}
 use Rattle.rules.proofs.Bytes.{Sized, header-facts, decode-slips, decode-pieces, decode-counts, decode-encode, encode-header, and-is, eqb-is, InRange, counts-facts}
 
@@ -170,15 +174,16 @@ sound-within m t =
     }
 
 -- an operation that is done leaves the sizes
-pub rule-within : (o : Operation) (S : State) → Within (S .tables) (S .storage) → Within (rule o S .after .tables) (rule o S .after .storage)
-rule-within o S w =
+pub rule-within : (o : Operation) (S : State) → SoundNow (S .tables) → Allowed (rule o S) (S .tables) → Within (S .tables) (S .storage)
+    → Within (rule o S .after .tables) (rule o S .after .storage)
+rule-within o S h a w =
     let z = rule-sizes o S in
     let b = z .counts-size in
     let p = z .pieces-size in
     let s = z .slips-size in
     record {
       counts = omega (arith, w .counts);
-      storage-fits = rule-storage o S (w .storage-fits) ∙ w .storage-fits ∙ ap₂ storageLength (sym (z .stock-kept)) (sym b);
+      storage-fits = rule-storage o S h (w .storage-fits) a ∙ w .storage-fits ∙ ap₂ storageLength (sym (z .stock-kept)) (sym b);
       stock-is = z .stock-kept ∙ w .stock-is ∙ ap (λ (n : ℕ). n ∷ []) (sym b);
     }
 
@@ -206,8 +211,10 @@ unfolding done
 after-state o m e =
     let d = did o m e in
     let S = stateIn m in
-    let h = rule-sound o S (sound-now m (d .was-sound)) (allowed (rule o S) (S .tables) (d .allowed-code)) in
-    let w = rule-within o S (sound-within m (d .was-sound)) in
+    let t = sound-now m (d .was-sound) in
+    let a = allowed (rule o S) (S .tables) (d .allowed-code) in
+    let h = rule-sound o S t a in
+    let w = rule-within o S t a (sound-within m (d .was-sound)) in
     let back : decode (encode (rule o S .after .tables)) ≡ rule o S .after .tables = decode-encode (rule o S .after .tables) (within-sized h w) in
     ap (λ (x : Result). stateIn (leftBy x)) (d .result) ∙ (λ i. stateOf (back i) (rule o S .after .storage))
 
@@ -219,8 +226,10 @@ unfolding done
 keeps-done o m e =
     let d = did o m e in
     let S = stateIn m in
-    let h = rule-sound o S (sound-now m (d .was-sound)) (allowed (rule o S) (S .tables) (d .allowed-code)) in
-    let w = rule-within o S (sound-within m (d .was-sound)) in
+    let t = sound-now m (d .was-sound) in
+    let a = allowed (rule o S) (S .tables) (d .allowed-code) in
+    let h = rule-sound o S t a in
+    let w = rule-within o S t a (sound-within m (d .was-sound)) in
     subst (λ (x : Result). Is (sound (leftBy x))) (sym (d .result)) (encode-sound (rule o S .after .tables) (rule o S .after .storage) h w)
 
 open-keeps : (B P S : ℕ) (m : Lent) → Is (sound m) → Is (sound (next (Open B P S) m))
@@ -271,10 +280,35 @@ slips-took o m e =
 
 -- ---- bytes that stay
 
--- A done operation leaves every byte of a buffer that was held.
-pub storage-stays : (o : Operation) (m : Lent) → step (Do o) m .code ≡ 0 → (b : ℕ) → b < bufferTotal (decode (m .pool)) → 0 < bufferCount (decode (m .pool)) b
+-- A done operation leaves every byte of a buffer that is held before and after it, or free before and after it.
+pub bytes-stay : (o : Operation) (m : Lent) → step (Do o) m .code ≡ 0 → (b : ℕ) → b < bufferTotal (decode (m .pool))
+    → isUnheld (decode (next (Do o) m .pool)) b ≡ isUnheld (decode (m .pool)) b
     → heldBytes (decode (m .pool)) (next (Do o) m .storage) b ≡ heldBytes (decode (m .pool)) (m .storage) b
-storage-stays o m e b l h =
+bytes-stay o m e b l u =
+    let d = did o m e in
+    let S = stateIn m in
+    let T = S .tables in
+    subst (λ (X : State). isUnheld (X .tables) b ≡ isUnheld T b → heldBytes T (X .storage) b ≡ heldBytes T (S .storage) b) (sym (after-state o m e))
+    (rule-bytes o S (sound-now m (d .was-sound)) (sound-within m (d .was-sound) .storage-fits) (allowed (rule o S) T (d .allowed-code)) b l) u
+
+-- Release writes no byte: the next three lean on that (`Writes`).
+not-new-stays : (o : Operation) (m : Lent) → step (Do o) m .code ≡ 0 → (b : ℕ) → b < bufferTotal (decode (m .pool))
+    → (List·Memᴰ b (newBuffers (decode (m .pool)) (rule o (stateIn m) .wants .buffers)) → ⊥)
+    → heldBytes (decode (m .pool)) (next (Do o) m .storage) b ≡ heldBytes (decode (m .pool)) (m .storage) b
+not-new-stays o m e b l n =
     let d = did o m e in
     ap (λ (x : State). heldBytes (decode (m .pool)) (x .storage) b) (after-state o m e)
-    ∙ held-stays (stateIn m) (sound-within m (d .was-sound) .storage-fits) b l h o
+    ∙ unwritten o (stateIn m) (sound-within m (d .was-sound) .storage-fits) b l n
+
+-- a done operation leaves every byte of a buffer that was held
+pub storage-stays : (o : Operation) (m : Lent) → step (Do o) m .code ≡ 0 → (b : ℕ) → b < bufferTotal (decode (m .pool)) → 0 < bufferCount (decode (m .pool)) b
+    → heldBytes (decode (m .pool)) (next (Do o) m .storage) b ≡ heldBytes (decode (m .pool)) (m .storage) b
+storage-stays o m e b l h = not-new-stays o m e b l (held-not-new (decode (m .pool)) (rule o (stateIn m) .wants .buffers) b h)
+
+-- and of one that it does not take, held or free
+pub untaken-stays : (o : Operation) (m : Lent) → step (Do o) m .code ≡ 0 → (b : ℕ) → b < bufferTotal (decode (m .pool))
+    → Is (not (member b (tookBuffers (decode (m .pool)) (decode (next (Do o) m .pool)))))
+    → heldBytes (decode (m .pool)) (next (Do o) m .storage) b ≡ heldBytes (decode (m .pool)) (m .storage) b
+untaken-stays o m e b l n =
+    not-new-stays o m e b l (λ k. T-not (member b (tookBuffers (decode (m .pool)) (decode (next (Do o) m .pool)))) n
+    (in-member b _ (subst (List·Memᴰ b) (sym (slips-took o m e .buffers)) k)))

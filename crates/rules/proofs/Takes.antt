@@ -17,7 +17,7 @@ use Rattle.rules.specs.Build.{laid}
 use Rattle.rules.specs.Rule.{Rule, Wants, want, room}
 use Rattle.rules.specs.Recount.{reached}
 use Rattle.rules.specs.Takes.{tookSlips, Took}
-use Rattle.rules.proofs.Logic.{if-either, and-0, and-1, or-cases, eq→eqb, not-zero, bit-pos, any-at}
+use Rattle.rules.proofs.Logic.{if-either, and-0, and-1, or-cases, or-left, or-right, eq→eqb, not-zero, bit-pos, any-at}
 use Rattle.rules.proofs.Sums.{sumTo-pos}
 use Rattle.rules.proofs.Moves.{SoundBy, SoundNow, lies, buffer-pos}
 use Rattle.rules.proofs.Room.{AllIn, all-free, take-in, NoneOf, none-not, passing-all, passing-none, passing-back, took-are}
@@ -59,6 +59,11 @@ unfolding dropOut
 dropOut-none f [] n k = tt
 dropOut-none f (x ∷ xs) n k = if-either (λ (q : List Stretch). NoneOf f (buffersOf q)) (leb (x .len) n) _ _ (λ _. dropOut-none f xs (n - x .len) (k .1)) (λ _. k)
 
+pub drop-none : (f : ℕ → Bool) (k : ℕ) (xs : List Stretch) → NoneOf f (buffersOf xs) → NoneOf f (buffersOf (drop k xs))
+drop-none f zero xs n = n
+drop-none f (suc k) [] n = tt
+drop-none f (suc k) (x ∷ xs) n = drop-none f k xs (n .1)
+
 -- the rest of pieces in use
 pub used-drop : (T : Tables) (k : ℕ) (l : List ℕ) → AllUsed T l → AllUsed T (drop k l)
 used-drop T zero l u = u
@@ -66,6 +71,12 @@ used-drop T (suc k) [] u = tt
 used-drop T (suc k) (d ∷ l) u = used-drop T k l (u .1)
 
 -- ---- what is in use is on a slip's chain
+
+pub in-member : (d : ℕ) (l : List ℕ) → List·Memᴰ d l → Is (member d l)
+unfolding member
+in-member d [] m = absurd (List·Memᴰ·not-nil m)
+in-member d (x ∷ l) m =
+    ⊎-elim (λ e. or-left (eqb x d) (member d l) (eq→eqb x d (sym e))) (λ z. or-right (eqb x d) (member d l) (in-member d l z)) (List·Memᴰ·cases-cons m)
 
 member-in : (d : ℕ) (l : List ℕ) → Is (member d l) → List·Memᴰ d l
 unfolding member

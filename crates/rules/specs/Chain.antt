@@ -1,5 +1,5 @@
 -- Chains: following next, the pieces that a slip's chain has, their stretches, and their bytes.
-use mathlib.Core.Bool.{_&&_}
+use mathlib.Core.Bool.{_&&_, Bool}
 use mathlib.Core.List.{List, [], _∷_, _++_}
 use Prim.Native.Nat.{ℕ, zero, suc, _+_, _-_, min}
 use lib.ListN.{take, drop}
@@ -33,6 +33,10 @@ ownPieces (suc k) T (suc d) = if eqb (piece T d .count) 1 then d ∷ ownPieces k
 -- the own pieces of a slip, by the counts at entry
 abbrev pub ownOf : Tables → ℕ → List ℕ
 ownOf T s = ownPieces (pieceTotal T) T (headOf T s)
+
+-- piece d is own where all before it are and its count is 1
+abbrev pub ownAt : Tables → Bool → ℕ → Bool
+ownAt T own d = own && eqb (piece T d .count) 1
 
 -- A stretch is what a piece covers: len bytes of a buffer, from offset on.
 pub record Stretch : Type 0 where

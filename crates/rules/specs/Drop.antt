@@ -1,5 +1,5 @@
 -- drop s, n: the first n bytes go.
-use mathlib.Core.Bool.{Bool, true, _&&_}
+use mathlib.Core.Bool.{Bool, true}
 use mathlib.Core.List.{List, [], _∷_}
 use Prim.Native.Nat.{ℕ, zero, suc, _+_, _-_}
 use lib.ListN.{length, drop}
@@ -7,7 +7,7 @@ use lib.Dec.{ltb, eqb, leb}
 use Rattle.kinds.specs.declared.Refusal.the-variants.{Slip, Range}
 use Rattle.rules.specs.Basics.{if_then_else_}
 use Rattle.rules.specs.Tables.{Piece, Tables, piece, setPiece, withPlace}
-use Rattle.rules.specs.Chain.{State, stretch, chain, lengthOf, reads, spans, overlaps, splits, ownOf}
+use Rattle.rules.specs.Chain.{State, stretch, chain, lengthOf, reads, spans, overlaps, splits, ownOf, ownAt}
 use Rattle.rules.specs.Room.{freePieces}
 use Rattle.rules.specs.Release.{shared}
 use Rattle.rules.specs.Build.{Plan, plain, underOld}
@@ -25,10 +25,6 @@ dropHere T own d (suc r) =
     if own
     then record { base = setPiece (shared T (suc d)) d (shorter (piece (shared T (suc d)) d) (suc r)); more = []; tail = suc d }
     else record { base = shared T (piece T d .next); more = stretch (shorter (piece T d) (suc r)) ∷ []; tail = piece T d .next }
-
--- piece d is own where all before it are and its count is 1
-abbrev pub ownAt : Tables → Bool → ℕ → Bool
-ownAt T own d = own && eqb (piece T d .count) 1
 
 -- what stays of the pieces ds without their first n bytes; own: all before are own
 unfoldable pub dropPlan : Tables → Bool → List ℕ → ℕ → Plan

@@ -33,7 +33,7 @@ pub mod After
 pub mod Takes
 pub mod Answers
 pub mod Lists
-pub mod Stays
+pub mod Still
 pub mod Fills
 pub mod Places
 pub mod Morning

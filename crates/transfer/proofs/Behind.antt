@@ -11,9 +11,8 @@ use lib.Dec.{ltb, ltb→lt}
 use Rattle.rules.specs.Basics.{Is, if_then_else_}
 use Rattle.rules.specs.Layout.{storageLength}
 use Rattle.rules.specs.Tables.{Tables, piece, pieceTotal, bufferTotal}
-use Rattle.rules.specs.Chain.{total, contents}
+use Rattle.rules.specs.Chain.{ownAt, total, contents}
 use Rattle.rules.specs.Sound.{linkOk, SoundTables}
-use Rattle.rules.specs.Drop.{ownAt}
 use Rattle.rules.proofs.Logic.{if-either, not-less}
 use Rattle.rules.proofs.Contents.{dropOut-contents}
 use Rattle.chain.specs.declared.Spot.{Spot}

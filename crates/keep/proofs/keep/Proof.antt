@@ -144,8 +144,8 @@ module _ (c : tie.After-own-part) where
         run = c .own-part .ensures ∙ ap (λ (l : ℕ). ownPart (tables (at here)) l (z .args .n)) (entry (at here) .link-is);
       }
 
-shorten-requires : tie.Need-shorten-requires
-shorten-requires c κs =
+trim-end-requires : tie.Need-trim-end-requires
+trim-end-requires c κs =
     let t = c .before .before in
     let w = seen (t .before .before) in
     (w .opened .shaped, last-below w, last-long w (t .if4 .taken))
@@ -156,7 +156,7 @@ hang-requires c κs =
     let t = d .before .before .before in
     let f = t .before .before in
     let w = seen f in
-    (d .shorten .ensures .shaped, below (at (here f)), last-below w, omega arith, short-hangable w (t .if4 .taken) (d .shorten .ensures))
+    (d .trim-end .ensures .shaped, below (at (here f)), last-below w, omega arith, short-hangable w (t .if4 .taken) (d .trim-end .ensures))
 
 done-requires-2 : tie.Need-done-requires-2
 done-requires-2 c κs =
@@ -179,7 +179,7 @@ returns-4 c =
     let z = start e in
     let all = t .if4 .taken in (
       λ st. keep-done (z .args .pool .now) st (z .args .s .0) (z .args .n) (named-here e) (has (ranged (here f))) (part-only (here f)) (omega (arith, ap length (no-others w all))) (c .done2 .ensures)
-          (λ i. omega (arith, b .slice-known3 .given i)) (short-after w all st (d .shorten .ensures) (g .hang .ensures)),
+          (λ i. omega (arith, b .slice-known3 .given i)) (short-after w all st (d .trim-end .ensures) (g .hang .ensures)),
       rw (c .done2 .ensures),
     )
 
@@ -306,7 +306,7 @@ keep-spec =
     same-length-3
     returns-3
     own-part-requires
-    shorten-requires
+    trim-end-requires
     hang-requires
     done-requires-2
     same-length-4

@@ -9,10 +9,10 @@ use Rattle.rules.specs.Build.{Plan}
 use Rattle.tables.proofs.Laws.{whole, total-pieces}
 use Rattle.chain.proofs.Links.{InUse, link-leads}
 use Rattle.build.specs.Clone.{Copyable}
-use Rattle.build.proofs.Laws.{opened-piece, opened-sharable, opened-copyable}
+use Rattle.build.proofs.Laws.{opened-sharable, opened-copyable}
 use Rattle.build.proofs.Line.{freeFrom, link-fits}
 use Rattle.rest.specs.Rest.{restFrom}
-use Rattle.rest.proofs.Rest.{copyPlan, rest-none, rest-border, rest-own, rest-copy, made-plain, made-one, one-free}
+use Rattle.rest.proofs.Rest.{copyPlan, rest-none, rest-border, rest-own, rest-copy, made-plain, made-one, one-free, share-place, short-done}
 use Rattle.rest.proofs.settle.Statement.{statement}
 use Rattle.rest.proofs.settle.Tie as tie
 
@@ -62,31 +62,42 @@ returns-2 c =
 sub-clone-rest : tie.Need-sub-clone-rest
 sub-clone-rest c = search needs
 
+share-requires-2 : tie.Need-share-requires-2
+share-requires-2 c κs =
+    let z = c .before .before .before .before .before in
+    (z .pre .0 .0 .shaped, opened-sharable (z .pre .0 .0) (z .args .link) (z .pre .0 .1))
+
 cast-shorten : tie.Need-cast-shorten
 cast-shorten c =
-    let i = c .before .before .before in
+    let i = c .before .before .before .before .before .before .before in
     let p = place (i .before .before) (i .if1 .left) in
     omega arith
 
 shorten-requires : tie.Need-shorten-requires
 shorten-requires c κs =
-    let i = c .before .before .before in
+    let s = c .before .before .before in
+    let i = s .before .before .before .before in
     let z = i .before .before in
-    let o = z .pre .0 .0 in
     let p = place z (i .if1 .left) in
-    ((o .shaped, omega (arith, total-pieces (whole (o .shaped))), opened-piece o (z .args .link - 1)), (omega arith, omega arith))
+    let (o, l) = share-place (decode (z .args .pool .now)) (z .args .link) (i .if1 .left) (p .below) (s .share2 .ensures) in (
+      (s .share2 .ensures .shaped, omega (arith, p .below, total-pieces (whole (z .pre .0 .0 .shaped)))),
+      (omega (arith, p .inside), omega (arith, p .inside, p .small)),
+    )
 
 same-length-2 : tie.Need-same-length-2
 same-length-2 c = search needs
 
 returns-3 : tie.Need-returns-3
 returns-3 c =
-    let t = c .before .before .before .before in
+    let w = c .before .before in
+    let s = w .before .before .before .before in
+    let t = s .before .before in
     let j = t .before in
     let i = j .before in
     let z = i .before .before in
     let a = z .args in
-    made-plain (freeOf z) (planOf z) (rest-own (decode (a .pool .now)) (a .own) (a .link) (a .into) (i .if1 .left) (j .if2 .left) (t .if3 .taken)) (c .before .before .shorten .ensures)
+    made-plain (freeOf z) (planOf z) (rest-own (decode (a .pool .now)) (a .own) (a .link) (a .into) (i .if1 .left) (j .if2 .left) (t .if3 .taken))
+    (short-done (decode (a .pool .now)) (a .link) (a .into) (i .if1 .left) (s .share2 .ensures) (w .shorten .ensures))
 
 next-free-piece-requires : tie.Need-next-free-piece-requires
 next-free-piece-requires c κs = search needs
@@ -134,6 +145,7 @@ settle-spec =
     same-length
     returns-2
     sub-clone-rest
+    share-requires-2
     cast-shorten
     shorten-requires
     same-length-2
