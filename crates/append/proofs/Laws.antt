@@ -14,7 +14,7 @@ use Rattle.kinds.specs.declared.Outcome.the-variants.{Done, Refused}
 use Rattle.rules.specs.Basics.{Is, if_then_else_}
 use Rattle.rules.specs.Tables.{Tables, slip, headOf, vacant, setSlip}
 use Rattle.rules.specs.Bytes.{decode}
-use Rattle.rules.specs.Chain.{State, ownOf, withTables}
+use Rattle.rules.specs.Chain.{State, withTables}
 use Rattle.rules.specs.Sound.{lent}
 use Rattle.rules.specs.Room.{freePieces}
 use Rattle.rules.specs.Rule.{_⇐_, firstCode, unnamed, want, noView}
@@ -22,9 +22,7 @@ use Rattle.rules.specs.Append.{notOwn, oneEmpty, joined, appendAfter}
 use Rattle.rules.specs.Step.{Append, rule, stateIn, perform}
 use Rattle.rules.proofs.Logic.{if-T, if-F, eq→eqb, or-left, or-right, or-cases}
 use Rattle.rules.proofs.Codes.{first-yes, first-no, first-none}
-use Rattle.rules.proofs.Sizes.{behind-storage}
 use Rattle.rules.proofs.Writes.{joined-storage}
-use Rattle.rules.proofs.Bounds.{small}
 use Rattle.rules.proofs.Bytes.{AllBytes}
 use Rattle.layout.specs.declared.Shape.{Shape}
 use Rattle.tables.specs.Shape.{Holds}
