@@ -30,7 +30,7 @@ releaseIn-tables (suc k) S (suc d) =
     let T = S .tables in
     if-either (λ (X : State). X .tables ≡ releaseIn (suc k) (bare T) (suc d) .tables) _ _ _
     (λ t. ap (λ (X : State). X .tables) (sym (if-T (another T d) (bare (lowered T d)) (releaseIn k (freed (bare T) d) (piece T d .next)) t)))
-    (λ t. releaseIn-tables k (freed S d) (piece T d .next)
+    (λ t. releaseIn-tables k (freed S d) (piece T d .next) ∙ sym (releaseIn-tables k (freed (bare T) d) (piece T d .next))
     ∙ ap (λ (X : State). X .tables) (sym (if-F (another T d) (bare (lowered T d)) (releaseIn k (freed (bare T) d) (piece T d .next)) t)))
 
 pub release-tables : (S : State) (n : ℕ) → release S n .tables ≡ released (S .tables) n
@@ -160,7 +160,7 @@ stepped-left (suc k) {rank} {fl} {O} {m} T d S b e =
       others = fl;
       sound = free-move d (last-one T d (held-pos d S) t) S;
       below = λ x q. omega (arith, S .falls d x q);
-      is = sym (ap (λ (X : State). X .tables) (if-F (another T d) (bare (lowered T d)) more t)) ∙ e;
+      is = sym (releaseIn-tables k (freed (bare T) d) (piece T d .next)) ∙ sym (ap (λ (X : State). X .tables) (if-F (another T d) (bare (lowered T d)) more t)) ∙ e;
     })
 
 -- what a step asks, and what it leaves: less is left, and fewer references
