@@ -6,14 +6,14 @@ ghost use mathlib.Core.Path.{_≡_};
 ghost use Prim.Native.Nat.{_<_, _≤_, pred};
 ghost use Rattle.rules.specs.Tables.{piece, setPiece, withNext};
 ghost use Rattle.rules.specs.Bytes.{decode};
-ghost use Rattle.tables.specs.Shape.{Shaped, Holds};
+ghost use Rattle.tables.specs.Shape.{Shaped, Becomes};
 ghost use Rattle.release.specs.Release.{Held, Releasable, stepped, stepNext, released, turnedTo, relinkedTo};
 ghost use Rattle.release.specs.Hang.{Hangable, hungTo};
 
 // Gives up one reference to piece `d` and returns the link to give up next, 0 none: a count lowered, or a descriptor freed.
 pub fn give_up(pool: &mut [u8], shape: Shape, d: PieceNumber) -> u16
     requires { ⌜ Shaped (now pool) shape × Held (decode (now pool)) (d .0) ⌝ }
-    ensures { λ r. ⌜ Holds (now (pool .exit)) shape (stepped (decode (now (pool .entry))) (d .0)) × (r ≡ stepNext (decode (now (pool .entry))) (d .0)) ⌝ }
+    ensures { λ r. ⌜ Becomes (now (pool .entry)) (now (pool .exit)) shape (λ T. stepped T (d .0)) × (r ≡ stepNext (decode (now (pool .entry))) (d .0)) ⌝ }
 {
     let n = tables::piece_count(pool, shape, d);
     if 1 < n {
@@ -31,7 +31,7 @@ pub fn give_up(pool: &mut [u8], shape: Shape, d: PieceNumber) -> u16
 // Releases a reference to `link`, 0 none and 1 + d piece d: bf_afree, as a loop over single steps.
 pub fn release(pool: &mut [u8], shape: Shape, link: u16)
     requires { ⌜ Shaped (now pool) shape × Releasable (decode (now pool)) link ⌝ }
-    ensures { λ _. ⌜ Holds (now (pool .exit)) shape (released (decode (now (pool .entry))) link) ⌝ }
+    ensures { λ _. ⌜ Becomes (now (pool .entry)) (now (pool .exit)) shape (λ T. released T link) ⌝ }
 {
     let mut next = link;
     while next != 0 {
@@ -42,7 +42,7 @@ pub fn release(pool: &mut [u8], shape: Shape, link: u16)
 // Slip `s` takes the entry `v`, and the link that it held is released: a handle turned to another chain.
 pub fn turn(pool: &mut [u8], shape: Shape, s: SlipNumber, v: u16)
     requires { ⌜ Shaped (now pool) shape × (s .0 < shape .slips) × Releasable (decode (now pool)) (pred v) ⌝ }
-    ensures { λ _. ⌜ Holds (now (pool .exit)) shape (turnedTo (decode (now (pool .entry))) (s .0) v) ⌝ }
+    ensures { λ _. ⌜ Becomes (now (pool .entry)) (now (pool .exit)) shape (λ T. turnedTo T (s .0) v) ⌝ }
 {
     let old = tables::slip(pool, shape, s);
     tables::set_slip(pool, shape, s, v);
@@ -56,7 +56,7 @@ pub fn turn(pool: &mut [u8], shape: Shape, s: SlipNumber, v: u16)
 pub fn relink(pool: &mut [u8], shape: Shape, l: PieceNumber, n: u16)
     requires { ⌜ Shaped (now pool) shape × (l .0 < shape .pieces)
         × Releasable (setPiece (decode (now pool)) (l .0) (withNext (piece (decode (now pool)) (l .0)) n)) (piece (decode (now pool)) (l .0) .next) ⌝ }
-    ensures { λ _. ⌜ Holds (now (pool .exit)) shape (relinkedTo (decode (now (pool .entry))) (l .0) n) ⌝ }
+    ensures { λ _. ⌜ Becomes (now (pool .entry)) (now (pool .exit)) shape (λ T. relinkedTo T (l .0) n) ⌝ }
 {
     let old = tables::piece_next(pool, shape, l);
     tables::set_piece_next(pool, shape, l, n);
@@ -67,7 +67,7 @@ pub fn relink(pool: &mut [u8], shape: Shape, l: PieceNumber, n: u16)
 // and what stood there is released: a tail put behind a run of own pieces.
 pub fn hang(pool: &mut [u8], shape: Shape, s: SlipNumber, last: u16, n: u16)
     requires { ⌜ Shaped (now pool) shape × (s .0 < shape .slips) × (last ≤ shape .pieces) × (n < 65535) × Hangable (decode (now pool)) last n ⌝ }
-    ensures { λ _. ⌜ Holds (now (pool .exit)) shape (hungTo (decode (now (pool .entry))) (s .0) last n) ⌝ }
+    ensures { λ _. ⌜ Becomes (now (pool .entry)) (now (pool .exit)) shape (λ T. hungTo T (s .0) last n) ⌝ }
 {
     if last == 0 {
         turn(pool, shape, s, n + 1);

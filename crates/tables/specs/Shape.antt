@@ -31,6 +31,10 @@ pub record Holds (p : List ℕ) (h : Shape) (T : Tables) : Type 0 where
   pub shaped : Shaped p h
   pub is : decode p ≡ T
 
+-- a pool of the shape h goes from p to q, and its tables become what f makes of them
+abbrev pub Becomes : List ℕ → List ℕ → Shape → (Tables → Tables) → Type 0
+Becomes p q h f = Holds q h (f (decode p))
+
 -- the piece x with the count n, on buffer b
 abbrev pub withBase : Piece → ℕ → ℕ → Piece
 withBase x n b = record { count = n; buffer = b; offset = x .offset; len = x .len; next = x .next }

@@ -12,7 +12,7 @@ ghost use Rattle.kinds.specs.SlipState.{stateOf};
 ghost use Rattle.rules.specs.Tables.{blank, slip, piece, bufferCount, setSlip, setPiece, withCount, withNext, withPlace, setCount};
 ghost use Rattle.rules.specs.Bytes.{decode};
 ghost use Rattle.tables.specs.Entry.{pieceOf};
-ghost use Rattle.tables.specs.Shape.{Shaped, Holds, withBase};
+ghost use Rattle.tables.specs.Shape.{Shaped, Becomes, withBase};
 
 // The five numbers of a piece, loaded.
 pub struct Entry {
@@ -114,7 +114,7 @@ pub fn buffer_count(pool: &[u8], shape: Shape, b: BufferNumber) -> u16
 // Sets the entry of slip `s`: a handle table store.
 pub fn set_slip(pool: &mut [u8], shape: Shape, s: SlipNumber, v: u16)
     requires { ⌜ Shaped (now pool) shape × (s .0 < shape .slips) ⌝ }
-    ensures { λ _. ⌜ Holds (now (pool .exit)) shape (setSlip (decode (now (pool .entry))) (s .0) v) ⌝ }
+    ensures { λ _. ⌜ Becomes (now (pool .entry)) (now (pool .exit)) shape (λ T. setSlip T (s .0) v) ⌝ }
 {
     word::set16(pool, layout::slip_at(s), v);
 }
@@ -122,7 +122,7 @@ pub fn set_slip(pool: &mut [u8], shape: Shape, s: SlipNumber, v: u16)
 // Sets the count of piece `d`: its reference count.
 pub fn set_piece_count(pool: &mut [u8], shape: Shape, d: PieceNumber, n: u16)
     requires { ⌜ Shaped (now pool) shape × (d .0 < shape .pieces) ⌝ }
-    ensures { λ _. ⌜ Holds (now (pool .exit)) shape (setPiece (decode (now (pool .entry))) (d .0) (withCount (piece (decode (now (pool .entry))) (d .0)) n)) ⌝ }
+    ensures { λ _. ⌜ Becomes (now (pool .entry)) (now (pool .exit)) shape (λ T. setPiece T (d .0) (withCount (piece T (d .0)) n)) ⌝ }
 {
     word::set16(pool, layout::piece_at(shape, d), n);
 }
@@ -130,7 +130,7 @@ pub fn set_piece_count(pool: &mut [u8], shape: Shape, d: PieceNumber, n: u16)
 // Sets what follows piece `d`, 0 none and 1 + e piece e: its link.
 pub fn set_piece_next(pool: &mut [u8], shape: Shape, d: PieceNumber, n: u16)
     requires { ⌜ Shaped (now pool) shape × (d .0 < shape .pieces) ⌝ }
-    ensures { λ _. ⌜ Holds (now (pool .exit)) shape (setPiece (decode (now (pool .entry))) (d .0) (withNext (piece (decode (now (pool .entry))) (d .0)) n)) ⌝ }
+    ensures { λ _. ⌜ Becomes (now (pool .entry)) (now (pool .exit)) shape (λ T. setPiece T (d .0) (withNext (piece T (d .0)) n)) ⌝ }
 {
     word::set16(pool, layout::piece_at(shape, d) + 8, n);
 }
@@ -138,8 +138,7 @@ pub fn set_piece_next(pool: &mut [u8], shape: Shape, d: PieceNumber, n: u16)
 // Sets the offset and the length of piece `d`: its data window.
 pub fn set_piece_place(pool: &mut [u8], shape: Shape, d: PieceNumber, offset: u16, length: u16)
     requires { ⌜ Shaped (now pool) shape × (d .0 < shape .pieces) ⌝ }
-    ensures { λ _. ⌜ Holds (now (pool .exit)) shape
-        (setPiece (decode (now (pool .entry))) (d .0) (withPlace (piece (decode (now (pool .entry))) (d .0)) offset length)) ⌝ }
+    ensures { λ _. ⌜ Becomes (now (pool .entry)) (now (pool .exit)) shape (λ T. setPiece T (d .0) (withPlace (piece T (d .0)) offset length)) ⌝ }
 {
     let at = layout::piece_at(shape, d);
     word::set16(pool, at + 4, offset);
@@ -149,8 +148,7 @@ pub fn set_piece_place(pool: &mut [u8], shape: Shape, d: PieceNumber, offset: u1
 // Sets the count and the buffer of piece `d`: its reference count and its cluster.
 fn set_piece_base(pool: &mut [u8], shape: Shape, d: PieceNumber, count: u16, buffer: BufferNumber)
     requires { ⌜ Shaped (now pool) shape × (d .0 < shape .pieces) ⌝ }
-    ensures { λ _. ⌜ Holds (now (pool .exit)) shape
-        (setPiece (decode (now (pool .entry))) (d .0) (withBase (piece (decode (now (pool .entry))) (d .0)) count (buffer .0))) ⌝ }
+    ensures { λ _. ⌜ Becomes (now (pool .entry)) (now (pool .exit)) shape (λ T. setPiece T (d .0) (withBase (piece T (d .0)) count (buffer .0))) ⌝ }
 {
     let at = layout::piece_at(shape, d);
     word::set16(pool, at, count);
@@ -169,8 +167,8 @@ pub fn set_piece(
     next: u16,
 )
     requires { ⌜ Shaped (now pool) shape × (d .0 < shape .pieces) ⌝ }
-    ensures { λ _. ⌜ Holds (now (pool .exit)) shape
-        (setPiece (decode (now (pool .entry))) (d .0) (record { count = count; buffer = buffer .0; offset = offset; len = length; next = next })) ⌝ }
+    ensures { λ _. ⌜ Becomes (now (pool .entry)) (now (pool .exit)) shape
+        (λ T. setPiece T (d .0) (record { count = count; buffer = buffer .0; offset = offset; len = length; next = next })) ⌝ }
 {
     set_piece_base(pool, shape, d, count, buffer);
     set_piece_place(pool, shape, d, offset, length);
@@ -180,7 +178,7 @@ pub fn set_piece(
 // Sets the ten bytes of piece `d` to zero, which frees it: a cleared descriptor.
 pub fn clear_piece(pool: &mut [u8], shape: Shape, d: PieceNumber)
     requires { ⌜ Shaped (now pool) shape × (d .0 < shape .pieces) ⌝ }
-    ensures { λ _. ⌜ Holds (now (pool .exit)) shape (setPiece (decode (now (pool .entry))) (d .0) blank) ⌝ }
+    ensures { λ _. ⌜ Becomes (now (pool .entry)) (now (pool .exit)) shape (λ T. setPiece T (d .0) blank) ⌝ }
 {
     set_piece(pool, shape, d, 0, BufferNumber(0), 0, 0, 0);
 }
@@ -188,7 +186,7 @@ pub fn clear_piece(pool: &mut [u8], shape: Shape, d: PieceNumber)
 // Sets the count of buffer `b`: the reference count of a cluster.
 pub fn set_buffer_count(pool: &mut [u8], shape: Shape, b: BufferNumber, n: u16)
     requires { ⌜ Shaped (now pool) shape × (b .0 < shape .buffers) ⌝ }
-    ensures { λ _. ⌜ Holds (now (pool .exit)) shape (setCount (decode (now (pool .entry))) (b .0) n) ⌝ }
+    ensures { λ _. ⌜ Becomes (now (pool .entry)) (now (pool .exit)) shape (λ T. setCount T (b .0) n) ⌝ }
 {
     word::set16(pool, layout::count_at(shape, b), n);
 }
