@@ -1,4 +1,4 @@
-//! The documents cite what is there: every definition and statement that docs/PROMISES.md names stands in the file that it names, every
+//! The documents cite what is there: every definition and statement that docs/PROMISES.md names is declared in the file that it names, every
 //! idea of a must-fail edit in its crate, and every path of the documents in the repository.
 
 use std::fs;
@@ -29,12 +29,30 @@ fn text_at(place: &str) -> String {
         .concat()
 }
 
-/// Whether a text has a name as a whole word.
-fn has_word(text: &str, name: &str) -> bool {
-    let inside = |c: char| c.is_alphanumeric() || c == '-' || c == '_';
-    text.match_indices(name).any(|(at, _)| {
-        !text[..at].ends_with(inside) && !text[at + name.len()..].starts_with(inside)
+/// Whether a line declares a name: after words of declaration it has the name and then, unless one of them tells a kind, its type.
+fn declares(line: &str, name: &str) -> bool {
+    const PLAIN: [&str; 4] = ["pub ", "abbrev ", "unfoldable ", "extern \"C\" "];
+    const TELLING: [&str; 7] = [
+        "record ", "data ", "ruleset ", "fn ", "struct ", "enum ", "const ",
+    ];
+    let (mut rest, mut told) = (line.trim_start(), false);
+    loop {
+        let after = |words: &[&str]| words.iter().find_map(|word| rest.strip_prefix(word));
+        match (after(&PLAIN), after(&TELLING)) {
+            (Some(next), _) => rest = next,
+            (None, Some(next)) => (rest, told) = (next, true),
+            (None, None) => break,
+        }
+    }
+    let inside = |c: char| c.is_alphanumeric() || c == '-' || c == '_' || c == '\u{2032}';
+    rest.strip_prefix(name).is_some_and(|after| {
+        !after.starts_with(inside) && (told || after.trim_start().starts_with(": "))
     })
+}
+
+/// Whether a text declares a name: a definition, a law or one of a record's fields in a file of definitions or proofs, an item of code.
+fn declared_in(text: &str, name: &str) -> bool {
+    text.lines().any(|line| declares(line, name))
 }
 
 /// The promises from their first table on, without the page's own explanations.
@@ -83,7 +101,36 @@ fn rows_by_call(promises: &str) -> impl Iterator<Item = &str> {
 }
 
 #[test]
-fn names_stand_in_the_files_that_are_cited() {
+fn a_mention_is_no_declaration() {
+    for line in [
+        "pub step : Call → Lent → Result",
+        "  pub code : ℕ",
+        "unfoldable pub step : Call → Lent → Result",
+        "pub fn step(pool: &[u8]) -> u16",
+        "pub record step (c : Call) : Type 0 where",
+        "    pub const step: u16 = 64;",
+    ] {
+        let name = if line.contains("code") {
+            "code"
+        } else {
+            "step"
+        };
+        assert!(declares(line, name), "{line}");
+    }
+    for line in [
+        "-- step : what a call does",
+        "use Rattle.rules.specs.Step.{step}",
+        "step (Do o) m = if sound m then perform o m else refused",
+        "    step(pool, shape);",
+        "pub steps : List Call → Lent",
+        "pub step-keeps : Call → Lent",
+    ] {
+        assert!(!declares(line, "step"), "{line}");
+    }
+}
+
+#[test]
+fn names_are_declared_in_the_files_that_are_cited() {
     let promises = promises();
     let mut checked = 0;
     for cited in quoted(&promises) {
@@ -94,7 +141,7 @@ fn names_stand_in_the_files_that_are_cited() {
         assert!(!text.is_empty(), "no file for `{cited}`");
         for name in names.split([',', '(', ')']).map(str::trim) {
             if !name.is_empty() {
-                assert!(has_word(&text, name), "no {name} in {place}");
+                assert!(declared_in(&text, name), "{place} declares no {name}");
                 checked += 1;
             }
         }
