@@ -4,6 +4,7 @@ use mathlib.Core.List.{List, []}
 use Prim.Native.Nat.{ℕ, _-_, _≤_, _<_}
 use native.Mathlib.Omega.{arith}
 use lib.ListN.{length}
+use Rattle.kinds.specs.Limits.{mostPieces}
 use Rattle.rules.specs.Basics.{Is}
 use Rattle.rules.specs.Tables.{Tables, piece, headOf, vacant, pieceTotal, setSlip}
 use Rattle.rules.specs.Bytes.{decode}
@@ -46,7 +47,7 @@ module _ {p : List ℕ} {h : Shape} {a b head tail : ℕ} (o : Opened p h) (j : 
   T = decode p
 
   -- the pieces are few, and both heads lead to pieces
-  few : pieceTotal T ≤ 256
+  few : pieceTotal T ≤ mostPieces
   few = omega (arith, total-pieces (whole (o .shaped)), o .few-pieces)
 
   a-ok : Is (linkOk T (headOf T a))

@@ -1,8 +1,10 @@
 -- `list::write_records` meets its contract: each turn writes the record of the piece reached, behind those written. Assumes nothing.
 use mathlib.Core.Path.{_≡_, refl}
-use Prim.Native.Nat.{ℕ, _+_, _-_, _*_, _≤_, _<_}
+use Prim.Native.Nat.{ℕ, _+_, _-_, _*_, _≤_, _<_, suc}
 use native.Mathlib.Omega.{arith}
 use lib.ListN.{length, length-set}
+use Rattle.kinds.specs.Sizes.{largest}
+use Rattle.kinds.specs.Limits.{mostBuffers, mostPieces}
 use Rattle.kinds.proofs.Sizes.{start-most}
 use Rattle.rules.specs.Tables.{Tables, piece}
 use Rattle.rules.specs.Bytes.{decode}
@@ -46,11 +48,11 @@ module _ (c : tie.In-loop Inv-loop μ-loop) where
   below = omega (arith, used .below, total-pieces (whole (z .pre .0 .0 .shaped)))
 
   -- its stretch lies in storage, whose bytes 32 bits count
-  near : positionOf (T .stock) (stretch (piece T (at - 1))) < 65536 + 512
+  near : positionOf (T .stock) (stretch (piece T (at - 1))) < largest * suc mostBuffers
   near = let o = z .pre .0 .0 in omega (arith, used .in-store, used .most, total-buffers (whole (o .shaped)), o .few-buffers, start-most (T .stock) (piece T (at - 1) .buffer))
 
   -- it is one of at most P
-  early : c .before .loop .k < 256
+  early : c .before .loop .k < mostPieces
   early =
       let o = z .pre .0 .0 in
       omega (arith, c .loop-test .taken, z .pre .1 .0, stretches-few T (z .args .link) (o .sound) (z .pre .0 .1), total-pieces (whole (o .shaped)), o .few-pieces)

@@ -6,6 +6,7 @@ use lib.ListN.{length}
 use lib.Dec.{leb}
 use borrow.Author.Needs.{needs}
 use borrow.Author.Tests.{not-true, not-false, leb-true, leb-false}
+use Rattle.kinds.specs.Limits.{mostBuffers}
 use Rattle.rules.specs.Basics.{Is}
 use Rattle.rules.specs.Tables.{Tables, pieceTotal, bufferTotal}
 use Rattle.rules.specs.Bytes.{decode}
@@ -201,7 +202,7 @@ module _ (c : tie.Else4) where
   lowest-buffer = room-lowest (isUnheld (tables at)) (sized .buffers-for .result) (bufferTotal (tables at)) (lowest .buffer-room .ensures)
 
   -- so there are few
-  small : sized .buffers-for .result ≤ 128
+  small : sized .buffers-for .result ≤ mostBuffers
   small =
       let z = start at in
       let T = tables at in

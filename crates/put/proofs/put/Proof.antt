@@ -7,6 +7,7 @@ use lib.ListN.{length}
 use lib.Dec.{leb}
 use borrow.Author.Needs.{needs}
 use borrow.Author.Tests.{not-true, not-false, leb-true, leb-false}
+use Rattle.kinds.specs.Limits.{mostBuffers}
 use Rattle.rules.specs.Tables.{Tables, slipTotal, pieceTotal, bufferTotal}
 use Rattle.rules.specs.Bytes.{decode}
 use Rattle.rules.specs.Chain.{Stretch}
@@ -140,7 +141,7 @@ lowest-buffer c =
     room-lowest (isUnheld T) (counted c .buffers-for .result) (bufferTotal T) (lowest c .buffer-room .ensures)
 
 -- so there are few
-small : (c : tie.Else3) → counted c .buffers-for .result ≤ 128
+small : (c : tie.Else3) → counted c .buffers-for .result ≤ mostBuffers
 small c =
     let z = start (from (counted c)) in
     let T = tables (from (counted c)) in
