@@ -1,23 +1,23 @@
 -- What is claimed of a call leaves nothing free: two results of which a claim holds agree. Assumes nothing.
-use mathlib.Core.Path.{_≡_, refl, sym, _∙_}
+use mathlib.Core.Path.{_≡_, refl, sym, ap, _∙_}
 use mathlib.Core.Logic.{_≢_, ⊎-elim}
 use mathlib.Core.List.{List, [], _∷_, _++_, map}
 use Prim.Native.Nat.{ℕ, zero, suc, _+_, _≤_, _<_}
 use native.Mathlib.Decide.{ℕ-discrete, decLt}
 use native.Mathlib.Omega.{arith}
-use lib.ListN.{length}
+use lib.ListN.{length, getD}
 use lib.Seq.{ext-getD}
 use lib.Dec.{T-not}
 use Rattle.rules.specs.Basics.{bit, passing}
-use Rattle.rules.specs.Tables.{Tables, blank, isBlank, piece, bufferCount, pieceTotal, bufferTotal}
+use Rattle.rules.specs.Tables.{Tables, blank, isBlank, piece, bufferCount, headOf, slipTotal, pieceTotal, bufferTotal}
 use Rattle.rules.specs.Bytes.{decode}
-use Rattle.rules.specs.Chain.{State, Stretch, chain, spans, firstLength, contents}
-use Rattle.rules.specs.Sound.{Lent}
+use Rattle.rules.specs.Chain.{State, Stretch, follow, walk, chain, spans, firstLength, contents}
+use Rattle.rules.specs.Sound.{Lent, lent}
 use Rattle.rules.specs.Room.{isVacant, isFree, isUnheld}
 use Rattle.rules.specs.Rule.{Wants, View}
 use Rattle.rules.specs.Step.{Operation, Audit, Put, Free, Dup, Cut, Append, Drop, Keep, Pullup, Pack, Length, Read, Show, WireList}
 use Rattle.rules.specs.Step.{Call, Open, Do, Result, step, stateIn, next, afterCalls}
-use Rattle.rules.specs.Recount.{Reached, reached, Recount}
+use Rattle.rules.specs.Recount.{Reached, headed, after, reached, references, holders, countedBy, Recount}
 use Rattle.rules.specs.Demand.{early, wanted, left, CallOk, Each, DemandThree}
 use Rattle.rules.specs.Takes.{tookSlips, tookPieces, tookBuffers, Took}
 use Rattle.rules.specs.Answers.{LowestVacant, Answered, AnsweredBy, Numbers, Shown, Unseen, Seen, SeenBy, Outputs, Opened}
@@ -55,6 +55,42 @@ free-settled T r d l n =
       sumTo-lt P d f (λ _. 1) l (omega (arith, bit-F (isBlank (piece T d)) t, bit-F (reached T d) (λ u. n (r .reached-is d .0 u)))) most,
     )))
     (is-dec (isBlank (piece T d)))
+
+-- ---- chains
+
+-- piece i of a walk is where i follows lead; and where k follows lead nowhere, as many as there are pieces do
+walk-at : (k n : ℕ) (T : Tables) (i : ℕ) → i < length (walk k T n) → follow T i n ≡ suc (getD (walk k T n) i 0)
+unfolding walk follow
+walk-at zero n T i l = absurd (omega arith)
+walk-at (suc k) zero T i l = absurd (omega arith)
+walk-at (suc k) (suc d) T zero l = refl
+walk-at (suc k) (suc d) T (suc i) l = walk-at k (piece T d .next) T i (omega arith)
+
+walk-ends : (k n : ℕ) (T : Tables) → follow T k n ≡ 0 → follow T (length (walk k T n)) n ≡ 0
+unfolding walk follow
+walk-ends zero n T e = e
+walk-ends (suc k) zero T e = refl
+walk-ends (suc k) (suc d) T e = walk-ends k (piece T d .next) T e
+
+walk-met : (k n : ℕ) (T : Tables) (i : ℕ) → ((x : ℕ) → n ≡ suc x → Reached T x) → i < length (walk k T n) → Reached T (getD (walk k T n) i 0)
+unfolding walk
+walk-met zero n T i h l = absurd (omega arith)
+walk-met (suc k) zero T i h l = absurd (omega arith)
+walk-met (suc k) (suc d) T zero h l = h d refl
+walk-met (suc k) (suc d) T (suc i) h l = walk-met k (piece T d .next) T i (λ x e. after d (h d refl) e) (omega arith)
+
+-- A chain has each piece once, all below P, and the last one leads nowhere.
+pub chain-settled : (T : Tables) → Recount T → (s : ℕ) → s < slipTotal T
+    → ((i j : ℕ) → i < length (chain T s) → j < length (chain T s) → getD (chain T s) i 0 ≡ getD (chain T s) j 0 → i ≡ j)
+    × ((i : ℕ) → i < length (chain T s) → getD (chain T s) i 0 < pieceTotal T)
+    × (follow T (length (chain T s)) (headOf T s) ≡ 0)
+chain-settled T r s l =
+    let P = pieceTotal T in
+    let n = headOf T s in (
+      λ i j a b e. r .never-back s (getD (chain T s) j 0) i j l (walk-at P n T i a ∙ ap suc e) (walk-at P n T j b),
+      λ i a. r .in-stock (getD (chain T s) i 0) (walk-met P n T i (λ x e. headed s l e) a),
+      walk-ends P n T (r .ends s l),
+    )
 
 -- ---- numbers
 
@@ -226,3 +262,15 @@ pub demand-counts : DemandThree → (B P S B′ P′ S′ : ℕ) (m m′ : Lent)
     Alike T T′
     → ((d : ℕ) → d < pieceTotal T → piece T d .count ≡ piece T′ d .count) × ((b : ℕ) → b < bufferTotal T → bufferCount T b ≡ bufferCount T′ b)
 demand-counts d B P S B′ P′ S′ m m′ cs cs′ e e′ a = counts-settled a (d B P S m cs e .recount) (d B′ P′ S′ m′ cs′ e′ .recount)
+
+-- After any list of calls, a pool that differs in stored counts alone has the same references, and the same is wanted and left.
+pub demand-blind : DemandThree → (B P S : ℕ) (m : Lent) (cs : List Call) (c : Call) → step (Open B P S) m .code ≡ 0
+    → let m₁ = afterCalls cs (next (Open B P S) m) in
+    let T = decode (m₁ .pool) in
+    (q : List ℕ) (f g : ℕ → ℕ) → decode q ≡ countedBy T f g
+    → (wanted c (lent q (m₁ .storage)) ≡ wanted c m₁) × (left (lent q (m₁ .storage)) ≡ left m₁)
+    × ((d : ℕ) → references (decode q) d ≡ references T d) × ((b : ℕ) → holders (decode q) b ≡ holders T b)
+demand-blind d B P S m cs c e q f g h =
+    let x = each-at cs c [] (next (Open B P S) m) (d B P S m (cs ++ (c ∷ [])) e .each) .blind q f g h in
+    let y = d B P S m cs e .blind f g in
+    (x .0, x .1, λ i. ap (λ (X : Tables). references X i) h ∙ y .same-references i, λ i. ap (λ (X : Tables). holders X i) h ∙ y .same-holders i)
