@@ -97,7 +97,7 @@ ends-back T t d e i j _ p q = met-once T (acyclic-falls T t) (suc d) e i j p q
 
 -- ---- a piece that passes is all zero or in good use
 
-blank-is : (p : Piece) → Is (isBlank p) → p ≡ blank
+pub blank-is : (p : Piece) → Is (isBlank p) → p ≡ blank
 blank-is p t =
     let (c, t₁) = and-parts (eqb (p .count) 0) _ t in
     let (b, t₂) = and-parts (eqb (p .buffer) 0) _ t₁ in

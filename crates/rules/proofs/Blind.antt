@@ -17,12 +17,12 @@ use Rattle.rules.proofs.Bytes.{length-table, getD-table, table-same}
 
 -- ---- tables with the same slips, nexts and pieces' buffers, and any counts
 
-record Alike (T T′ : Tables) : Type 0 where
-  slips : T .slips ≡ T′ .slips
-  pieces : pieceTotal T ≡ pieceTotal T′
-  buffers : bufferTotal T ≡ bufferTotal T′
-  next : (d : ℕ) → piece T d .next ≡ piece T′ d .next
-  on : (d : ℕ) → piece T d .buffer ≡ piece T′ d .buffer
+pub record Alike (T T′ : Tables) : Type 0 where
+  pub slips : T .slips ≡ T′ .slips
+  pub pieces : pieceTotal T ≡ pieceTotal T′
+  pub buffers : bufferTotal T ≡ bufferTotal T′
+  pub next : (d : ℕ) → piece T d .next ≡ piece T′ d .next
+  pub on : (d : ℕ) → piece T d .buffer ≡ piece T′ d .buffer
 
 module _ {T T′ : Tables} (a : Alike T T′) where
   walk-alike : (k n : ℕ) → walk k T n ≡ walk k T′ n
@@ -38,13 +38,13 @@ module _ {T T′ : Tables} (a : Alike T T′) where
   unfolding reached
   reached-alike d = λ i. anyTo (length (a .slips i)) (λ s. member d (chain-alike s i))
 
-  references-alike : (d : ℕ) → references T d ≡ references T′ d
+  pub references-alike : (d : ℕ) → references T d ≡ references T′ d
   unfolding references heads
   references-alike d =
       λ i. sumTo (length (a .slips i)) (λ s. bit (leads (pred (getD (a .slips i) s 0)) d))
       + sumTo (a .pieces i) (λ c. bit (reached-alike c i && leads (a .next c i) d))
 
-  holders-alike : (b : ℕ) → holders T b ≡ holders T′ b
+  pub holders-alike : (b : ℕ) → holders T b ≡ holders T′ b
   unfolding holders
   holders-alike b = λ i. sumTo (a .pieces i) (λ c. bit (reached-alike c i && eqb (a .on c i) b))
 

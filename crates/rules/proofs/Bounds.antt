@@ -10,7 +10,7 @@ use lib.Dec.{eqb}
 use Rattle.kinds.specs.Sizes.{largest}
 use Rattle.kinds.proofs.Sizes.{size-most}
 use Rattle.rules.specs.Tables.{Piece, Tables, blank, slip, piece, bufferCount, headOf, slipTotal, pieceTotal, bufferTotal}
-use Rattle.rules.specs.Chain.{Stretch, walk, chain, spans, total, lengthOf}
+use Rattle.rules.specs.Chain.{Stretch, chain, spans, total, lengthOf}
 use Rattle.rules.specs.Sound.{inUse, leads, heads, lying}
 use Rattle.rules.proofs.Logic.{bit-one}
 use Rattle.rules.proofs.Sums.{sumTo-ones}
@@ -19,6 +19,7 @@ use Rattle.rules.proofs.Rank.{next-pos, head-pos}
 use Rattle.rules.proofs.Build.{Good}
 use Rattle.rules.proofs.Chain.{spans-good}
 use Rattle.rules.proofs.Hang.{stretches-length}
+use Rattle.rules.proofs.Overlaps.{walk-short}
 
 -- ---- entries
 
@@ -59,14 +60,8 @@ small T (rank, S) =
 
 -- ---- chains: at most P pieces, each of at most a buffer's bytes
 
-walk-short : (k : ℕ) (T : Tables) (n : ℕ) → length (walk k T n) ≤ k
-unfolding walk
-walk-short zero T n = omega arith
-walk-short (suc k) T zero = omega arith
-walk-short (suc k) T (suc d) = omega (arith, walk-short k T (piece T d .next))
-
 pub chain-short : (T : Tables) (s : ℕ) → length (chain T s) ≤ pieceTotal T
-chain-short T s = walk-short (pieceTotal T) T (headOf T s)
+chain-short T s = walk-short (pieceTotal T) (headOf T s) T
 
 pub total-small : (Z : List ℕ) (B : ℕ) (xs : List Stretch) → Good Z B xs → total xs ≤ largest * length xs
 unfolding total

@@ -18,7 +18,7 @@ use Rattle.rules.specs.Layout.{mark, version, slipAt, pieceAt, countAt, 
 use Rattle.rules.specs.Tables.{Piece, Tables, blank, slip, piece, bufferCount, slipTotal, pieceTotal, bufferTotal, freshTables}
 use Rattle.rules.specs.Bytes.{versionIn, stockIn, buffersIn, piecesIn, slipsIn, pieceIn, decode, pieceBytes, encode}
 use Rattle.rules.specs.Sound.{Lent, headed, headerOk, lent, marked, countsOk}
-use Rattle.rules.proofs.Logic.{and-intro, and-parts}
+use Rattle.rules.proofs.Logic.{and-intro, and-parts, table-is}
 
 -- ---- tests
 
@@ -54,11 +54,6 @@ module _ {A : Type 0} where
   pub table-same : (n : ℕ) (f g : ℕ → A) → ((i : ℕ) → i < n → f i ≡ g i) → table n f ≡ table n g
   table-same zero f g h = refl
   table-same (suc n) f g h = λ j. h 0 (zero-lt-suc n) j ∷ table-same n (λ i. f (suc i)) (λ i. g (suc i)) (λ i b. h (suc i) (suc-le-suc b)) j
-
-  -- the table of a list's entries
-  pub table-is : (d : A) (l : List A) (f : ℕ → A) → ((i : ℕ) → i < length l → f i ≡ getD l i d) → table (length l) f ≡ l
-  table-is d [] f h = refl
-  table-is d (x ∷ xs) f h = λ j. h 0 (zero-lt-suc (length xs)) j ∷ table-is d xs (λ i. f (suc i)) (λ i b. h (suc i) (suc-le-suc b)) j
 
   -- g is f but v at i
   pub table-set : (n : ℕ) (f g : ℕ → A) (i : ℕ) (v : A) → g i ≡ v → ((j : ℕ) → j < n → j ≢ i → g j ≡ f j) → table n g ≡ set (table n f) i v

@@ -1,49 +1,33 @@
 -- Each code is given exactly when document 01's table says so: of any call on any bytes, sound or not. Assumes nothing.
 use mathlib.Core.Path.{_≡_, refl, sym, ap, subst, _∙_}
-use mathlib.Core.Logic.{_↔_, _⊎_, inl, inr, ⊎-elim}
+use mathlib.Core.Logic.{_↔_, inl, inr, ⊎-elim}
 use mathlib.Core.Bool.{not}
-use mathlib.Core.List.{[], _∷_}
+use mathlib.Core.List.{[]}
 use Prim.Native.Nat.{ℕ, _*_, _≤_, _<_}
 use native.Mathlib.Omega.{arith}
 use lib.Dec.{T-not, not-T}
 use Rattle.kinds.specs.declared.Refusal.{Refusal}
 use Rattle.kinds.specs.declared.Refusal.the-variants.{Counts, Torn, Slip, Same, Long, Range, Narrow, Slips, Pieces, Buffers, WireList}
 use Rattle.kinds.specs.Refusal.{refusalCode}
-use Rattle.kinds.proofs.Sizes.{start-one}
-use Rattle.rules.specs.Basics.{Is}
 use Rattle.rules.specs.Chain.{State}
-use Rattle.rules.specs.Sound.{Lent, sound, countsOk}
+use Rattle.rules.specs.Sound.{Lent, sound}
 use Rattle.rules.specs.Build.{buffersFor}
 use Rattle.rules.specs.Rule.{_⇐_, Meaning}
 use Rattle.rules.specs.Open.{openable}
 use Rattle.rules.specs.Step.{Operation, Call, Open, Do, meaning, rule, Result, stateIn, step}
-use Rattle.rules.specs.Causes.{Cause, Fitting, CauseOf, Exactly}
+use Rattle.rules.specs.Causes.{Cause, CauseOf, Exactly}
 use Rattle.rules.specs.Demand.{early, EarlyOk}
-use Rattle.rules.proofs.Logic.{if-either, and-intro, and-parts, is-dec}
+use Rattle.rules.proofs.Logic.{if-either, is-dec}
 use Rattle.rules.proofs.Audit.{sound-is, sound-now}
 use Rattle.rules.proofs.Codes.{first-yes, first-no, first-none, refusal-pos}
 use Rattle.rules.proofs.Caused.{Settled, settled-given, settled-done, settled-as}
 use Rattle.rules.proofs.Calls.{before-caused, code-caused}
-use Rattle.rules.proofs.Bytes.{and-is, eqb-is, counts-facts, counts-test}
 use Rattle.rules.proofs.Step.{code-is, step-torn, sound-within}
+use Rattle.rules.proofs.Places.{open-fits}
 
 -- as few buffers of 512 bytes as take n bytes
 pub enough : (n k : ℕ) → (buffersFor n ≤ k) ↔ (n ≤ 512 * k)
 enough n k = (λ h. omega arith, λ h. omega arith)
-
--- ---- open
-
--- open is done just where its counts and both lengths fit
-open-fits : (B P S : ℕ) (m : Lent) → Is (openable B P S m) ↔ Fitting B P S m
-unfolding openable
-open-fits B P S m = (
-  λ t. (
-      let (c, l) = and-parts (countsOk B P S) _ t in
-      let k = simp (and-is, eqb-is) at l in
-      let f = counts-facts B P S c in
-      omega (arith, k .0, k .1, start-one (B ∷ []) B)),
-  λ f. and-intro (countsOk B P S) _ (counts-test {B = B} {P = P} {S = S} (omega arith)) (simp (and-is, eqb-is) (omega (arith, start-one (B ∷ []) B))),
-)
 
 -- ---- any call
 

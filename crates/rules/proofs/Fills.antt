@@ -1,6 +1,6 @@
 -- The bytes of a filled buffer, and that new buffers hold what was stored and then zeros. Assumes nothing.
 use mathlib.Core.Path.{_≡_, refl, sym, ap, ap₂, subst, _∙_}
-use mathlib.Core.Bool.{Bool}
+use mathlib.Core.Bool.{Bool, not, _&&_}
 use mathlib.Core.List.{List, [], _∷_, _++_, append-assoc, append-nil}
 use Prim.Native.Nat.{ℕ, suc, _+_, _-_, _*_, _≤_, _<_}
 use native.Mathlib.Decide.{decLt}
@@ -8,16 +8,17 @@ use native.Mathlib.Omega.{arith}
 use lib.ListN.{length, getD, take, drop, replicate, length-append, length-take, length-drop, length-replicate, take-append-drop, getD-replicate}
 use lib.ListN.{replicate-append-replicate, drop-of-length-le, List·getD-append, List·getD-eq-default}
 use lib.Seq.{take-all, take-at, drop-at, getD-take, getD-append-add}
-use lib.Dec.{leb, leb→le}
+use lib.Dec.{leb, leb→le, T-not}
 use Rattle.kinds.specs.Limits.{bufferSize}
 use Rattle.kinds.specs.Sizes.{sizeOf, startOf}
 use Rattle.kinds.proofs.Sizes.{start-step, size-one}
-use Rattle.rules.specs.Tables.{Tables, bufferTotal}
+use Rattle.rules.specs.Basics.{Is}
+use Rattle.rules.specs.Tables.{Tables, bufferCount, slipTotal, bufferTotal}
 use Rattle.rules.specs.Bytes.{decode}
-use Rattle.rules.specs.Chain.{Stretch, State, chain, spans, total, firstLength, lengthOf, bytesOf, contents, reads}
+use Rattle.rules.specs.Chain.{Stretch, State, chain, spans, total, firstLength, lengthOf, bytesOf, contents, reads, withStorage}
 use Rattle.rules.specs.Sound.{Lent}
 use Rattle.rules.specs.Room.{isUnheld, freePieces, freeBuffers, newBuffers}
-use Rattle.rules.specs.Build.{plain, buffersFor, laid, filledAt, filled, stored}
+use Rattle.rules.specs.Build.{Plan, plain, underOld, buffersFor, laid, filledAt, filled, stored}
 use Rattle.rules.specs.Rule.{Wants, want}
 use Rattle.rules.specs.Put.{putAfter}
 use Rattle.rules.specs.Pullup.{pulled, pullupAfter, pullupWants}
@@ -27,14 +28,19 @@ use Rattle.rules.specs.Step.{Do, rule, stateIn, step, next}
 use Rattle.rules.specs.Takes.{tookBuffers}
 use Rattle.rules.specs.Still.{Still}
 use Rattle.rules.specs.Fills.{wholes, Filled, fills}
-use Rattle.rules.proofs.Logic.{if-both}
+use Rattle.rules.proofs.Logic.{if-both, and-1, not-zero, not-most}
 use Rattle.rules.proofs.Moves.{SoundNow}
-use Rattle.rules.proofs.Room.{AllIn, above-not, new-buffers-in}
+use Rattle.rules.proofs.Build.{Planned, plain-planned}
+use Rattle.rules.proofs.Room.{AllIn, above-not, all-free, new-buffers-in, free-pieces}
 use Rattle.rules.proofs.Contents.{Fit, filled-length, stored-other}
 use Rattle.rules.proofs.Audit.{sound-now}
-use Rattle.rules.proofs.Codes.{Allowed, allowed, no-cause}
-use Rattle.rules.proofs.Writes.{old-storage}
+use Rattle.rules.proofs.Codes.{Allowed, allowed, no-cause, first-named}
+use Rattle.rules.proofs.Sizes.{made-sizes, new-length}
+use Rattle.rules.proofs.Storage.{wholeOf, Keeps, old-keeps}
 use Rattle.rules.proofs.After.{reads-length}
+use Rattle.rules.proofs.Put.{new-good}
+use Rattle.rules.proofs.Pullup.{pulled-planned}
+use Rattle.rules.proofs.Calls.{takes}
 use Rattle.rules.proofs.Step.{after-state, did, slips-took, sound-within}
 
 -- ---- one buffer
@@ -115,6 +121,19 @@ unfolding wholes total
 wholes-total Z [] = refl
 wholes-total Z (b ∷ bs) = omega (arith, size-one Z b, wholes-total Z bs)
 
+-- ---- what a release leaves
+
+-- where references are released, the buffers that are held afterwards have the bytes that they had
+kept-wholes : {S S′ : State} (Z : List ℕ) (f : ℕ → Bool) (i B : ℕ) (bs : List ℕ) → S .tables .stock ≡ Z → bufferTotal (S .tables) ≡ B → Keeps S S′
+    → AllIn f i B bs → ((b : ℕ) → Is (f b) → 0 < bufferCount (S′ .tables) b) → contents Z (S′ .storage) (wholes Z bs) ≡ contents Z (S .storage) (wholes Z bs)
+unfolding contents wholes
+kept-wholes Z f i B [] e l k a u = refl
+kept-wholes {S} {S′} Z f i B (b ∷ bs) e l k a u =
+    ap₂ _++_
+    (subst (λ (Y : List ℕ). bytesOf Y (S′ .storage) (wholeOf Y b) ≡ bytesOf Y (S .storage) (wholeOf Y b)) e
+    (k .others b (omega (arith, a .1)) (λ _. u b (a .2))))
+    (kept-wholes Z f (suc b) B bs e l k (a .3) u)
+
 -- ---- every call
 
 module _ (S : State) (f : Fit (S .tables .stock) (bufferTotal (S .tables)) (S .storage)) where
@@ -125,6 +144,24 @@ module _ (S : State) (f : Fit (S .tables .stock) (bufferTotal (S .tables)) (S .s
       let T = S .tables in
       stored-filled (T .stock) (isUnheld T) 0 (bufferTotal T) (newBuffers T k) (S .storage) xs (new-buffers-in T k) f
       (omega (arith, wholes-total (T .stock) (newBuffers T k), length-take k (freeBuffers T)))
+
+  -- and they still do once a chain on them has come under slip s, and the old one is released
+  hung-filled : (k : ℕ) (xs : List ℕ) (p : Plan) (s : ℕ) → Planned (S .tables) p → s < slipTotal (S .tables)
+      → let X = underOld (withStorage S (stored (S .tables .stock) (S .storage) (newBuffers (S .tables) k) xs)) p (freePieces (S .tables)) s in
+      tookBuffers (S .tables) (X .tables) ≡ newBuffers (S .tables) k → k ≤ length (freeBuffers (S .tables)) → length xs ≤ bufferSize * k
+      → Filled (S .tables .stock) (X .storage) (newBuffers (S .tables) k) xs
+  hung-filled k xs p s h b e r l =
+      let T = S .tables in
+      let bs = newBuffers T k in
+      let S₁ = withStorage S (stored (T .stock) (S .storage) bs xs) in
+      let T′ = underOld S₁ p (freePieces T) s .tables in
+      let taken : ℕ → Bool = λ x. isUnheld T x && not (isUnheld T′ x) in
+      let z = made-sizes p (freePieces T) h in
+      kept-wholes (T .stock) taken 0 (bufferTotal T) bs (z .stock-kept) (z .counts-size)
+      (old-keeps S₁ p (freePieces T) s h (free-pieces T) b (new-length S k xs f ∙ f))
+      (subst (AllIn taken 0 (bufferTotal T)) e (all-free taken (bufferTotal T)))
+      (λ x t. not-zero (bufferCount T′ x) (T-not (isUnheld T′ x) (and-1 (isUnheld T x) _ t)))
+      ∙ new-filled k xs r l
 
 -- no new buffers hold nothing
 none-filled : (Z st : List ℕ) (T : Tables) → Filled Z st (newBuffers T 0) []
@@ -148,20 +185,26 @@ rule-fills (Pullup s k) S h f a n =
     let T = S .tables in
     let i = simp no-cause at (a .early) in
     let front = take k (reads S s) in
-    if-both (λ (X : State) (w : Wants). w .buffers ≤ length (freeBuffers T) → Filled (T .stock) (X .storage) (newBuffers T (w .buffers)) front)
+    if-both
+    (λ (X : State) (w : Wants). tookBuffers T (X .tables) ≡ newBuffers T (w .buffers) → w .buffers ≤ length (freeBuffers T)
+    → Filled (T .stock) (X .storage) (newBuffers T (w .buffers)) front)
     (leb k (firstLength (spans T s))) _ _ (want 0 0 0) _
-    (λ t _. absurd (n (leb→le k (firstLength (spans T s)) t)))
-    (λ _ r. ap (λ (q : List ℕ). contents (T .stock) q (wholes (T .stock) (newBuffers T 1))) (old-storage _ (pulled T s k) (freePieces T) s)
-    ∙ new-filled S f 1 front r (omega (arith, length-take k (reads S s)))) (a .buffers-room)
+    (λ t. absurd (n (leb→le k (firstLength (spans T s)) t)))
+    (λ t e r. hung-filled S f 1 front (pulled T s k) s (pulled-planned T s k (omega (arith, not-most k (firstLength (spans T s)) t)) h)
+    (first-named T s _ (a .early) .0) e r (omega (arith, length-take k (reads S s))))
+    (takes (Pullup s k) S h a .buffers) (a .buffers-room)
 rule-fills (Pack s) S h f a n =
     let T = S .tables in
     let k = buffersFor (lengthOf T s) in
-    let bs = newBuffers T k in
-    if-both (λ (X : State) (w : Wants). w .buffers ≤ length (freeBuffers T) → Filled (T .stock) (X .storage) (newBuffers T (w .buffers)) (reads S s))
+    let xs = laid (T .stock) (newBuffers T k) (lengthOf T s) in
+    if-both
+    (λ (X : State) (w : Wants). tookBuffers T (X .tables) ≡ newBuffers T (w .buffers) → w .buffers ≤ length (freeBuffers T)
+    → Filled (T .stock) (X .storage) (newBuffers T (w .buffers)) (reads S s))
     (leb (length (chain T s)) 1) _ _ (want 0 0 0) (want 0 k k)
-    (λ t _. absurd (n (leb→le (length (chain T s)) 1 t)))
-    (λ _ r. ap (λ (q : List ℕ). contents (T .stock) q (wholes (T .stock) bs)) (old-storage _ (plain T (laid (T .stock) bs (lengthOf T s))) (freePieces T) s)
-    ∙ new-filled S f k (reads S s) r (omega (arith, reads-length S h f s))) (a .buffers-room)
+    (λ t. absurd (n (leb→le (length (chain T s)) 1 t)))
+    (λ _ e r. hung-filled S f k (reads S s) (plain T xs) s (plain-planned T xs (new-good T (lengthOf T s)) h)
+    (first-named T s _ (a .early) .0) e r (omega (arith, reads-length S h f s)))
+    (takes (Pack s) S h a .buffers) (a .buffers-room)
 rule-fills (Length s) S h f a n = none-filled _ _ (S .tables)
 rule-fills (Read s off k out) S h f a n = none-filled _ _ (S .tables)
 rule-fills (Show s k scratch) S h f a n = none-filled _ _ (S .tables)

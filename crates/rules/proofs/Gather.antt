@@ -1,23 +1,24 @@
 -- gather: when it refuses, the bytes that it copies, and what it gives of the records that list writes. Assumes nothing.
 use mathlib.Core.Path.{_≡_, refl, sym, ap, ap₂, _∙_}
-use mathlib.Core.Logic.{_≢_, _↔_, ⊎-elim}
+use mathlib.Core.Logic.{_≢_, _↔_, _⊎_, inl, inr, ⊎-elim}
 use mathlib.Core.Bool.{_||_}
 use mathlib.Core.List.{List, [], _∷_, _++_}
-use Prim.Native.Nat.{ℕ, _+_, _≤_, _<_}
+use Prim.Native.Nat.{ℕ, zero, suc, _+_, _*_, _/_, _≤_, _<_}
 use native.Mathlib.Decide.{decLt}
 use native.Mathlib.Omega.{arith}
-use lib.ListN.{length, take, drop, length-append, length-take, length-drop}
+use lib.ListN.{length, getD, take, drop, length-append, length-take, length-drop}
 use lib.Dec.{eqb, eqb→eq, ltb, ltb→lt, lt→ltb}
 use Rattle.kinds.specs.declared.Refusal.the-variants.{Narrow, WireList}
 use Rattle.kinds.specs.Refusal.{refusalCode}
 use Rattle.kinds.proofs.Sizes.{start-step}
-use Rattle.rules.specs.Basics.{Is}
+use Rattle.rules.specs.Basics.{Is, sumTo}
 use Rattle.rules.specs.Chain.{Stretch, total, bytesOf, positionOf, contents}
 use Rattle.rules.specs.Rule.{_⇐_}
 use Rattle.rules.specs.Read.{copied}
 use Rattle.rules.specs.List.{records}
 use Rattle.rules.specs.Gather.{lengthsOf, anyAmiss, listed, Gathered, gatherCode, gather}
-use Rattle.rules.proofs.Logic.{if-T, if-either, or-none, or-cases, eq→eqb, not-less, is-dec}
+use Rattle.rules.proofs.Logic.{if-T, if-either, or-none, or-cases, or-left, or-right, eq→eqb, not-less, is-dec}
+use Rattle.rules.proofs.Sums.{sumTo-same, sumTo-shift}
 use Rattle.rules.proofs.Build.{Good}
 use Rattle.rules.proofs.Contents.{Fit}
 use Rattle.rules.proofs.Codes.{first-yes, first-no, first-none}
@@ -74,6 +75,59 @@ module _ (st list out : List ℕ) where
   unfolding gather
   gather-done h n = if-T (eqb (gatherCode st list out) 0) _ _ (eq→eqb _ 0 (code-done h n))
 
+-- ---- record by record: its position stands at place 2 i of the list, and its length behind it
+
+-- the numbers of a list behind its first record
+behind-position : (p n : ℕ) (list : List ℕ) (i : ℕ) → getD (p ∷ n ∷ list) (2 * suc i) 0 ≡ getD list (2 * i) 0
+behind-position p n list i = (let e : 2 * suc i ≡ suc (suc (2 * i)) = omega arith in ap (λ j. getD (p ∷ n ∷ list) j 0) e)
+
+behind-length : (p n : ℕ) (list : List ℕ) (i : ℕ) → getD (p ∷ n ∷ list) (2 * suc i + 1) 0 ≡ getD list (2 * i + 1) 0
+behind-length p n list i = (let e : 2 * suc i + 1 ≡ suc (suc (2 * i + 1)) = omega arith in ap (λ j. getD (p ∷ n ∷ list) j 0) e)
+
+-- record i is whole, and has no length or leaves a storage of z bytes
+abbrev pub AmissAt : ℕ → List ℕ → ℕ → Type 0
+AmissAt z list i = (2 * i + 1 < length list) × ((getD list (2 * i + 1) 0 ≡ 0) ⊎ (z < getD list (2 * i) 0 + getD list (2 * i + 1) 0))
+
+amiss-first : (z p n : ℕ) (list : List ℕ) → Is (eqb n 0 || ltb z (p + n)) ↔ AmissAt z (p ∷ n ∷ list) 0
+amiss-first z p n list = (
+  λ t. (omega arith, ⊎-elim (λ e. inl (eqb→eq n 0 e)) (λ l. inr (ltb→lt z (p + n) l)) (or-cases (eqb n 0) _ t)),
+  λ x. ⊎-elim (λ e. or-left (eqb n 0) _ (eq→eqb n 0 e)) (λ l. or-right (eqb n 0) _ (lt→ltb z (p + n) l)) (x .1),
+)
+
+amiss-behind : (z p n : ℕ) (list : List ℕ) (i : ℕ) → AmissAt z list i ↔ AmissAt z (p ∷ n ∷ list) (suc i)
+amiss-behind z p n list i =
+    let a = behind-position p n list i in
+    let b = behind-length p n list i in (
+      λ x. (omega (arith, x .0), ⊎-elim (λ e. inl (b ∙ e)) (λ l. inr (omega arith)) (x .1)),
+      λ x. (omega (arith, x .0), ⊎-elim (λ e. inl (sym b ∙ e)) (λ l. inr (omega arith)) (x .1)),
+    )
+
+-- some record is amiss just where a whole one is
+pub amiss-at : (z : ℕ) (list : List ℕ) → Is (anyAmiss z list) ↔ ((i : ℕ) × AmissAt z list i)
+unfolding anyAmiss
+amiss-at z [] = (λ t. absurd t, λ x. absurd (omega (arith, x .1 .0)))
+amiss-at z (p ∷ []) = (λ t. absurd t, λ x. absurd (omega (arith, x .1 .0)))
+amiss-at z (p ∷ n ∷ list) = (
+  λ t. ⊎-elim (λ a. (0, amiss-first z p n list .0 a)) (λ r. (let (i, x) = amiss-at z list .0 r in (suc i, amiss-behind z p n list i .0 x)))
+      (or-cases (eqb n 0 || ltb z (p + n)) _ t),
+  λ x. back (amiss-at z list .1) (x .0) (x .1),
+)
+  where
+    back : (((i : ℕ) × AmissAt z list i) → Is (anyAmiss z list)) → (i : ℕ) → AmissAt z (p ∷ n ∷ list) i → Is ((eqb n 0 || ltb z (p + n)) || anyAmiss z list)
+    back h zero x = or-left (eqb n 0 || ltb z (p + n)) _ (amiss-first z p n list .1 x)
+    back h (suc i) x = or-right (eqb n 0 || ltb z (p + n)) _ (h (i, amiss-behind z p n list i .1 x))
+
+-- the sum of the lengths of the whole records
+pub lengths-at : (list : List ℕ) → lengthsOf list ≡ sumTo (length list / 2) (λ i. getD list (2 * i + 1) 0)
+unfolding lengthsOf
+lengths-at [] = refl
+lengths-at (p ∷ []) = refl
+lengths-at (p ∷ n ∷ list) =
+    let f : ℕ → ℕ = λ i. getD (p ∷ n ∷ list) (2 * i + 1) 0 in
+    let k : length (p ∷ n ∷ list) / 2 ≡ suc (length list / 2) = omega arith in
+    ap (λ j. n + j) (lengths-at list ∙ sumTo-same (length list / 2) _ _ (λ i _. sym (behind-length p n list i)))
+    ∙ sym (sumTo-shift (length list / 2) f) ∙ ap (λ j. sumTo j f) (sym k)
+
 -- ---- the bytes that it copies
 
 -- where no record is amiss, a record's bytes are as many as its length says
@@ -110,6 +164,16 @@ gather-exact st list out e =
     }
 
 -- ---- the records that list writes
+
+-- have the position of piece i at place 2 i, and its length behind it
+pub records-at : (Z : List ℕ) (xs : List Stretch) (i : ℕ) (x : Stretch) → i < length xs
+    → (getD (records Z xs) (2 * i) 0 ≡ positionOf Z (getD xs i x)) × (getD (records Z xs) (2 * i + 1) 0 ≡ getD xs i x .len)
+unfolding records
+records-at Z [] i x l = absurd (omega arith)
+records-at Z (y ∷ ys) zero x l = (refl, refl)
+records-at Z (y ∷ ys) (suc i) x l =
+    let (a, b) = records-at Z ys i x (omega arith) in
+    (behind-position (positionOf Z y) (y .len) (records Z ys) i ∙ a, behind-length (positionOf Z y) (y .len) (records Z ys) i ∙ b)
 
 -- ask as many bytes as the chain has
 pub records-ask : (Z : List ℕ) (xs : List Stretch) → lengthsOf (records Z xs) ≡ total xs

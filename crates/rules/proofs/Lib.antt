@@ -61,4 +61,5 @@ pub mod Own
 -- demand 3, lists of calls, the ten rows
 pub mod Demand
 pub mod Lists
+pub mod Settles
 pub mod Morning

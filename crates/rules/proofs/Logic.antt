@@ -1,13 +1,15 @@
--- Laws of the tests and of `if`. Assumes nothing.
-use mathlib.Core.Path.{_≡_, refl, sym, subst}
+-- Laws of the tests, of `if` and of tables by index. Assumes nothing.
+use mathlib.Core.Path.{_≡_, refl, sym, ap₂, subst}
 use mathlib.Core.Logic.{_≢_, _⊎_, inl, inr}
 use mathlib.Core.Bool.{Bool, true, false, not, _&&_, _||_}
+use mathlib.Core.List.{List, [], _∷_}
 use Prim.Native.Nat.{ℕ, zero, suc, _≤_, _<_}
 use native.Mathlib.Nat.{not-suc-le-zero}
 use native.Mathlib.Decide.{ℕ-discrete, decLt, decLe}
 use native.Mathlib.Omega.{arith}
+use lib.ListN.{length, getD}
 use lib.Dec.{ltb, lt→ltb, eqb, eqb→eq, eqb-refl, leb, le→leb}
-use Rattle.rules.specs.Basics.{Is, if_then_else_, bit, allTo, anyTo}
+use Rattle.rules.specs.Basics.{Is, if_then_else_, bit, allTo, anyTo, table}
 
 -- ---- if
 
@@ -162,3 +164,10 @@ any-at (suc n) f t = go (or-cases (f n) (anyTo n f) t) (any-at n f)
 -- both parts of a conjunction
 pub and-parts : (a b : Bool) → Is (a && b) → Is a × Is b
 and-parts a b t = (and-0 a b t, and-1 a b t)
+
+-- ---- tables
+
+-- the table of a list's entries
+pub table-is : {A : Type 0} (d : A) (l : List A) (f : ℕ → A) → ((i : ℕ) → i < length l → f i ≡ getD l i d) → table (length l) f ≡ l
+table-is d [] f h = refl
+table-is d (x ∷ l) f h = ap₂ _∷_ (h 0 (omega arith)) (table-is d l (λ i. f (suc i)) (λ i k. h (suc i) (omega arith)))

@@ -1,14 +1,17 @@
--- The ten marked rows and the edges, by computing.
-use mathlib.Core.Path.{_≡_, refl}
-use mathlib.Core.List.{List, [], _∷_}
-use Prim.Native.Nat.{ℕ}
-use lib.ListN.{length, replicate}
+-- The ten marked rows and the edges, by computing. Assumes nothing.
+use mathlib.Core.Path.{_≡_, refl, sym, ap, _∙_}
+use mathlib.Core.List.{List, [], _∷_, map}
+use Prim.Native.Nat.{ℕ, zero, suc, _+_, _-_, _%_, _<_}
+use native.Mathlib.Omega.{arith}
+use lib.ListN.{length, getD, take, replicate}
 use Rattle.word.specs.Word.{get16}
 use Rattle.kinds.specs.Sizes.{classOf}
 use Rattle.rules.specs.Basics.{if_then_else_, allTo, places}
+use Rattle.rules.specs.Tables.{pieceTotal}
 use Rattle.rules.specs.Bytes.{decode, encode}
-use Rattle.rules.specs.Chain.{follow, walk, ownPieces, stretches, total, cutOut, contents}
-use Rattle.rules.specs.Sound.{heads, nexts, lying, headerOk, acyclic, soundTables, sound, lent}
+use Rattle.rules.specs.Chain.{follow, walk, ownPieces, stretches, total, cutOut, contents, reads}
+use Rattle.rules.specs.Sound.{heads, nexts, lying, headerOk, acyclic, soundTables, sound, Lent, lent}
+use Rattle.rules.specs.Room.{freePieces}
 use Rattle.rules.specs.Release.{releaseIn, release, turned, relinked}
 use Rattle.rules.specs.Build.{builtLink, built, underNew, underOld, behindOwn, laid, filledAt, stored}
 use Rattle.rules.specs.Rule.{firstCode}
@@ -21,8 +24,8 @@ use Rattle.rules.specs.Drop.{dropHere, dropPlan, dropAfter}
 use Rattle.rules.specs.Keep.{shortened, keptBy, keepAfter}
 use Rattle.rules.specs.Pullup.{pullupAfter, pullupWants}
 use Rattle.rules.specs.Pack.{packAfter, packWants}
-use Rattle.rules.specs.Step.{Put, Dup, Cut, Open, Do, rule, done, perform, step, next, afterCalls}
-use Rattle.rules.specs.Morning.{byteRun, rows, fresh4, given, edges, tried}
+use Rattle.rules.specs.Step.{Put, Free, Dup, Cut, Append, Drop, Keep, Pullup, Pack, Open, Do, rule, done, perform, step, stateIn, leftBy, next, afterCalls}
+use Rattle.rules.specs.Morning.{Row, byteRun, rows, fresh4, given, Edge, edge, edges, tried}
 
 -- unfolding this unfolds every rule
 every-rule : Unit {0}
@@ -54,3 +57,72 @@ used-example = refl
 pub edges-hold : tried edges fresh4 ≡ edges
 unfolding every-rule tried
 edges-hold = refl
+
+-- ---- which rows and edges these are
+
+-- the ten calls, in order, and the slip whose bytes each row has
+pub ten-rows : (map (λ (r : Row). r .call) rows
+    ≡ Put (byteRun 0 600) ∷ Cut 0 500 50 ∷ Dup 0 ∷ Free 0 ∷ Drop 2 520 ∷ Append 1 2 ∷ Keep 1 40 ∷ Pullup 1 20 ∷ Pack 1 ∷ Free 1 ∷ [])
+    × (_≡_ {A = List ℕ} (map (λ (r : Row). r .slip) rows) (0 ∷ 1 ∷ 2 ∷ 0 ∷ 2 ∷ 1 ∷ 1 ∷ 1 ∷ 1 ∷ 1 ∷ []))
+ten-rows = (refl, refl)
+
+-- the nine edges: the calls before each, and the call
+pub nine-edges : (map (λ (e : Edge). e .before) edges
+    ≡ [] ∷ [] ∷ [] ∷ [] ∷ (Put (byteRun 0 600) ∷ []) ∷ (Put (byteRun 0 600) ∷ []) ∷ (Put (byteRun 0 10) ∷ []) ∷ (Put (byteRun 0 10) ∷ []) ∷ [] ∷ [])
+    × (map (λ (e : Edge). e .call) edges
+    ≡ Put (byteRun 0 512) ∷ Put (byteRun 0 513) ∷ Put (byteRun 0 2048) ∷ Put (byteRun 0 2049) ∷ Cut 0 600 0 ∷ Cut 0 601 0 ∷ Pullup 0 513
+    ∷ Append 0 0 ∷ Append 0 0 ∷ [])
+nine-edges = (refl, refl)
+
+-- data byte i is i mod 251
+pub run-at : (a n i : ℕ) → i < n → getD (byteRun a n) i 0 ≡ (a + i) % 251
+run-at a zero i l = absurd (omega arith)
+run-at a (suc n) zero l = (let e : a ≡ a + 0 = omega arith in ap (λ k. k % 251) e)
+run-at a (suc n) (suc i) l = (let e : suc a + i ≡ a + suc i = omega arith in run-at (suc a) n i (omega arith) ∙ ap (λ k. k % 251) e)
+
+pub run-long : (a n : ℕ) → length (byteRun a n) ≡ n
+run-long a zero = refl
+run-long a (suc n) = ap suc (run-long (suc a) n)
+
+-- ---- row by row, and edge by edge
+
+-- what the call r gives on the pool that the calls of the rows rs leave
+abbrev pub rowAfter : List Row → Row → Lent → Row
+rowAfter rs r m =
+    let a = step (Do (r .call)) (afterCalls (map (λ (q : Row). Do (q .call)) rs) m) in
+    record {
+      call = r .call;
+      code = a .code;
+      number = a .number;
+      tables = decode (a .pool);
+      storage = a .storage;
+      slip = r .slip;
+      bytes = reads (stateIn (leftBy a)) (r .slip);
+    }
+
+given-at : (rs : List Row) (m : Lent) (i : ℕ) (z : Row) → i < length rs → getD (given rs m) i z ≡ rowAfter (take i rs) (getD rs i z) m
+unfolding given
+given-at [] m i z l = absurd (omega arith)
+given-at (r ∷ rs) m zero z l = refl
+given-at (r ∷ rs) m (suc i) z l = given-at rs (next (Do (r .call)) m) i z (omega arith)
+
+-- Row i is what its call gives on the pool that the calls of the rows above it leave.
+pub row-at : (i : ℕ) (z : Row) → i < 10 → getD rows i z ≡ rowAfter (take i rows) (getD rows i z) fresh4
+row-at i z l = ap (λ (rs : List Row). getD rs i z) (sym morning) ∙ given-at rows fresh4 i z l
+
+-- what the call of the edge e gives in a fresh pool after the calls before it
+abbrev pub edgeAfter : Edge → Lent → Edge
+edgeAfter e m =
+    let a = step (Do (e .call)) (afterCalls (map Do (e .before)) m) in
+    let T = decode (a .pool) in
+    edge (e .before) (e .call) (a .code) (a .number) (T .slips) (pieceTotal T - length (freePieces T))
+
+tried-at : (es : List Edge) (m : Lent) (i : ℕ) (z : Edge) → i < length es → getD (tried es m) i z ≡ edgeAfter (getD es i z) m
+unfolding tried
+tried-at [] m i z l = absurd (omega arith)
+tried-at (e ∷ es) m zero z l = refl
+tried-at (e ∷ es) m (suc i) z l = tried-at es m i z (omega arith)
+
+-- Edge i is what its call gives.
+pub edge-at : (i : ℕ) (z : Edge) → i < 9 → getD edges i z ≡ edgeAfter (getD edges i z) fresh4
+edge-at i z l = ap (λ (es : List Edge). getD es i z) (sym edges-hold) ∙ tried-at edges fresh4 i z l

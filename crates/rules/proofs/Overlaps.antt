@@ -6,7 +6,7 @@ use mathlib.Core.List.{List, [], _∷_}
 use Prim.Native.Nat.{ℕ, zero, suc, _+_, _-_, _≤_, _<_, min}
 use native.Mathlib.Decide.{decLe}
 use native.Mathlib.Omega.{arith}
-use lib.ListN.{length}
+use lib.ListN.{length, take, length-take}
 use lib.Dec.{eqb, ltb, ltb→lt, lt→ltb, leb, leb→le, le→leb}
 use Rattle.rules.specs.Basics.{bit}
 use Rattle.rules.specs.Tables.{Tables, piece}
@@ -196,16 +196,19 @@ splits-inside x xs a n h =
 
 -- ---- own pieces
 
--- of fewer pieces as many are own as there are own pieces, or all
-pub own-fewer : (k j n : ℕ) (T : Tables) → k ≤ j → length (ownPieces k T n) ≡ min k (length (ownPieces j T n))
+-- of fewer pieces the own ones are the first of the own pieces
+pub own-part : (k j n : ℕ) (T : Tables) → k ≤ j → ownPieces k T n ≡ take k (ownPieces j T n)
 unfolding ownPieces
-own-fewer zero j n T h = omega arith
-own-fewer (suc k) zero n T h = absurd (omega arith)
-own-fewer (suc k) (suc j) zero T h = omega arith
-own-fewer (suc k) (suc j) (suc d) T h =
+own-part zero j n T h = refl
+own-part (suc k) zero n T h = absurd (omega arith)
+own-part (suc k) (suc j) zero T h = refl
+own-part (suc k) (suc j) (suc d) T h =
     let m = piece T d .next in
-    if-both (λ (ds es : List ℕ). length ds ≡ min (suc k) (length es)) (eqb (piece T d .count) 1) (d ∷ ownPieces k T m) [] (d ∷ ownPieces j T m) []
-    (λ _. omega (arith, own-fewer k j m T (omega arith))) (λ _. omega arith)
+    if-both (λ (ds es : List ℕ). ds ≡ take (suc k) es) (eqb (piece T d .count) 1) (d ∷ ownPieces k T m) [] (d ∷ ownPieces j T m) []
+    (λ _. ap {B = List ℕ} (λ q. d ∷ q) (own-part k j m T (omega arith))) (λ _. refl)
+
+pub own-fewer : (k j n : ℕ) (T : Tables) → k ≤ j → length (ownPieces k T n) ≡ min k (length (ownPieces j T n))
+own-fewer k j n T h = ap length (own-part k j n T h) ∙ length-take k (ownPieces j T n)
 
 -- a walk of k pieces at most
 pub walk-short : (k n : ℕ) (T : Tables) → length (walk k T n) ≤ k

@@ -9,11 +9,12 @@ use lib.ListN.{length, getD, take}
 use lib.Dec.{eqb, eqb→eq, leb, le→leb, leb→le, ltb, ltb→lt, lt→ltb}
 use Rattle.rules.specs.Basics.{if_then_else_}
 use Rattle.rules.specs.Tables.{Tables, piece, headOf, pieceTotal}
-use Rattle.rules.specs.Chain.{Stretch, walk, chain, ownPieces, ownOf, stretches, spans, total, cutOut, ownAt}
+use Rattle.rules.specs.Chain.{walk, chain, ownPieces, ownOf, stretches, spans, total, ownAt}
 use Rattle.rules.specs.Keep.{kept, keptOwn}
 use Rattle.rules.specs.Drop.{dropHere, dropPlan, dropped}
-use Rattle.rules.proofs.Logic.{if-T, if-F, if-either, if-both, is-true, is-false, same-test, eq→eqb}
+use Rattle.rules.proofs.Logic.{if-T, if-F, if-either, is-true, is-false, same-test, eq→eqb}
 use Rattle.rules.proofs.Hang.{stretches-length}
+use Rattle.rules.proofs.Overlaps.{cut-short, own-part}
 use Rattle.rules.proofs.Bounds.{chain-short}
 
 own-take : (k n : ℕ) (T : Tables) → ownPieces k T n ≡ take (length (ownPieces k T n)) (walk k T n)
@@ -60,24 +61,6 @@ pub own-exact : (T : Tables) (s i : ℕ) → i < length (chain T s)
 own-exact T s i l = own-here (pieceTotal T) (headOf T s) T i l
 
 -- ---- keep
-
--- no more stretches are cut out than there are
-cut-short : (xs : List Stretch) (off n : ℕ) → length (cutOut xs off n) ≤ length xs
-unfolding cutOut
-cut-short [] off n = omega arith
-cut-short (x ∷ xs) off zero = omega arith
-cut-short (x ∷ xs) off (suc n) =
-    if-either (λ (q : List Stretch). length q ≤ suc (length xs)) (leb (x .len) off) (cutOut xs (off - x .len) (suc n)) _
-    (λ _. omega (arith, cut-short xs (off - x .len) (suc n))) (λ _. omega (arith, cut-short xs 0 (suc n - (x .len - off))))
-
-own-part : (j k n : ℕ) (T : Tables) → j ≤ k → ownPieces j T n ≡ take j (ownPieces k T n)
-unfolding ownPieces
-own-part zero k n T l = refl
-own-part (suc j) zero n T l = absurd (omega arith)
-own-part (suc j) (suc k) zero T l = refl
-own-part (suc j) (suc k) (suc d) T l =
-    if-both (λ (p q : List ℕ). p ≡ take (suc j) q) (eqb (piece T d .count) 1) (d ∷ ownPieces j T (piece T d .next)) [] (d ∷ ownPieces k T (piece T d .next)) []
-    (λ _. ap {B = List ℕ} (λ q. d ∷ q) (own-part j k (piece T d .next) T (omega arith))) (λ _. refl)
 
 -- Of the pieces that stay of a keep, those are taken for own that are.
 pub keep-own : (T : Tables) (s n : ℕ) → keptOwn T s n ≡ take (length (kept T s n)) (ownOf T s)

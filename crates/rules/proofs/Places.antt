@@ -1,6 +1,7 @@
 -- Where in a pool's bytes each entry stands, in numbers written out. Assumes nothing.
-use mathlib.Core.Path.{_≡_, refl, sym, ap, _∙_}
+use mathlib.Core.Path.{_≡_, refl, ap}
 use mathlib.Core.Logic.{_↔_}
+use mathlib.Core.Bool.{_&&_}
 use mathlib.Core.List.{List, [], _∷_}
 use Prim.Native.Nat.{ℕ, _+_, _*_, _<_}
 use native.Mathlib.Omega.{arith}
@@ -11,12 +12,13 @@ use Rattle.rules.specs.Basics.{Is}
 use Rattle.rules.specs.Layout.{poolLength, storageLength}
 use Rattle.rules.specs.Tables.{Piece, blank, slip, piece, bufferCount}
 use Rattle.rules.specs.Bytes.{versionIn, buffersIn, piecesIn, slipsIn, decode}
-use Rattle.rules.specs.Sound.{Lent, headerOk, countsOk}
+use Rattle.rules.specs.Sound.{Lent, marked, countsOk, lengthsOk, headed, headerOk}
 use Rattle.rules.specs.Open.{openable}
 use Rattle.rules.specs.Step.{Open, step}
 use Rattle.rules.specs.Places.{CountsAt, HeaderAt}
+use Rattle.rules.specs.Causes.{Fitting}
 use Rattle.rules.proofs.Logic.{and-intro, and-parts}
-use Rattle.rules.proofs.Bytes.{and-is, eqb-is, getD-table, counts-facts, counts-test, header-facts, header-test}
+use Rattle.rules.proofs.Bytes.{and-is, eqb-is, getD-table, counts-facts, counts-test}
 use Rattle.rules.proofs.Step.{open-code}
 
 module _ (p : List ℕ) where
@@ -57,40 +59,37 @@ module _ (p : List ℕ) where
 pub lengths-at : (B P S : ℕ) → (poolLength B P S ≡ 11 + 2 * S + 10 * P + 2 * B) × (storageLength (B ∷ []) B ≡ 512 * B)
 lengths-at B P S = (refl, start-one (B ∷ []) B)
 
--- A header is accepted just where its bytes are these.
-pub header-exact : (m : Lent) → Is (headerOk m) ↔ HeaderAt (m .pool) (length (m .storage))
-header-exact m = (
+-- counts and lengths pass their tests just where they are these
+fits-at : (B P S n k : ℕ) → Is (countsOk B P S && lengthsOk B P S n k) ↔ CountsAt B P S n k
+fits-at B P S n k = (
   λ t. (
-      let h = header-facts m t in
-      let k = simp (and-is, eqb-is) at (h .is-marked) in
-      record {
-        mark-0 = k .0;
-        mark-1 = k .1 .0;
-        mark-2 = k .1 .1 .0;
-        version-1 = k .1 .1 .1;
-        counts = omega (arith, h .counts);
-        pool-long = h .pool-long;
-        storage-long = h .storage-long ∙ start-one _ (buffersIn (m .pool));
-      }),
-  λ h. header-test m (record {
-    is-marked = simp (and-is, eqb-is) (h .mark-0, (h .mark-1, (h .mark-2, h .version-1)));
-    counts = omega (arith, h .counts);
-    pool-long = h .pool-long;
-    storage-long = h .storage-long ∙ sym (start-one _ (buffersIn (m .pool)));
-  }),
+      let (c, l) = and-parts (countsOk B P S) _ t in
+      let e = simp (and-is, eqb-is) at l in
+      let f = counts-facts B P S c in
+      omega (arith, e .0, e .1, start-one (B ∷ []) B)),
+  λ f. and-intro (countsOk B P S) _ (counts-test {B = B} {P = P} {S = S} (omega arith)) (simp (and-is, eqb-is) (omega (arith, start-one (B ∷ []) B))),
 )
 
--- Open is done just where its counts are in range and both lengths are these
-pub open-exact : (B P S : ℕ) (m : Lent) → (step (Open B P S) m .code ≡ 0)
-    ↔ (CountsAt B P S × (length (m .pool) ≡ 11 + 2 * S + 10 * P + 2 * B) × (length (m .storage) ≡ 512 * B))
-unfolding openable
-open-exact B P S m =
-    let o = open-code B P S m in (
-      λ e. (
-          let (c, l) = and-parts (countsOk B P S) _ (o .0 e) in
-          let k = simp (and-is, eqb-is) at l in
-          let r = counts-facts B P S c in
-          (omega arith, k .0, k .1 ∙ start-one _ B)),
-      λ h. o .1 (and-intro (countsOk B P S) _ (counts-test {B = B} {P = P} {S = S} (omega (arith, h .0)))
-          (simp (and-is, eqb-is) (h .1, h .2 ∙ sym (start-one _ B)))),
+-- A header is accepted just where its bytes are these.
+pub header-exact : (m : Lent) → Is (headerOk m) ↔ HeaderAt (m .pool) (length (m .storage))
+unfolding headerOk headed
+header-exact m =
+    let p = m .pool in
+    let f = fits-at (buffersIn p) (piecesIn p) (slipsIn p) (length p) (length (m .storage)) in (
+      λ t. (
+          let (a, c) = and-parts (marked p) _ t in
+          let k = simp (and-is, eqb-is) at a in
+          record { mark-0 = k .0; mark-1 = k .1 .0; mark-2 = k .1 .1 .0; version-1 = k .1 .1 .1; counts = f .0 c }),
+      λ h. and-intro (marked p) _ (simp (and-is, eqb-is) (h .mark-0, (h .mark-1, (h .mark-2, h .version-1)))) (f .1 (h .counts)),
     )
+
+-- Open is done just where its counts are in range and both lengths are these.
+pub open-fits : (B P S : ℕ) (m : Lent) → Is (openable B P S m) ↔ Fitting B P S m
+unfolding openable
+open-fits B P S m = fits-at B P S (length (m .pool)) (length (m .storage))
+
+pub open-exact : (B P S : ℕ) (m : Lent) → (step (Open B P S) m .code ≡ 0) ↔ Fitting B P S m
+open-exact B P S m =
+    let o = open-code B P S m in
+    let f = open-fits B P S m in
+    (λ e. f .0 (o .0 e), λ h. o .1 (f .1 h))

@@ -1,21 +1,20 @@
 -- In sound tables every chain ends, and the recount of demand 3 agrees with the stored counts. Assumes nothing.
-use mathlib.Core.Path.{_≡_, refl, sym, ap, ap₂, subst, _∙_}
+use mathlib.Core.Path.{_≡_, refl, sym, ap, subst, _∙_}
 use mathlib.Core.Logic.{_↔_, ⊎-elim}
 use mathlib.Core.Bool.{Bool, not, _&&_}
-use mathlib.Core.List.{List, [], _∷_}
+use mathlib.Core.List.{[]}
 use Prim.Native.Nat.{ℕ, zero, suc, _+_, _≤_, _<_}
 use native.Mathlib.Decide.{ℕ-discrete}
 use native.Mathlib.Omega.{arith}
-use lib.ListN.{length, getD}
 use lib.Dec.{eqb, eqb→eq, eqb-refl, eqb·suc-zero, ltb, ltb→lt, lt→ltb}
-use Rattle.rules.specs.Basics.{Is, bit, table, member}
+use Rattle.rules.specs.Basics.{Is, bit, member}
 use Rattle.rules.specs.Tables.{Piece, Tables, blank, isBlank, piece, bufferCount, headOf, slipTotal, pieceTotal, bufferTotal, withCount, withBoth}
 use Rattle.rules.specs.Chain.{follow, walk, chain}
 use Rattle.rules.specs.Sound.{inUse, leads, heads, nexts, lying}
 use Rattle.rules.specs.Room.{isVacant, isFree, isUnheld}
 use Rattle.rules.specs.Rule.{want, room}
 use Rattle.rules.specs.Recount.{Reached, headed, after, reached, references, holders, recounted, leaves, Recount}
-use Rattle.rules.proofs.Logic.{and-0, or-cases, or-left, or-right, is-true, same-test, any-intro, any-at, bit-T, bit-F}
+use Rattle.rules.proofs.Logic.{and-0, or-cases, or-left, or-right, is-true, same-test, any-intro, any-at, bit-T, bit-F, table-is}
 use Rattle.rules.proofs.Sums.{sumTo-same, sumTo-pos, sumTo-one, sumTo-both}
 use Rattle.rules.proofs.Moves.{hit, links, SoundBy, SoundNow, hit-pos, used-in-range}
 use Rattle.rules.proofs.Rank.{low-below, lower-rank, next-pos, head-pos}
@@ -162,15 +161,11 @@ recount T S =
 
 -- ---- the tables with every count set to the references found are the tables
 
-table-same : {A : Type 0} (l : List A) (f : ℕ → A) (z : A) → ((i : ℕ) → i < length l → f i ≡ getD l i z) → table (length l) f ≡ l
-table-same [] f z h = refl
-table-same (x ∷ l) f z h = ap₂ _∷_ (h 0 (omega arith)) (table-same l (λ i. f (suc i)) z (λ i k. h (suc i) (omega arith)))
-
 pub recounted-same : (T : Tables) → SoundNow T → recounted T ≡ T
 unfolding recounted
 recounted-same T S =
-    let p = table-same (T .pieces) (λ d. withCount (piece T d) (references T d)) blank (λ d _. ap (withCount (piece T d)) (sym (references-same T S d))) in
-    let c = table-same (T .counts) (holders T) 0 (λ b _. sym (holders-same T S b)) in
+    let p = table-is blank (T .pieces) (λ d. withCount (piece T d) (references T d)) (λ d _. ap (withCount (piece T d)) (sym (references-same T S d))) in
+    let c = table-is 0 (T .counts) (holders T) (λ b _. sym (holders-same T S b)) in
     λ i. withBoth T (p i) (c i)
 
 -- ---- what the recount leaves is the room at entry

@@ -1,7 +1,7 @@
 -- Release keeps soundness, and leaves the slips alone. Assumes nothing.
 use mathlib.Core.Path.{_≡_, refl, subst}
 use mathlib.Core.List.{List, _∷_}
-use Prim.Native.Nat.{ℕ, zero, suc, _-_, _<_, pred}
+use Prim.Native.Nat.{ℕ, zero, suc, _<_, pred}
 use native.Mathlib.Decide.{decLt}
 use native.Mathlib.Omega.{arith}
 use lib.ListN.{length}

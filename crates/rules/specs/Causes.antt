@@ -2,7 +2,7 @@
 use mathlib.Core.Path.{_≡_}
 use mathlib.Core.Logic.{_⊎_, _↔_}
 use mathlib.Core.List.{List, [], _∷_}
-use Prim.Native.Nat.{ℕ, _+_, _*_, _≤_, _<_}
+use Prim.Native.Nat.{ℕ, _≤_, _<_}
 use lib.ListN.{length, getD}
 use Rattle.kinds.specs.declared.Refusal.{Refusal}
 use Rattle.kinds.specs.declared.Refusal.the-variants.{Counts, Torn, Slip, Same, Long, Range, Narrow, Slips, Pieces, Buffers, WireList}
@@ -15,6 +15,7 @@ use Rattle.rules.specs.Room.{isVacant}
 use Rattle.rules.specs.Rule.{Meaning}
 use Rattle.rules.specs.Step.{Call, Open, Do, meaning, stateIn, step}
 use Rattle.rules.specs.Recount.{leaves}
+use Rattle.rules.specs.Places.{CountsAt}
 
 -- slip t is S or more, or vacant
 abbrev pub Missing : Tables → ℕ → Type 0
@@ -44,15 +45,8 @@ Cause Buffers o S = leaves (S .tables) .buffers < o .asks S .new .buffers
 Cause WireList o S = ⊥
 
 -- open B, P, S: each count is in its range, and both lent lengths are the ones that it asks
-pub record Fitting (B P S : ℕ) (m : Lent) : Type 0 where
-  pub some-buffers : 1 ≤ B
-  pub most-buffers : B ≤ 128
-  pub some-pieces : 1 ≤ P
-  pub most-pieces : P ≤ 256
-  pub some-slips : 1 ≤ S
-  pub most-slips : S ≤ 64
-  pub pool-long : length (m .pool) ≡ 11 + 2 * S + 10 * P + 2 * B
-  pub storage-long : length (m .storage) ≡ 512 * B
+abbrev pub Fitting : ℕ → ℕ → ℕ → Lent → Type 0
+Fitting B P S m = CountsAt B P S (length (m .pool)) (length (m .storage))
 
 -- The cause of each code for any call on any bytes: open finds code 1 alone, and any other call finds code 2 where the pool isn't sound.
 abbrev pub CauseOf : Refusal → Call → Lent → Type 0

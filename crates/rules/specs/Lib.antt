@@ -27,6 +27,7 @@ pub mod List
 pub mod Gather
 pub mod Step
 pub mod Recount
+pub mod Places
 pub mod Causes
 pub mod Demand
 pub mod After
@@ -35,5 +36,4 @@ pub mod Answers
 pub mod Lists
 pub mod Still
 pub mod Fills
-pub mod Places
 pub mod Morning
