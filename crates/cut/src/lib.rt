@@ -41,8 +41,8 @@ pub fn cut(pool: &mut [u8], shape: Shape, s: SlipNumber, off: u32, n: u32) -> Ou
     if !part.enough {
         return Outcome::Refused(Refusal::Range);
     }
-    let t = room::next_vacant(pool, shape, 0);
-    if t == shape.slips {
+    let t = room::next_vacant(pool, shape, SlipNumber(0));
+    if t.0 == shape.slips {
         return Outcome::Refused(Refusal::Slips);
     }
     let pieces = overlapped(n, part.pieces);
@@ -51,5 +51,5 @@ pub fn cut(pool: &mut [u8], shape: Shape, s: SlipNumber, off: u32, n: u32) -> Ou
         return Outcome::Refused(Refusal::Pieces);
     }
     let first = build::copy_pieces(pool, shape, link, into, n, pieces, room.lowest, 0);
-    build::under_new(pool, shape, SlipNumber(t), first)
+    build::under_new(pool, shape, t, first)
 }

@@ -25,8 +25,8 @@ pub fn put(pool: &mut [u8], shape: Shape, storage: &mut [u8], input: &[u8]) -> O
         ≡ perform (Put (now (input .entry))) (lent (now (pool .entry)) (now (storage .entry))) ⌝ }
     ensures { λ r. ⌜ Leaves r (stateOf (slip (decode (now (pool .exit))) (numberOf r))) ⌝ }
 {
-    let t = room::next_vacant(pool, shape, 0);
-    if t == shape.slips {
+    let t = room::next_vacant(pool, shape, SlipNumber(0));
+    if t.0 == shape.slips {
         return Outcome::Refused(Refusal::Slips);
     }
     let count = room::buffers_for(input.len());
@@ -47,5 +47,5 @@ pub fn put(pool: &mut [u8], shape: Shape, storage: &mut [u8], input: &[u8]) -> O
         pieces.lowest,
         buffers.lowest,
     );
-    build::under_new(pool, shape, SlipNumber(t), first)
+    build::under_new(pool, shape, t, first)
 }

@@ -31,7 +31,7 @@ returns c =
     (record { shaped = z .pre .0 .shaped; is = sym (e .0) }, sym (e .1))
 
 -- the first piece to take is the lowest free one
-first-is : (i : tie.Else1 Inv-loop μ-loop) → let a = i .before .before .args in let T = decode (a .pool .now) in a .first ≡ firstFrom (isFree T) 0 (pieceTotal T)
+first-is : (i : tie.Else1 Inv-loop μ-loop) → let a = i .before .before .args in let T = decode (a .pool .now) in a .first .0 ≡ firstFrom (isFree T) 0 (pieceTotal T)
 first-is i =
     let z = i .before .before in
     let T = decode (z .args .pool .now) in
