@@ -105,14 +105,16 @@ fn clone_piece(pool: &mut [u8], shape: Shape, c: Cloning, more: u16, tail: u16) 
         × (r ≡ cloned (decode (now (pool .entry))) c more) ⌝ }
 {
     let d = PieceNumber(c.at - 1);
-    let line = in_line(pool, shape, c.free, more, tail);
+    let f = c.free;
+    let line = in_line(pool, shape, f, more, tail);
     let length = kinds::lesser(c.left, tables::piece_length(pool, shape, d) as u32 - c.skip);
     let buffer = tables::piece_buffer(pool, shape, d);
     let offset = tables::piece_offset(pool, shape, d) + c.skip as u16;
     let next = tables::piece_next(pool, shape, d);
-    take_piece(pool, shape, c.free, buffer, offset, length as u16, line.link);
+    take_piece(pool, shape, f, buffer, offset, length as u16, line.link);
+    let free = line.free;
     Cloning {
-        free: line.free,
+        free: free,
         at: next,
         skip: 0,
         left: c.left - length,
@@ -164,22 +166,32 @@ fn lay_piece(pool: &mut [u8], shape: Shape, c: Laying, more: u16) -> Laying
         (fresh (laidAt (decode (now (pool .entry))) c) (linkInLine (decode (now (pool .entry))) (c .free .0) more 0)))
         × (r ≡ laidOn (decode (now (pool .entry))) c more) ⌝ }
 {
-    let b = room::next_free_buffer(pool, shape, c.from);
+    let f = c.free;
+    let from = c.from;
+    let b = room::next_free_buffer(pool, shape, from);
     let length = kinds::lesser(BufferNumber::SIZE as u32, c.left);
-    let line = in_line(pool, shape, c.free, more, 0);
-    take_piece(pool, shape, c.free, b, 0, length as u16, line.link);
-    let from = BufferNumber(b.0 + 1);
+    let line = in_line(pool, shape, f, more, 0);
+    take_piece(pool, shape, f, b, 0, length as u16, line.link);
+    let free = line.free;
+    let after = BufferNumber(b.0 + 1);
     let left = c.left - length;
     Laying {
-        free: line.free,
-        from: from,
+        free: free,
+        from: after,
         left: left,
     }
 }
 
 // New pieces for `n` bytes, taken from the lowest free piece `first` on, on the `count` lowest free buffers, from `buffer` on,
 // from offset 0, each full but the last; answers the link to the first: descriptors over fresh clusters.
-pub fn lay(pool: &mut [u8], shape: Shape, n: u32, count: u16, first: PieceNumber, buffer: BufferNumber) -> u16
+pub fn lay(
+    pool: &mut [u8],
+    shape: Shape,
+    n: u32,
+    count: u16,
+    first: PieceNumber,
+    buffer: BufferNumber,
+) -> u16
     requires { ⌜ Opened (now pool) shape ⌝ }
     requires { ⌜ (count ≤ length (freePieces (decode (now pool)))) × (count ≤ length (freeBuffers (decode (now pool)))) ⌝ }
     requires { ⌜ (first .0 ≡ lowestFor (isFree (decode (now pool))) count (pieceTotal (decode (now pool))))

@@ -50,6 +50,7 @@ pub fn cut(pool: &mut [u8], shape: Shape, s: SlipNumber, off: u32, n: u32) -> Ou
     if !room.enough {
         return Outcome::Refused(Refusal::Pieces);
     }
-    let first = build::copy_pieces(pool, shape, link, into, n, pieces, room.lowest, 0);
+    let lowest = room.lowest;
+    let first = build::copy_pieces(pool, shape, link, into, n, pieces, lowest, 0);
     build::under_new(pool, shape, t, first)
 }

@@ -28,7 +28,14 @@ ghost use Rattle.rest.specs.Rest.{restFrom};
 ghost use Rattle.pullup.specs.Pull.{pulledFrom, Pullable, Pulled};
 
 // Makes a first piece for the `n` bytes of buffer `b`, before what stays from the place `at`; answers the link to it: a new head descriptor.
-fn make_first(pool: &mut [u8], shape: Shape, at: Spot, f: PieceNumber, b: BufferNumber, n: u16) -> u16
+fn make_first(
+    pool: &mut [u8],
+    shape: Shape,
+    at: Spot,
+    f: PieceNumber,
+    b: BufferNumber,
+    n: u16,
+) -> u16
     requires { ⌜ Opened (now pool) shape × Is (linkOk (decode (now pool)) (at .link)) × (b .0 < shape .buffers) ⌝ }
     requires { ⌜ ((at .link ≡ 0 → ⊥) → at .into < piece (decode (now pool)) (at .link - 1) .len) ⌝ }
     requires { ⌜ (length (restFrom (decode (now pool)) (at .own) (at .link) (at .into) .more) < length (freePieces (decode (now pool))))
@@ -90,20 +97,11 @@ pub fn pullup(pool: &mut [u8], shape: Shape, storage: &mut [u8], s: SlipNumber, 
     if !pieces.enough {
         return Outcome::Refused(Refusal::Pieces);
     }
+    let f = pieces.lowest;
     let b = room::next_free_buffer(pool, shape, BufferNumber(0));
     if b.0 == shape.buffers {
         return Outcome::Refused(Refusal::Buffers);
     }
-    pull(
-        pool,
-        shape,
-        storage,
-        s,
-        n,
-        head,
-        at,
-        pieces.lowest,
-        b,
-    );
+    pull(pool, shape, storage, s, n, head, at, f, b);
     answer::done(pool, shape, s, 0)
 }

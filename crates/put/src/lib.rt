@@ -38,14 +38,9 @@ pub fn put(pool: &mut [u8], shape: Shape, storage: &mut [u8], input: &[u8]) -> O
     if !buffers.enough {
         return Outcome::Refused(Refusal::Buffers);
     }
-    transfer::fill_free(pool, shape, storage, input, buffers.lowest);
-    let first = build::lay(
-        pool,
-        shape,
-        input.len() as u32,
-        count as u16,
-        pieces.lowest,
-        buffers.lowest,
-    );
+    let piece = pieces.lowest;
+    let buffer = buffers.lowest;
+    transfer::fill_free(pool, shape, storage, input, buffer);
+    let first = build::lay(pool, shape, input.len() as u32, count as u16, piece, buffer);
     build::under_new(pool, shape, t, first)
 }

@@ -54,7 +54,14 @@ pub fn wanted(link: u16, into: u32, own: bool) -> u16
 
 // Makes what stays from `into` bytes into the piece that `link` leads to, with the lowest free piece from `from`
 // on where a new one is needed; answers the link to it: a head trimmed in place or copied.
-pub fn settle(pool: &mut [u8], shape: Shape, link: u16, into: u32, own: bool, from: PieceNumber) -> u16
+pub fn settle(
+    pool: &mut [u8],
+    shape: Shape,
+    link: u16,
+    into: u32,
+    own: bool,
+    from: PieceNumber,
+) -> u16
     requires { ⌜ Opened (now pool) shape × Is (linkOk (decode (now pool)) link) ⌝ }
     requires { ⌜ ((link ≡ 0 → ⊥) → into < piece (decode (now pool)) (link - 1) .len) ⌝ }
     requires { ⌜ length (restFrom (decode (now pool)) own link into .more) ≤ length

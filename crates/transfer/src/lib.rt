@@ -178,7 +178,14 @@ fn refill_buffer(
 
 // Fills the lowest free buffers, from `buffer` on, with the first `n` bytes of the chain from
 // `link`, in order, and the rest of the last with zeros: a gather into fresh clusters.
-pub fn refill(pool: &[u8], shape: Shape, storage: &mut [u8], link: u16, n: u32, buffer: BufferNumber)
+pub fn refill(
+    pool: &[u8],
+    shape: Shape,
+    storage: &mut [u8],
+    link: u16,
+    n: u32,
+    buffer: BufferNumber,
+)
     requires { ⌜ Opened (now pool) shape × Is (linkOk (decode (now pool)) link) ⌝ }
     requires { ⌜ (length (now storage) ≡ storageLength (stockOf shape) (shape .buffers)) × (n ≤ total (stretchesFrom (decode (now pool)) link)) ⌝ }
     requires { ⌜ buffersFor n ≤ length (freeBuffers (decode (now pool))) ⌝ }
