@@ -134,11 +134,11 @@ pub fn fill_free(pool: &[u8], shape: Shape, storage: &mut [u8], input: &[u8], bu
     let mut at = 0;
     let mut from = buffer;
     while at < input.len() {
-        let b = room::next_free_buffer(pool, shape, from);
+        let to = room::next_free_buffer(pool, shape, from);
         let end = part_end(at, input.len());
-        storage::fill_buffer(storage, b, &input[at..end]);
+        storage::fill_buffer(storage, to, &input[at..end]);
         at = end;
-        from = BufferNumber(b.0 + 1);
+        from = BufferNumber(to.0 + 1);
     }
 }
 
