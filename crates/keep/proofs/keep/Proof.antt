@@ -19,7 +19,6 @@ use Rattle.chain.specs.Enter.{Enters}
 use Rattle.own.specs.Own.{ownPart}
 use Rattle.chain.proofs.Spots.{past-range, at-end, before-end}
 use Rattle.room.specs.Free.{lowestFor}
-use Rattle.room.proofs.Free.{room-lowest, room-enough}
 use Rattle.keep.proofs.Laws.{Seen, last-below, next-ok, no-others, last-long, short-hangable, short-after, others-count, others-cut, next-long, new-small, new-hangable, new-after, keep-slip, keep-range, keep-whole, keep-pieces, keep-done}
 use Rattle.keep.proofs.keep.Statement.{statement}
 use Rattle.keep.proofs.keep.Tie as tie
@@ -225,11 +224,11 @@ module _ (c : tie.After-piece-room) where
   abbrev there : Tables
   there = tables (at (here (passed (other counted))))
 
-  low : c .piece-room .result .lowest ≡ lowestFor (isFree there) (counted .part-of .result .pieces) (pieceTotal there)
-  low = room-lowest (isFree there) (counted .part-of .result .pieces) (pieceTotal there) (c .piece-room .ensures)
+  low : c .piece-room .result .lowest .0 ≡ lowestFor (isFree there) (counted .part-of .result .pieces) (pieceTotal there)
+  low = c .piece-room .ensures .0
 
   enough : c .piece-room .result .enough ≡ leb (counted .part-of .result .pieces) (length (freePieces there))
-  enough = room-enough (isFree there) (counted .part-of .result .pieces) (pieceTotal there) (c .piece-room .ensures)
+  enough = c .piece-room .ensures .1
 
 returns-5 : tie.Need-returns-5
 returns-5 c =

@@ -17,7 +17,7 @@ use Rattle.tables.proofs.Laws.{whole, total-buffers}
 use Rattle.chain.specs.Enter.{Enters}
 use Rattle.chain.specs.Length.{stretchesFrom}
 use Rattle.room.specs.Free.{lowestFor}
-use Rattle.room.proofs.Free.{count-most, room-lowest, room-enough}
+use Rattle.room.proofs.Free.{count-most}
 use Rattle.pack.proofs.Laws.{Found, new-small, new-held, new-after, new-bytes, pack-slip, pack-whole, pack-pieces, pack-buffers, pack-done}
 use Rattle.pack.proofs.pack.Statement.{statement}
 use Rattle.pack.proofs.pack.Tie as tie
@@ -131,7 +131,7 @@ wanted p = p .before .before
 enough-pieces : (p : tie.After-piece-room) → p .piece-room .result .enough ≡ leb (wanted p .buffers-for .result) (length (freePieces (tables (here (wanted p)))))
 enough-pieces p =
     let T = tables (here (wanted p)) in
-    room-enough (isFree T) (wanted p .buffers-for .result) (pieceTotal T) (p .piece-room .ensures)
+    p .piece-room .ensures .1
 
 same-length-3 : tie.Need-same-length-3
 same-length-3 c = search needs
@@ -163,7 +163,7 @@ enough-buffers : (q : tie.After-buffer-room) → let b = pieced (q .before .befo
 enough-buffers q =
     let b = pieced (q .before .before) in
     let T = tables (here b) in
-    room-enough (isUnheld T) (b .buffers-for .result) (bufferTotal T) (q .buffer-room .ensures)
+    q .buffer-room .ensures .1
 
 same-length-4 : tie.Need-same-length-4
 same-length-4 c = search needs
@@ -197,8 +197,8 @@ module _ (c : tie.Else4) where
       leb-true (sized .buffers-for .result) (length (freeBuffers (tables at))) (sym (enough-buffers lowest) ∙ not-false _ (c .if4 .left))
 
   -- from the lowest on
-  lowest-buffer : lowest .buffer-room .result .lowest ≡ lowestFor (isUnheld (tables at)) (sized .buffers-for .result) (bufferTotal (tables at))
-  lowest-buffer = room-lowest (isUnheld (tables at)) (sized .buffers-for .result) (bufferTotal (tables at)) (lowest .buffer-room .ensures)
+  lowest-buffer : lowest .buffer-room .result .lowest .0 ≡ lowestFor (isUnheld (tables at)) (sized .buffers-for .result) (bufferTotal (tables at))
+  lowest-buffer = lowest .buffer-room .ensures .0
 
   -- so there are few
   small : sized .buffers-for .result ≤ 128
@@ -232,7 +232,7 @@ lay-requires c κs =
     let e4 = c .before .before .before .before .before .before in
     let e3 = enough e4 in
     let T = tables (at e4) in
-    let low = room-lowest (isFree T) (sized e4 .buffers-for .result) (pieceTotal T) (e3 .before .before .piece-room .ensures) in
+    let low = e3 .before .before .piece-room .ensures .0 in
     (start (at e4) .pre .0, ((pieces-room e3, buffers-room e4), (low, lowest-buffer e4)))
 
 add-turn : tie.Need-add-turn

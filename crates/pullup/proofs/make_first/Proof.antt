@@ -19,7 +19,7 @@ module _ (z : tie.Start) where
   some : 0 < length (freePieces tables)
   some = omega (arith, z .pre .1 .1 .0)
 
-  below : z .args .f < z .args .shape .pieces
+  below : z .args .f .0 < z .args .shape .pieces
   below = omega (arith, first-below tables (z .pre .1 .1 .1) some, total-pieces (whole (z .pre .0 .0 .shaped)))
 
 add-settle : tie.Need-add-settle
