@@ -144,7 +144,7 @@ module _ (e : tie.Else2) where
 
 copy-pieces-requires : tie.Need-copy-pieces-requires
 copy-pieces-requires c κs =
-    let e = c .before in
+    let e = c .before .before in
     let q = asked e in
     let r = from q in
     let z = start r in
@@ -156,7 +156,7 @@ copy-pieces-requires c κs =
 set-slip-requires-2 : tie.Need-set-slip-requires-2
 set-slip-requires-2 c κs =
     let w = c .before .before .before in
-    (w .copy-pieces .ensures .0 .shaped, b-below (from (asked (w .before .before))))
+    (w .copy-pieces .ensures .0 .shaped, b-below (from (asked (w .before .before .before))))
 
 -- b is vacant
 module _ (v : tie.After-set-slip2) where
@@ -164,7 +164,7 @@ module _ (v : tie.After-set-slip2) where
   copied = v .before .before .before .before
 
   abbrev roomed : tie.Else2
-  roomed = copied .before .before
+  roomed = copied .before .before .before
 
   abbrev first-read : tie.After-own-run
   first-read = from (asked roomed)

@@ -189,13 +189,12 @@ module _ (c : tie.Else4) where
   -- for the pieces wanted
   enough : length (rest origin .more) ≤ length (free origin)
   enough =
-      let T = tables origin in
       let most = leb-true _ (length (free origin)) (sym (c .before .before .piece-room .ensures .1) ∙ not-false _ (c .if4 .left)) in
       omega (arith, most, wants asked)
 
 settle-requires : tie.Need-settle-requires
 settle-requires c κs =
-    let k = c .before in
+    let k = c .before .before in
     let f = found-there (asked k) in
     let e = from f in
     let some = rw (plan f) at (enough k) in
@@ -205,7 +204,7 @@ settle-requires c κs =
 
 module _ (g : tie.After-settle) where
   abbrev room : tie.Else4
-  room = g .before .before
+  room = g .before .before .before
 
   abbrev first : tie.Else1
   first = origin room

@@ -213,7 +213,7 @@ module _ (c : tie.Else4) where
 
 refill-requires : tie.Need-refill-requires
 refill-requires c κs =
-    let e4 = c .before .before in
+    let e4 = c .before .before .before .before in
     let b = sized e4 in
     let z = start (at e4) in
     let T = tables (at e4) in
@@ -222,16 +222,15 @@ refill-requires c κs =
 
 -- where the pieces were laid
 abbrev room : tie.After-lay → tie.Else4
-room y = y .before .before .before .before .before .before .before
+room y = y .before .before .before .before .before .before .before .before .before
 
 cast-lay : tie.Need-cast-lay
-cast-lay c = let e4 = c .before .before .before .before .before .before in omega (arith, small e4)
+cast-lay c = let e4 = c .before .before .before .before .before .before .before .before in omega (arith, small e4)
 
 lay-requires : tie.Need-lay-requires
 lay-requires c κs =
-    let e4 = c .before .before .before .before .before .before in
+    let e4 = c .before .before .before .before .before .before .before .before in
     let e3 = enough e4 in
-    let T = tables (at e4) in
     let low = e3 .before .before .piece-room .ensures .0 in
     (start (at e4) .pre .0, ((pieces-room e3, buffers-room e4), (low, lowest-buffer e4)))
 

@@ -225,15 +225,15 @@ module _ (c : tie.Else5) where
       omega (arith, most, wants asked)
 
 next-free-buffer-requires : tie.Need-next-free-buffer-requires
-next-free-buffer-requires c κs = start (source (c .before)) .pre .0 .shaped
+next-free-buffer-requires c κs = start (source (c .before .before)) .pre .0 .shaped
 
 same-length-6 : tie.Need-same-length-6
 same-length-6 c = search needs
 
 returns-6 : tie.Need-returns-6
 returns-6 c =
-    let u = c .before .before in
-    let r = u .before .before in
+    let u = c .before .before .before in
+    let r = u .before .before .before in
     let w = asked r in
     let k = looked w in
     let e = source r in
@@ -246,10 +246,10 @@ returns-6 c =
 
 module _ (c : tie.Else6) where
   abbrev lowest : tie.After-next-free-buffer
-  lowest = c .before .before
+  lowest = c .before .before .before
 
   abbrev roomy : tie.Else5
-  roomy = lowest .before .before
+  roomy = lowest .before .before .before
 
   abbrev base : tie.Else1
   base = source roomy
