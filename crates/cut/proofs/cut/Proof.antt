@@ -8,10 +8,10 @@ use lib.Dec.{leb}
 use borrow.Author.Needs.{needs}
 use borrow.Author.Tests.{not-true, not-false, leb-true, leb-false}
 use Rattle.rules.specs.Basics.{Is}
-use Rattle.rules.specs.Tables.{Tables, headOf, slipTotal, pieceTotal}
+use Rattle.rules.specs.Tables.{Tables, headOf, slipTotal}
 use Rattle.rules.specs.Bytes.{decode}
 use Rattle.rules.specs.Chain.{Stretch, spans, lengthOf, cutOut}
-use Rattle.rules.specs.Room.{isVacant, isFree, vacantSlips, freePieces, newSlip}
+use Rattle.rules.specs.Room.{isVacant, vacantSlips, freePieces, newSlip}
 use Rattle.rules.specs.Build.{plain}
 use Rattle.rules.specs.Rule.{unnamed}
 use Rattle.tables.proofs.Laws.{whole, total-slips, total-pieces}
@@ -151,10 +151,7 @@ piece-room-requires c κs = search needs
 
 -- whether there are as many free pieces
 enough : (q : tie.After-piece-room) → let k = q .before .before in q .piece-room .result .enough ≡ leb (k .overlapped .result) (length (freePieces (tables (entered (k .before)))))
-enough q =
-    let k = q .before .before in
-    let T = tables (entered (k .before)) in
-    q .piece-room .ensures .1
+enough q = q .piece-room .ensures .1
 
 same-length-4 : tie.Need-same-length-4
 same-length-4 c = search needs
@@ -185,7 +182,6 @@ copy-pieces-requires c κs =
     let k = counted e4 in
     let f = found-at (ranged (k .before)) in
     let z = start (from f) in
-    let T = tables (from f) in
     let low = e4 .before .before .piece-room .ensures .0 in
     ((z .pre, place f .good), ((overlaps k ∙ ap length (place f .cut (z .args .n)), room e4), (place f .inside, low)))
 

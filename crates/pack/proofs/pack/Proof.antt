@@ -10,7 +10,7 @@ use Rattle.rules.specs.Basics.{Is}
 use Rattle.rules.specs.Tables.{Tables, pieceTotal, bufferTotal}
 use Rattle.rules.specs.Bytes.{decode}
 use Rattle.rules.specs.Chain.{walk, chain, lengthOf, total}
-use Rattle.rules.specs.Room.{isFree, isUnheld, freePieces, freeBuffers}
+use Rattle.rules.specs.Room.{isUnheld, freePieces, freeBuffers}
 use Rattle.rules.specs.Build.{buffersFor}
 use Rattle.rules.specs.Rule.{unnamed}
 use Rattle.tables.proofs.Laws.{whole, total-buffers}
@@ -129,9 +129,7 @@ wanted p = p .before .before
 
 -- whether there are as many
 enough-pieces : (p : tie.After-piece-room) → p .piece-room .result .enough ≡ leb (wanted p .buffers-for .result) (length (freePieces (tables (here (wanted p)))))
-enough-pieces p =
-    let T = tables (here (wanted p)) in
-    p .piece-room .ensures .1
+enough-pieces p = p .piece-room .ensures .1
 
 same-length-3 : tie.Need-same-length-3
 same-length-3 c = search needs
@@ -160,10 +158,7 @@ buffer-room-requires c κs = search needs
 
 -- whether there are as many free buffers
 enough-buffers : (q : tie.After-buffer-room) → let b = pieced (q .before .before) in q .buffer-room .result .enough ≡ leb (b .buffers-for .result) (length (freeBuffers (tables (here b))))
-enough-buffers q =
-    let b = pieced (q .before .before) in
-    let T = tables (here b) in
-    q .buffer-room .ensures .1
+enough-buffers q = q .buffer-room .ensures .1
 
 same-length-4 : tie.Need-same-length-4
 same-length-4 c = search needs

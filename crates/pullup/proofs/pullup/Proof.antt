@@ -193,10 +193,7 @@ module _ (w : tie.After-wanted) where
 
 -- whether there is a piece more
 enough-pieces : (p : tie.After-piece-room) → let w = p .before .before in p .piece-room .result .enough ≡ leb (w .wanted .result + 1) (length (freePieces (tables (first w))))
-enough-pieces p =
-    let w = p .before .before in
-    let T = tables (first w) in
-    p .piece-room .ensures .1
+enough-pieces p = p .piece-room .ensures .1
 
 same-length-5 : tie.Need-same-length-5
 same-length-5 c = search needs

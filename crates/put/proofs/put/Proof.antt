@@ -7,10 +7,10 @@ use lib.ListN.{length}
 use lib.Dec.{leb}
 use borrow.Author.Needs.{needs}
 use borrow.Author.Tests.{not-true, not-false, leb-true, leb-false}
-use Rattle.rules.specs.Tables.{Tables, slipTotal, pieceTotal, bufferTotal}
+use Rattle.rules.specs.Tables.{Tables, slipTotal, bufferTotal}
 use Rattle.rules.specs.Bytes.{decode}
 use Rattle.rules.specs.Chain.{Stretch}
-use Rattle.rules.specs.Room.{isVacant, isFree, isUnheld, vacantSlips, freePieces, freeBuffers, newSlip, newBuffers}
+use Rattle.rules.specs.Room.{isVacant, isUnheld, vacantSlips, freePieces, freeBuffers, newSlip, newBuffers}
 use Rattle.rules.specs.Build.{plain, underNew, laid}
 use Rattle.tables.specs.Shape.{Holds}
 use Rattle.tables.proofs.Laws.{whole, total-slips, total-pieces, total-buffers}
@@ -71,9 +71,7 @@ wanted p = p .before .before
 
 -- whether there are as many
 enough-pieces : (p : tie.After-piece-room) → p .piece-room .result .enough ≡ leb (wanted p .buffers-for .result) (length (freePieces (tables (from (wanted p)))))
-enough-pieces p =
-    let T = tables (from (wanted p)) in
-    p .piece-room .ensures .1
+enough-pieces p = p .piece-room .ensures .1
 
 same-length-2 : tie.Need-same-length-2
 same-length-2 c = search needs
@@ -101,10 +99,7 @@ buffer-room-requires c κs = search needs
 
 -- whether there are as many free buffers
 enough-buffers : (q : tie.After-buffer-room) → let b = pieced (q .before .before) in q .buffer-room .result .enough ≡ leb (b .buffers-for .result) (length (freeBuffers (tables (from b))))
-enough-buffers q =
-    let b = pieced (q .before .before) in
-    let T = tables (from b) in
-    q .buffer-room .ensures .1
+enough-buffers q = q .buffer-room .ensures .1
 
 same-length-3 : tie.Need-same-length-3
 same-length-3 c = search needs
@@ -135,9 +130,7 @@ buffers-room c =
 
 -- from the lowest on
 lowest-buffer : (c : tie.Else3) → let T = tables (from (counted c)) in lowest c .buffer-room .result .lowest .0 ≡ lowestFor (isUnheld T) (counted c .buffers-for .result) (bufferTotal T)
-lowest-buffer c =
-    let T = tables (from (counted c)) in
-    lowest c .buffer-room .ensures .0
+lowest-buffer c = lowest c .buffer-room .ensures .0
 
 -- so there are few
 small : (c : tie.Else3) → counted c .buffers-for .result ≤ 128
@@ -170,7 +163,6 @@ lay-requires c κs =
     let e3 = c .before .before .before .before .before .before .before .before in
     let e2 = enough e3 in
     let b = counted e3 in
-    let T = tables (from b) in
     let low = e2 .before .before .piece-room .ensures .0 in
     (start (from b) .pre .0, ((pieces-room e2, buffers-room e3), (low, lowest-buffer e3)))
 
