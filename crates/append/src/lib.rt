@@ -42,7 +42,8 @@ fn join(
     if !room.enough {
         return Outcome::Refused(Refusal::Pieces);
     }
-    let first = build::copy_pieces(pool, shape, next, 0, u32::MAX, pieces, room.lowest, tail);
+    let lowest = room.lowest;
+    let first = build::copy_pieces(pool, shape, next, 0, u32::MAX, pieces, lowest, tail);
     tables::set_slip(pool, shape, b, 0);
     release::hang(pool, shape, a, last, first);
     answer::done(pool, shape, a, 0)

@@ -34,11 +34,17 @@ pub struct Audited {
 }
 
 // Follows next from piece `d`, giving each piece met the walk's colour, up to a piece that has one: its own is a cycle.
-fn walk(pool: &[u8], shape: Shape, colours: &mut [u16; PIECES], d: u16, follows: u16) -> Followed
-    requires { ⌜ Limited (now pool) shape × Scanned (decode (now pool)) (now colours) follows d × (d < shape .pieces) ⌝ }
-    ensures { λ r. ⌜ Walked (decode (now (pool .entry))) (now (colours .exit)) d (r .follows) (r .ends) ⌝ }
+fn walk(
+    pool: &[u8],
+    shape: Shape,
+    colours: &mut [u16; PIECES],
+    d: PieceNumber,
+    follows: u16,
+) -> Followed
+    requires { ⌜ Limited (now pool) shape × Scanned (decode (now pool)) (now colours) follows (d .0) × (d .0 < shape .pieces) ⌝ }
+    ensures { λ r. ⌜ Walked (decode (now (pool .entry))) (now (colours .exit)) (d .0) (r .follows) (r .ends) ⌝ }
 {
-    let colour = d + 1;
+    let colour = d.0 + 1;
     let mut link = colour;
     let mut n = follows;
     while link != 0 {
@@ -72,7 +78,7 @@ fn ends(pool: &[u8], shape: Shape) -> Followed
     let mut n: u16 = 0;
     let mut d: u16 = 0;
     while d < shape.pieces {
-        let r = walk(pool, shape, &mut colours, d, n);
+        let r = walk(pool, shape, &mut colours, PieceNumber(d), n);
         n = r.follows;
         if !r.ends {
             return r;

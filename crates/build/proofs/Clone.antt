@@ -30,10 +30,10 @@ use Rattle.build.proofs.Line.{Line, line-opened, line-step}
 -- ---- one piece
 
 -- what copying a piece leaves, from the numbers that the code has
-pub clone-done : (T : Tables) (c : Cloning) (k tail : ℕ) {h : Shape} {q : List ℕ} {len n b o next : ℕ} {l : InLine} → l ≡ inLine T (c .free) k tail → len ≡ piece T (c .at - 1) .len
+pub clone-done : (T : Tables) (c : Cloning) (k tail : ℕ) {h : Shape} {q : List ℕ} {len n b o next : ℕ} {l : InLine} → l ≡ inLine T (c .free .0) k tail → len ≡ piece T (c .at - 1) .len
     → n ≡ min (c .left) (len - c .skip) → b ≡ piece T (c .at - 1) .buffer → o ≡ piece T (c .at - 1) .offset → next ≡ piece T (c .at - 1) .next
-    → Holds q h (taken T (c .free) (fresh (record { buffer = b; offset = o + c .skip; len = n }) (l .link)))
-    → Holds q h (taken T (c .free) (fresh (nextPart (stretchAt T (c .at)) c) (linkInLine T (c .free) k tail)))
+    → Holds q h (taken T (c .free .0) (fresh (record { buffer = b; offset = o + c .skip; len = n }) (l .link)))
+    → Holds q h (taken T (c .free .0) (fresh (nextPart (stretchAt T (c .at)) c) (linkInLine T (c .free .0) k tail)))
     × (_≡_ {A = Cloning} (record { free = l .free; at = next; skip = 0; left = c .left - n }) (cloned T c k))
 clone-done T c k tail es el en eb eo ex w =
     (record { shaped = w .shaped; is = w .is ∙ rw (es, en, el, eb, eo) }, rw (es, ex, en, el))
@@ -64,13 +64,13 @@ pub record Copies (O goal : Tables) (tail : ℕ) (T : Tables) (c : Cloning) (k :
   pub good : Is (linkOk O (c .at))
   pub inside : (c .at ≡ 0 → ⊥) → c .skip < piece O (c .at - 1) .len
   pub used : (d : ℕ) → 0 < piece O d .count → piece T d ≡ piece O d
-  pub line : Line goal tail T (c .free) (toCome O c)
+  pub line : Line goal tail T (c .free .0) (toCome O c)
 
 -- before the first piece
 pub copies-start : {p : List ℕ} {h : Shape} → Opened p h → (link into n k tail : ℕ) {f : ℕ} → Is (linkOk (decode p) link)
     → k ≡ length (cutOut (stretchesFrom (decode p) link) into n) → k ≤ length (freePieces (decode p)) → ((link ≡ 0 → ⊥) → into < piece (decode p) (link - 1) .len)
     → let T = decode p in f ≡ firstFrom (isFree T) 0 (pieceTotal T)
-    → Copies T (built T (freePieces T) (cutOut (stretchesFrom T link) into n) tail) tail T (record { free = f; at = link; skip = into; left = n }) k
+    → Copies T (built T (freePieces T) (cutOut (stretchesFrom T link) into n) tail) tail T (record { free = record { 0 = f }; at = link; skip = into; left = n }) k
 copies-start o link into n k tail good e h inside ef =
     record { more = e; good = good; inside = inside; used = λ d _. refl; line = rw ef (line-opened o _ tail (omega arith)) }
 
@@ -120,7 +120,7 @@ module _ {O goal : Tables} {tail : ℕ} {T : Tables} {c : Cloning} {k : ℕ} (so
         }
 
     -- and copying goes on
-    pub copies-on : Copies O goal tail (taken T (c .free) (fresh (nextPart (stretchAt T (c .at)) c) (linkInLine T (c .free) (k - 1) tail))) (cloned T c (k - 1)) (k - 1)
+    pub copies-on : Copies O goal tail (taken T (c .free .0) (fresh (nextPart (stretchAt T (c .at)) c) (linkInLine T (c .free .0) (k - 1) tail))) (cloned T c (k - 1)) (k - 1)
     copies-on =
         let u = piece-used in
         let x = nextPart (stretchAt O (c .at)) c in
@@ -130,6 +130,6 @@ module _ {O goal : Tables} {tail : ℕ} {T : Tables} {c : Cloning} {k : ℕ} (so
           more = e;
           good = u .onward;
           inside = λ z. link-leads O (piece O (c .at - 1) .next) sound (u .onward) z .some-bytes;
-          used = λ d s. piece-other T (c .free) _ d (λ z. omega (arith, eqb→eq (piece T (c .free) .count) 0 free, ap (λ (i : ℕ). piece T i .count) z, ap (λ (q : Piece). q .count) (w .used d s))) ∙ w .used d s;
-          line = line-step x (omega (arith, u .in-store)) _ e (subst (Line goal tail T (c .free)) split (w .line));
+          used = λ d s. piece-other T (c .free .0) _ d (λ z. omega (arith, eqb→eq (piece T (c .free .0) .count) 0 free, ap (λ (i : ℕ). piece T i .count) z, ap (λ (q : Piece). q .count) (w .used d s))) ∙ w .used d s;
+          line = line-step x (omega (arith, u .in-store)) _ e (subst (Line goal tail T (c .free .0)) split (w .line));
         })

@@ -34,12 +34,12 @@ use Rattle.build.proofs.Line.{Line, First, from-first, line-opened, lin
 pub laid-room : (T : Tables) (c : Laying) → Layable T c → bufferCount T (bufferAt T c) < 65535
 laid-room T c l =
     let b = bufferAt T c in
-    omega (arith, eqb→eq (bufferCount T b) 0 (first-lies (isUnheld T) (c .from) (bufferTotal T) .1 (l .in-store) .1))
+    omega (arith, eqb→eq (bufferCount T b) 0 (first-lies (isUnheld T) (c .from .0) (bufferTotal T) .1 (l .in-store) .1))
 
 -- what laying a piece leaves, from the numbers that the code has
-pub lay-done : (T : Tables) (c : Laying) (k : ℕ) {h : Shape} {q : List ℕ} {b n : ℕ} {l : InLine} → b ≡ bufferAt T c → n ≡ min bufferSize (c .left) → l ≡ inLine T (c .free) k 0
-    → Holds q h (taken T (c .free) (fresh (record { buffer = b; offset = 0; len = n }) (l .link)))
-    → Holds q h (taken T (c .free) (fresh (laidAt T c) (linkInLine T (c .free) k 0))) × (_≡_ {A = Laying} (record { free = l .free; from = b + 1; left = c .left - n }) (laidOn T c k))
+pub lay-done : (T : Tables) (c : Laying) (k : ℕ) {h : Shape} {q : List ℕ} {b n : ℕ} {l : InLine} → b ≡ bufferAt T c → n ≡ min bufferSize (c .left) → l ≡ inLine T (c .free .0) k 0
+    → Holds q h (taken T (c .free .0) (fresh (record { buffer = b; offset = 0; len = n }) (l .link)))
+    → Holds q h (taken T (c .free .0) (fresh (laidAt T c) (linkInLine T (c .free .0) k 0))) × (_≡_ {A = Laying} (record { free = l .free; from = record { 0 = b + 1 }; left = c .left - n }) (laidOn T c k))
 lay-done T c k eb en el w = (record { shaped = w .shaped; is = w .is ∙ rw (el, en, eb) }, rw (el, en, eb))
 
 -- ---- the free buffers
@@ -55,12 +55,12 @@ take-some (suc k) x l h = let e : suc k - 1 ≡ k = omega arith in rw e
 
 -- the stretches still to come, k of them
 abbrev toCome : Tables → Laying → ℕ → List Stretch
-toCome T c k = laid (T .stock) (take k (unheldFrom T (c .from))) (c .left)
+toCome T c k = laid (T .stock) (take k (unheldFrom T (c .from .0))) (c .left)
 
 -- Laying is under way in the tables T, with k pieces still to come; at the end the tables are `goal`.
 pub record Lays (goal T : Tables) (c : Laying) (k : ℕ) : Type 0 where
-  pub enough : k ≤ length (unheldFrom T (c .from))
-  pub line : Line goal 0 T (c .free) (toCome T c k)
+  pub enough : k ≤ length (unheldFrom T (c .from .0))
+  pub line : Line goal 0 T (c .free .0) (toCome T c k)
 
 -- there are as many as asked for
 pub laid-all : (T : Tables) (n k : ℕ) → k ≤ length (freeBuffers T) → length (laid (T .stock) (newBuffers T k) n) ≡ k
@@ -69,7 +69,7 @@ laid-all T n k h = laid-count (T .stock) (newBuffers T k) n ∙ length-take-le k
 -- before the first piece
 pub lays-start : {p : List ℕ} {h : Shape} → Opened p h → (n k : ℕ) {f b : ℕ} → k ≤ length (freePieces (decode p)) → k ≤ length (freeBuffers (decode p))
     → let T = decode p in f ≡ firstFrom (isFree T) 0 (pieceTotal T) → b ≡ lowestFor (isUnheld T) k (bufferTotal T)
-    → Lays (built T (freePieces T) (laid (T .stock) (newBuffers T k) n) 0) T (record { free = f; from = b; left = n }) k
+    → Lays (built T (freePieces T) (laid (T .stock) (newBuffers T k) n) 0) T (record { free = record { 0 = f }; from = record { 0 = b }; left = n }) k
 lays-start {p} o n k {b = b} hp hb ef eb =
     let T = decode p in
     let all : unheldFrom T b ≡ freeBuffers T = lowest-all (isUnheld T) k (bufferTotal T) eb in
@@ -78,12 +78,12 @@ lays-start {p} o n k {b = b} hp hb ef eb =
 -- after the last
 pub lays-done : {goal T : Tables} {c : Laying} {k : ℕ} → Lays goal T c k → k ≤ 0 → T ≡ goal
 lays-done {goal} {T} {c} {k} w z =
-    line-done (toCome T c k) (w .line) (laid-count (T .stock) (take k (unheldFrom T (c .from))) (c .left) ∙ length-take-le k (unheldFrom T (c .from)) (w .enough) ∙ omega arith)
+    line-done (toCome T c k) (w .line) (laid-count (T .stock) (take k (unheldFrom T (c .from .0))) (c .left) ∙ length-take-le k (unheldFrom T (c .from .0)) (w .enough) ∙ omega arith)
 
 module _ {goal T : Tables} {c : Laying} {k : ℕ} (w : Lays goal T c k) (h : 0 < k) where
   -- there is a free buffer
-  some-buffer : First (isUnheld T) (bufferTotal T) (c .from) (bufferAt T c)
-  some-buffer = from-first (isUnheld T) (bufferTotal T) (c .from) (omega (arith, w .enough))
+  some-buffer : First (isUnheld T) (bufferTotal T) (c .from .0) (bufferAt T c)
+  some-buffer = from-first (isUnheld T) (bufferTotal T) (c .from .0) (omega (arith, w .enough))
 
   -- what comes first, and what comes after it
   after : List Stretch
@@ -113,16 +113,16 @@ module _ {goal T : Tables} {c : Laying} {k : ℕ} (w : Lays goal T c k) (h : 0 <
   lays-ask = record { free-below = w .line .first (omega (arith, ap length split)) .0; in-store = some-buffer .below }
 
   -- and laying goes on
-  pub lays-on : Lays goal (taken T (c .free) (fresh (laidAt T c) (linkInLine T (c .free) (k - 1) 0))) (laidOn T c (k - 1)) (k - 1)
+  pub lays-on : Lays goal (taken T (c .free .0) (fresh (laidAt T c) (linkInLine T (c .free .0) (k - 1) 0))) (laidOn T c (k - 1)) (k - 1)
   unfolding after
   lays-on =
       let b = bufferAt T c in
-      let p = fresh (laidAt T c) (linkInLine T (c .free) (k - 1) 0) in
-      let T′ = taken T (c .free) p in
+      let p = fresh (laidAt T c) (linkInLine T (c .free .0) (k - 1) 0) in
+      let T′ = taken T (c .free .0) p in
       let size : bufferTotal T′ ≡ bufferTotal T = length-set (T .counts) b _ in
       let same : unheldFrom T′ (b + 1) ≡ unheldFrom T (suc b) =
-      ap (unheldFrom T′) (add-one b) ∙ ap (λ (n : ℕ). places (isUnheld T′) (suc b) (n - suc b)) size ∙ unheld-after T (c .free) p (suc b) (bufferTotal T - suc b) (omega arith) in
+      ap (unheldFrom T′) (add-one b) ∙ ap (λ (n : ℕ). places (isUnheld T′) (suc b) (n - suc b)) size ∙ unheld-after T (c .free .0) p (suc b) (bufferTotal T - suc b) (omega arith) in
       record {
         enough = rw same enough-after;
-        line = rw same (line-step (laidAt T c) (some-buffer .below) after after-count (subst (Line goal 0 T (c .free)) split (w .line)));
+        line = rw same (line-step (laidAt T c) (some-buffer .below) after after-count (subst (Line goal 0 T (c .free .0)) split (w .line)));
       }

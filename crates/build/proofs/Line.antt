@@ -163,12 +163,12 @@ module _ {goal : Tables} {tail : ℕ} {T : Tables} {f : ℕ} (x : Stretch) (insi
 
 module _ (T : Tables) (f tail : ℕ) where
   -- after the last in line
-  pub last-in-line : (k : ℕ) → k ≡ 0 → _≡_ {A = InLine} (record { free = f; link = tail }) (inLine T f k tail)
+  pub last-in-line : (k : ℕ) → k ≡ 0 → _≡_ {A = InLine} (record { free = record { 0 = f }; link = tail }) (inLine T f k tail)
   last-in-line zero e = refl
   last-in-line (suc k) e = absurd (omega arith)
 
   -- after one with more to come
-  pub next-in-line : (k : ℕ) {g : ℕ} → (k ≡ 0 → ⊥) → g ≡ firstFrom (isFree T) (f + 1) (pieceTotal T) → _≡_ {A = InLine} (record { free = g; link = g + 1 }) (inLine T f k tail)
+  pub next-in-line : (k : ℕ) {g : ℕ} → (k ≡ 0 → ⊥) → g ≡ firstFrom (isFree T) (f + 1) (pieceTotal T) → _≡_ {A = InLine} (record { free = record { 0 = g }; link = g + 1 }) (inLine T f k tail)
   next-in-line zero e n = absurd (e refl)
   next-in-line (suc k) {g} e n =
       let m : g ≡ nextInLine T f (suc k) = n ∙ ap (λ (i : ℕ). firstFrom (isFree T) i (pieceTotal T)) (add-one f) in

@@ -17,7 +17,7 @@ nextPart x c = record { buffer = x .buffer; offset = x .offset + c .skip; len = 
 -- how far copying is once a new piece for that part is taken, where k more are to come
 abbrev pub cloned : Tables → Cloning → ℕ → Cloning
 cloned T c k = record {
-  free = nextInLine T (c .free) k;
+  free = record { 0 = nextInLine T (c .free .0) k };
   at = piece T (c .at - 1) .next;
   skip = 0;
   left = c .left - nextPart (stretchAt T (c .at)) c .len;
@@ -34,6 +34,6 @@ pub record Copyable (T : Tables) (d n : ℕ) : Type 0 where
 
 -- copying can go on: there is a piece to copy, and a piece to take for it
 pub record Clonable (T : Tables) (c : Cloning) : Type 0 where
-  pub free-below : c .free < pieceTotal T
+  pub free-below : c .free .0 < pieceTotal T
   pub some : 0 < c .at
   pub place : Copyable T (c .at - 1) (c .skip)

@@ -10,7 +10,7 @@ use Rattle.build.specs.Line.{nextInLine}
 
 -- the lowest free buffer, from where laying is
 abbrev pub bufferAt : Tables → Laying → ℕ
-bufferAt T c = firstFrom (isUnheld T) (c .from) (bufferTotal T)
+bufferAt T c = firstFrom (isUnheld T) (c .from .0) (bufferTotal T)
 
 -- what is laid on it: from offset 0, as much as it holds of what is left
 abbrev pub laidAt : Tables → Laying → Stretch
@@ -18,9 +18,9 @@ laidAt T c = record { buffer = bufferAt T c; offset = 0; len = min bufferSize (c
 
 -- how far laying is once a new piece for that is taken, where k more are to come
 abbrev pub laidOn : Tables → Laying → ℕ → Laying
-laidOn T c k = record { free = nextInLine T (c .free) k; from = bufferAt T c + 1; left = c .left - laidAt T c .len }
+laidOn T c k = record { free = record { 0 = nextInLine T (c .free .0) k }; from = record { 0 = bufferAt T c + 1 }; left = c .left - laidAt T c .len }
 
 -- laying can go on: there is a piece to take, and a free buffer
 pub record Layable (T : Tables) (c : Laying) : Type 0 where
-  pub free-below : c .free < pieceTotal T
+  pub free-below : c .free .0 < pieceTotal T
   pub in-store : bufferAt T c < bufferTotal T

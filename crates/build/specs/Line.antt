@@ -17,4 +17,4 @@ linkInLine T f (suc k) tail = suc (nextInLine T f (suc k))
 
 -- both
 abbrev pub inLine : Tables → ℕ → ℕ → ℕ → InLine
-inLine T f k tail = record { free = nextInLine T f k; link = linkInLine T f k tail }
+inLine T f k tail = record { free = record { 0 = nextInLine T f k }; link = linkInLine T f k tail }

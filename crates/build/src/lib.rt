@@ -27,7 +27,7 @@ ghost use Rattle.build.specs.Laid.{laidAt, laidOn, Layable};
 
 // How far copying is: the free piece to take, the link to the piece to copy, the bytes of it to skip, and the bytes still to come (a cursor).
 struct Cloning {
-    free: u16,
+    free: PieceNumber,
     at: u16,
     skip: u32,
     left: u32,
@@ -35,14 +35,14 @@ struct Cloning {
 
 // How far laying is: the free piece to take, the number from which the next free buffer is looked for, and the bytes still to come (a cursor).
 struct Laying {
-    free: u16,
-    from: u16,
+    free: PieceNumber,
+    from: BufferNumber,
     left: u32,
 }
 
 // What comes after a new piece in line: the next piece to take, and the link to it (a look-ahead).
 struct InLine {
-    free: u16,
+    free: PieceNumber,
     link: u16,
 }
 
@@ -79,9 +79,9 @@ pub fn share(pool: &mut [u8], shape: Shape, link: u16)
 }
 
 // The piece after `f` in line and the link to it, where `more` are to come; `f` and `tail` where none is: a free descriptor looked ahead for.
-fn in_line(pool: &[u8], shape: Shape, f: u16, more: u16, tail: u16) -> InLine
-    requires { ⌜ Shaped (now pool) shape × (f < shape .pieces) × (shape .pieces < 65535) ⌝ }
-    ensures { λ r. ⌜ r ≡ inLine (decode (now (pool .entry))) f more tail ⌝ }
+fn in_line(pool: &[u8], shape: Shape, f: PieceNumber, more: u16, tail: u16) -> InLine
+    requires { ⌜ Shaped (now pool) shape × (f .0 < shape .pieces) × (shape .pieces < 65535) ⌝ }
+    ensures { λ r. ⌜ r ≡ inLine (decode (now (pool .entry))) (f .0) more tail ⌝ }
 {
     if more == 0 {
         return InLine {
@@ -89,10 +89,10 @@ fn in_line(pool: &[u8], shape: Shape, f: u16, more: u16, tail: u16) -> InLine
             link: tail,
         };
     }
-    let g = room::next_free_piece(pool, shape, f + 1);
+    let g = room::next_free_piece(pool, shape, PieceNumber(f.0 + 1));
     InLine {
         free: g,
-        link: g + 1,
+        link: g.0 + 1,
     }
 }
 
@@ -100,20 +100,21 @@ fn in_line(pool: &[u8], shape: Shape, f: u16, more: u16, tail: u16) -> InLine
 fn clone_piece(pool: &mut [u8], shape: Shape, c: Cloning, more: u16, tail: u16) -> Cloning
     requires { ⌜ Shaped (now pool) shape × (shape .pieces < 65535) × Clonable (decode (now pool)) c ⌝ }
     ensures { λ r. ⌜ Holds (now (pool .exit)) shape
-        (taken (decode (now (pool .entry))) (c .free)
-        (fresh (nextPart (stretchAt (decode (now (pool .entry))) (c .at)) c) (linkInLine (decode (now (pool .entry))) (c .free) more tail)))
+        (taken (decode (now (pool .entry))) (c .free .0)
+        (fresh (nextPart (stretchAt (decode (now (pool .entry))) (c .at)) c) (linkInLine (decode (now (pool .entry))) (c .free .0) more tail)))
         × (r ≡ cloned (decode (now (pool .entry))) c more) ⌝ }
 {
     let d = PieceNumber(c.at - 1);
-    let line = in_line(pool, shape, c.free, more, tail);
+    let f = c.free;
+    let line = in_line(pool, shape, f, more, tail);
     let length = kinds::lesser(c.left, tables::piece_length(pool, shape, d) as u32 - c.skip);
     let buffer = tables::piece_buffer(pool, shape, d);
     let offset = tables::piece_offset(pool, shape, d) + c.skip as u16;
     let next = tables::piece_next(pool, shape, d);
-    let f = PieceNumber(c.free);
     take_piece(pool, shape, f, buffer, offset, length as u16, line.link);
+    let free = line.free;
     Cloning {
-        free: line.free,
+        free: free,
         at: next,
         skip: 0,
         left: c.left - length,
@@ -129,13 +130,13 @@ pub fn copy_pieces(
     into: u32,
     n: u32,
     pieces: u16,
-    first: u16,
+    first: PieceNumber,
     tail: u16,
 ) -> u16
     requires { ⌜ Opened (now pool) shape × Is (linkOk (decode (now pool)) link) ⌝ }
     requires { ⌜ (pieces ≡ length (cutOut (stretchesFrom (decode (now pool)) link) into n)) × (pieces ≤ length (freePieces (decode (now pool)))) ⌝ }
     requires { ⌜ ((link ≡ 0 → ⊥) → into < piece (decode (now pool)) (link - 1) .len) ⌝ }
-    requires { ⌜ first ≡ lowestFor (isFree (decode (now pool))) pieces (pieceTotal (decode (now pool))) ⌝ }
+    requires { ⌜ first .0 ≡ lowestFor (isFree (decode (now pool))) pieces (pieceTotal (decode (now pool))) ⌝ }
     ensures { λ r. ⌜ Holds (now (pool .exit)) shape
         (built (decode (now (pool .entry))) (freePieces (decode (now (pool .entry)))) (cutOut (stretchesFrom (decode (now (pool .entry))) link) into n) tail)
         × (r ≡ builtLink (freePieces (decode (now (pool .entry)))) (cutOut (stretchesFrom (decode (now (pool .entry))) link) into n) tail) ⌝ }
@@ -154,39 +155,47 @@ pub fn copy_pieces(
         more -= 1;
         c = clone_piece(pool, shape, c, more, tail);
     }
-    first + 1
+    first.0 + 1
 }
 
 // Takes a new piece on the lowest free buffer, `more` to come after it; answers how far laying is then: a descriptor over a fresh cluster.
 fn lay_piece(pool: &mut [u8], shape: Shape, c: Laying, more: u16) -> Laying
     requires { ⌜ Shaped (now pool) shape × (shape .pieces < 65535) × Layable (decode (now pool)) c ⌝ }
     ensures { λ r. ⌜ Holds (now (pool .exit)) shape
-        (taken (decode (now (pool .entry))) (c .free)
-        (fresh (laidAt (decode (now (pool .entry))) c) (linkInLine (decode (now (pool .entry))) (c .free) more 0)))
+        (taken (decode (now (pool .entry))) (c .free .0)
+        (fresh (laidAt (decode (now (pool .entry))) c) (linkInLine (decode (now (pool .entry))) (c .free .0) more 0)))
         × (r ≡ laidOn (decode (now (pool .entry))) c more) ⌝ }
 {
-    let b = room::next_free_buffer(pool, shape, c.from);
+    let f = c.free;
+    let from = c.from;
+    let b = room::next_free_buffer(pool, shape, from);
     let length = kinds::lesser(BufferNumber::SIZE as u32, c.left);
-    let buffer = BufferNumber(b);
-    let line = in_line(pool, shape, c.free, more, 0);
-    let f = PieceNumber(c.free);
-    take_piece(pool, shape, f, buffer, 0, length as u16, line.link);
-    let from = b + 1;
+    let line = in_line(pool, shape, f, more, 0);
+    take_piece(pool, shape, f, b, 0, length as u16, line.link);
+    let free = line.free;
+    let after = BufferNumber(b.0 + 1);
     let left = c.left - length;
     Laying {
-        free: line.free,
-        from: from,
+        free: free,
+        from: after,
         left: left,
     }
 }
 
 // New pieces for `n` bytes, taken from the lowest free piece `first` on, on the `count` lowest free buffers, from `buffer` on,
 // from offset 0, each full but the last; answers the link to the first: descriptors over fresh clusters.
-pub fn lay(pool: &mut [u8], shape: Shape, n: u32, count: u16, first: u16, buffer: u16) -> u16
+pub fn lay(
+    pool: &mut [u8],
+    shape: Shape,
+    n: u32,
+    count: u16,
+    first: PieceNumber,
+    buffer: BufferNumber,
+) -> u16
     requires { ⌜ Opened (now pool) shape ⌝ }
     requires { ⌜ (count ≤ length (freePieces (decode (now pool)))) × (count ≤ length (freeBuffers (decode (now pool)))) ⌝ }
-    requires { ⌜ (first ≡ lowestFor (isFree (decode (now pool))) count (pieceTotal (decode (now pool))))
-        × (buffer ≡ lowestFor (isUnheld (decode (now pool))) count (bufferTotal (decode (now pool)))) ⌝ }
+    requires { ⌜ (first .0 ≡ lowestFor (isFree (decode (now pool))) count (pieceTotal (decode (now pool))))
+        × (buffer .0 ≡ lowestFor (isUnheld (decode (now pool))) count (bufferTotal (decode (now pool)))) ⌝ }
     ensures { λ r. ⌜ Holds (now (pool .exit)) shape
         (built (decode (now (pool .entry))) (freePieces (decode (now (pool .entry))))
         (laid (decode (now (pool .entry)) .stock) (newBuffers (decode (now (pool .entry))) count) n) 0)
@@ -206,7 +215,7 @@ pub fn lay(pool: &mut [u8], shape: Shape, n: u32, count: u16, first: u16, buffer
         more -= 1;
         c = lay_piece(pool, shape, c, more);
     }
-    first + 1
+    first.0 + 1
 }
 
 // The vacant slip `t` takes the chain that starts at `link`, and its number is the answer: a new handle.

@@ -56,71 +56,63 @@ fn shown_of(r: look::Shown) -> Shown
 }
 
 // length: the byte count of a chain.
-pub fn length(pool: &[u8], storage: &[u8], slip: u16) -> Answer
+pub fn length(pool: &[u8], storage: &[u8], slip: SlipNumber) -> Answer
     ensures { λ r. ⌜ resultOf r (now (pool .entry)) (now (storage .entry)) [] noView
-        ≡ step (Do (Length slip)) (lent (now (pool .entry)) (now (storage .entry))) ⌝ }
+        ≡ step (Do (Length (slip .0))) (lent (now (pool .entry)) (now (storage .entry))) ⌝ }
 {
     let audited = audit::audit(pool, storage.len());
     if !audited.sound {
         return calls::refused(Refusal::Torn);
     }
     let shape = audited.shape;
-    kinds::answer_of(look::length(pool, shape, SlipNumber(slip)))
+    kinds::answer_of(look::length(pool, shape, slip))
 }
 
 // read: copies bytes of a chain to the front of a lent output.
 pub fn read(
     pool: &[u8],
     storage: &[u8],
-    slip: u16,
+    slip: SlipNumber,
     offset: u32,
     length: u32,
     output: &mut [u8],
 ) -> Answer
     ensures { λ r. ⌜ resultOf r (now (pool .entry)) (now (storage .entry)) (now (output .exit)) noView
-        ≡ step (Do (Read slip offset length (now (output .entry)))) (lent (now (pool .entry)) (now (storage .entry))) ⌝ }
+        ≡ step (Do (Read (slip .0) offset length (now (output .entry)))) (lent (now (pool .entry)) (now (storage .entry))) ⌝ }
 {
     let audited = audit::audit(pool, storage.len());
     if !audited.sound {
         return calls::refused(Refusal::Torn);
     }
     let shape = audited.shape;
-    let o = look::read(
-        pool,
-        shape,
-        storage,
-        SlipNumber(slip),
-        offset,
-        length,
-        output,
-    );
+    let o = look::read(pool, shape, storage, slip, offset, length, output);
     kinds::answer_of(o)
 }
 
 // show: the first bytes of a chain in one stretch, of storage or of a lent scratch.
-pub fn show(pool: &[u8], storage: &[u8], slip: u16, n: u32, scratch: &mut [u8]) -> Shown
+pub fn show(pool: &[u8], storage: &[u8], slip: SlipNumber, n: u32, scratch: &mut [u8]) -> Shown
     ensures { λ r. ⌜ shownOf r (now (pool .entry)) (now (storage .entry)) (now (scratch .exit))
-        ≡ step (Do (Show slip n (now (scratch .entry)))) (lent (now (pool .entry)) (now (storage .entry))) ⌝ }
+        ≡ step (Do (Show (slip .0) n (now (scratch .entry)))) (lent (now (pool .entry)) (now (storage .entry))) ⌝ }
 {
     let audited = audit::audit(pool, storage.len());
     if !audited.sound {
         return shown_of(look::unseen(Refusal::Torn));
     }
     let shape = audited.shape;
-    shown_of(look::show(pool, shape, storage, SlipNumber(slip), n, scratch))
+    shown_of(look::show(pool, shape, storage, slip, n, scratch))
 }
 
 // list: where the pieces of a chain lie in storage, two numbers each, to the front of a lent list.
-pub fn list(pool: &[u8], storage: &[u8], slip: u16, list: &mut [u32]) -> Answer
+pub fn list(pool: &[u8], storage: &[u8], slip: SlipNumber, list: &mut [u32]) -> Answer
     ensures { λ r. ⌜ resultOf r (now (pool .entry)) (now (storage .entry)) (now (list .exit)) noView
-        ≡ step (Do (WireList slip (now (list .entry)))) (lent (now (pool .entry)) (now (storage .entry))) ⌝ }
+        ≡ step (Do (WireList (slip .0) (now (list .entry)))) (lent (now (pool .entry)) (now (storage .entry))) ⌝ }
 {
     let audited = audit::audit(pool, storage.len());
     if !audited.sound {
         return calls::refused(Refusal::Torn);
     }
     let shape = audited.shape;
-    kinds::answer_of(list::list(pool, shape, SlipNumber(slip), list))
+    kinds::answer_of(list::list(pool, shape, slip, list))
 }
 
 // What slp_stretches answers, and where its records start: audited and judged before any is written.

@@ -23,26 +23,26 @@ pub fn put(pool: &mut [u8], storage: &mut [u8], input: &[u8]) -> Answer
 }
 
 // dup: a new slip on the same chain.
-pub fn dup(pool: &mut [u8], storage: &[u8], slip: u16) -> Answer
-    ensures { λ r. ⌜ resultOf r (now (pool .exit)) (now (storage .entry)) [] noView ≡ step (Do (Dup slip)) (lent (now (pool .entry)) (now (storage .entry))) ⌝ }
+pub fn dup(pool: &mut [u8], storage: &[u8], slip: SlipNumber) -> Answer
+    ensures { λ r. ⌜ resultOf r (now (pool .exit)) (now (storage .entry)) [] noView ≡ step (Do (Dup (slip .0))) (lent (now (pool .entry)) (now (storage .entry))) ⌝ }
 {
     let audited = audit::audit(pool, storage.len());
     if !audited.sound {
         return calls::refused(Refusal::Torn);
     }
     let shape = audited.shape;
-    kinds::answer_of(dup::dup(pool, shape, SlipNumber(slip)))
+    kinds::answer_of(dup::dup(pool, shape, slip))
 }
 
 // cut: a new slip on a range of a chain.
-pub fn cut(pool: &mut [u8], storage: &[u8], slip: u16, offset: u32, length: u32) -> Answer
+pub fn cut(pool: &mut [u8], storage: &[u8], slip: SlipNumber, offset: u32, length: u32) -> Answer
     ensures { λ r. ⌜ resultOf r (now (pool .exit)) (now (storage .entry)) [] noView
-        ≡ step (Do (Cut slip offset length)) (lent (now (pool .entry)) (now (storage .entry))) ⌝ }
+        ≡ step (Do (Cut (slip .0) offset length)) (lent (now (pool .entry)) (now (storage .entry))) ⌝ }
 {
     let audited = audit::audit(pool, storage.len());
     if !audited.sound {
         return calls::refused(Refusal::Torn);
     }
     let shape = audited.shape;
-    kinds::answer_of(cut::cut(pool, shape, SlipNumber(slip), offset, length))
+    kinds::answer_of(cut::cut(pool, shape, slip, offset, length))
 }

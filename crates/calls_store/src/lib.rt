@@ -10,26 +10,26 @@ ghost use Rattle.rules.specs.Step.{Pullup, Pack, Do, step};
 ghost use Rattle.calls.specs.Result.{resultOf};
 
 // pullup: the first bytes of a chain in one piece.
-pub fn pullup(pool: &mut [u8], storage: &mut [u8], slip: u16, n: u32) -> Answer
+pub fn pullup(pool: &mut [u8], storage: &mut [u8], slip: SlipNumber, n: u32) -> Answer
     ensures { λ r. ⌜ resultOf r (now (pool .exit)) (now (storage .exit)) [] noView
-        ≡ step (Do (Pullup slip n)) (lent (now (pool .entry)) (now (storage .entry))) ⌝ }
+        ≡ step (Do (Pullup (slip .0) n)) (lent (now (pool .entry)) (now (storage .entry))) ⌝ }
 {
     let audited = audit::audit(pool, storage.len());
     if !audited.sound {
         return calls::refused(Refusal::Torn);
     }
     let shape = audited.shape;
-    kinds::answer_of(pullup::pullup(pool, shape, storage, SlipNumber(slip), n))
+    kinds::answer_of(pullup::pullup(pool, shape, storage, slip, n))
 }
 
 // pack: a chain's bytes put afresh under the same slip.
-pub fn pack(pool: &mut [u8], storage: &mut [u8], slip: u16) -> Answer
-    ensures { λ r. ⌜ resultOf r (now (pool .exit)) (now (storage .exit)) [] noView ≡ step (Do (Pack slip)) (lent (now (pool .entry)) (now (storage .entry))) ⌝ }
+pub fn pack(pool: &mut [u8], storage: &mut [u8], slip: SlipNumber) -> Answer
+    ensures { λ r. ⌜ resultOf r (now (pool .exit)) (now (storage .exit)) [] noView ≡ step (Do (Pack (slip .0))) (lent (now (pool .entry)) (now (storage .entry))) ⌝ }
 {
     let audited = audit::audit(pool, storage.len());
     if !audited.sound {
         return calls::refused(Refusal::Torn);
     }
     let shape = audited.shape;
-    kinds::answer_of(pack::pack(pool, shape, storage, SlipNumber(slip)))
+    kinds::answer_of(pack::pack(pool, shape, storage, slip))
 }

@@ -41,8 +41,8 @@ pub fn cut(pool: &mut [u8], shape: Shape, s: SlipNumber, off: u32, n: u32) -> Ou
     if !part.enough {
         return Outcome::Refused(Refusal::Range);
     }
-    let t = room::next_vacant(pool, shape, 0);
-    if t == shape.slips {
+    let t = room::next_vacant(pool, shape, SlipNumber(0));
+    if t.0 == shape.slips {
         return Outcome::Refused(Refusal::Slips);
     }
     let pieces = overlapped(n, part.pieces);
@@ -50,6 +50,7 @@ pub fn cut(pool: &mut [u8], shape: Shape, s: SlipNumber, off: u32, n: u32) -> Ou
     if !room.enough {
         return Outcome::Refused(Refusal::Pieces);
     }
-    let first = build::copy_pieces(pool, shape, link, into, n, pieces, room.lowest, 0);
-    build::under_new(pool, shape, SlipNumber(t), first)
+    let lowest = room.lowest;
+    let first = build::copy_pieces(pool, shape, link, into, n, pieces, lowest, 0);
+    build::under_new(pool, shape, t, first)
 }

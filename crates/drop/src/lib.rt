@@ -37,7 +37,8 @@ pub fn drop_first(pool: &mut [u8], shape: Shape, s: SlipNumber, n: u32) -> Outco
     if !room.enough {
         return Outcome::Refused(Refusal::Pieces);
     }
-    let rest = rest::settle(pool, shape, at.link, at.into, at.own, room.lowest);
+    let lowest = room.lowest;
+    let rest = rest::settle(pool, shape, at.link, at.into, at.own, lowest);
     release::turn(pool, shape, s, rest + 1);
     answer::done(pool, shape, s, 0)
 }

@@ -27,18 +27,18 @@ pub fn dup(pool: &mut [u8], shape: Shape, s: SlipNumber) -> Outcome
     if entry == 0 {
         return Outcome::Refused(Refusal::Slip);
     }
-    let t = room::next_vacant(pool, shape, 0);
-    if t == shape.slips {
+    let t = room::next_vacant(pool, shape, SlipNumber(0));
+    if t.0 == shape.slips {
         return Outcome::Refused(Refusal::Slips);
     }
     let head = entry - 1;
     if head == 0 {
-        return build::under_new(pool, shape, SlipNumber(t), 0);
+        return build::under_new(pool, shape, t, 0);
     }
-    let f = room::next_free_piece(pool, shape, 0);
-    if f == shape.pieces {
+    let f = room::next_free_piece(pool, shape, PieceNumber(0));
+    if f.0 == shape.pieces {
         return Outcome::Refused(Refusal::Pieces);
     }
-    rest::clone_rest(pool, shape, PieceNumber(head - 1), 0, PieceNumber(f));
-    build::under_new(pool, shape, SlipNumber(t), f + 1)
+    rest::clone_rest(pool, shape, PieceNumber(head - 1), 0, f);
+    build::under_new(pool, shape, t, f.0 + 1)
 }

@@ -60,7 +60,8 @@ pub fn keep(pool: &mut [u8], shape: Shape, s: SlipNumber, n: u32) -> Outcome
     if !room.enough {
         return Outcome::Refused(Refusal::Pieces);
     }
-    let first = build::copy_pieces(pool, shape, own.next, 0, left, others, room.lowest, 0);
+    let lowest = room.lowest;
+    let first = build::copy_pieces(pool, shape, own.next, 0, left, others, lowest, 0);
     release::hang(pool, shape, s, own.last, first);
     answer::done(pool, shape, s, 0)
 }

@@ -58,8 +58,10 @@ pub fn pack(pool: &mut [u8], shape: Shape, storage: &mut [u8], s: SlipNumber) ->
     if !buffers.enough {
         return Outcome::Refused(Refusal::Buffers);
     }
-    transfer::refill(pool, shape, storage, head, n, buffers.lowest);
-    let first = build::lay(pool, shape, n, count as u16, pieces.lowest, buffers.lowest);
+    let piece = pieces.lowest;
+    let buffer = buffers.lowest;
+    transfer::refill(pool, shape, storage, head, n, buffer);
+    let first = build::lay(pool, shape, n, count as u16, piece, buffer);
     release::turn(pool, shape, s, first + 1);
     answer::done(pool, shape, s, 0)
 }

@@ -28,17 +28,24 @@ ghost use Rattle.rest.specs.Rest.{restFrom};
 ghost use Rattle.pullup.specs.Pull.{pulledFrom, Pullable, Pulled};
 
 // Makes a first piece for the `n` bytes of buffer `b`, before what stays from the place `at`; answers the link to it: a new head descriptor.
-fn make_first(pool: &mut [u8], shape: Shape, at: Spot, f: u16, b: BufferNumber, n: u16) -> u16
+fn make_first(
+    pool: &mut [u8],
+    shape: Shape,
+    at: Spot,
+    f: PieceNumber,
+    b: BufferNumber,
+    n: u16,
+) -> u16
     requires { ⌜ Opened (now pool) shape × Is (linkOk (decode (now pool)) (at .link)) × (b .0 < shape .buffers) ⌝ }
     requires { ⌜ ((at .link ≡ 0 → ⊥) → at .into < piece (decode (now pool)) (at .link - 1) .len) ⌝ }
     requires { ⌜ (length (restFrom (decode (now pool)) (at .own) (at .link) (at .into) .more) < length (freePieces (decode (now pool))))
-        × (f ≡ firstFrom (isFree (decode (now pool))) 0 (pieceTotal (decode (now pool)))) ⌝ }
+        × (f .0 ≡ firstFrom (isFree (decode (now pool))) 0 (pieceTotal (decode (now pool)))) ⌝ }
     ensures { λ r. ⌜ Holds (now (pool .exit)) shape (made (pulledFrom (decode (now (pool .entry))) at (b .0) n) (freePieces (decode (now (pool .entry)))))
         × (r ≡ madeLink (pulledFrom (decode (now (pool .entry))) at (b .0) n) (freePieces (decode (now (pool .entry))))) ⌝ }
 {
-    let rest = rest::settle(pool, shape, at.link, at.into, at.own, f + 1);
-    build::take_piece(pool, shape, PieceNumber(f), b, 0, n, rest);
-    f + 1
+    let rest = rest::settle(pool, shape, at.link, at.into, at.own, PieceNumber(f.0 + 1));
+    build::take_piece(pool, shape, f, b, 0, n, rest);
+    f.0 + 1
 }
 
 // Copies the first `n` bytes of the chain of slip `s`, which starts at `head`, to buffer `b`,
@@ -51,14 +58,14 @@ fn pull(
     n: u32,
     head: u16,
     at: Spot,
-    f: u16,
+    f: PieceNumber,
     b: BufferNumber,
 )
     requires { ⌜ Opened (now pool) shape × (length (now storage) ≡ storageLength (stockOf shape) (shape .buffers)) ⌝ }
-    requires { ⌜ Pullable (decode (now pool)) (s .0) n head at f (b .0) ⌝ }
+    requires { ⌜ Pullable (decode (now pool)) (s .0) n head at (f .0) (b .0) ⌝ }
     ensures { λ _. ⌜ Pulled (now (pool .entry)) (now (storage .entry)) shape (s .0) n (now (pool .exit)) (now (storage .exit)) ⌝ }
 {
-    transfer::refill(pool, shape, storage, head, n, b.0);
+    transfer::refill(pool, shape, storage, head, n, b);
     let first = make_first(pool, shape, at, f, b, n as u16);
     release::turn(pool, shape, s, first + 1);
 }
@@ -90,20 +97,11 @@ pub fn pullup(pool: &mut [u8], shape: Shape, storage: &mut [u8], s: SlipNumber, 
     if !pieces.enough {
         return Outcome::Refused(Refusal::Pieces);
     }
-    let b = room::next_free_buffer(pool, shape, 0);
-    if b == shape.buffers {
+    let f = pieces.lowest;
+    let b = room::next_free_buffer(pool, shape, BufferNumber(0));
+    if b.0 == shape.buffers {
         return Outcome::Refused(Refusal::Buffers);
     }
-    pull(
-        pool,
-        shape,
-        storage,
-        s,
-        n,
-        head,
-        at,
-        pieces.lowest,
-        BufferNumber(b),
-    );
+    pull(pool, shape, storage, s, n, head, at, f, b);
     answer::done(pool, shape, s, 0)
 }

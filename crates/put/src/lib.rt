@@ -25,8 +25,8 @@ pub fn put(pool: &mut [u8], shape: Shape, storage: &mut [u8], input: &[u8]) -> O
         ≡ perform (Put (now (input .entry))) (lent (now (pool .entry)) (now (storage .entry))) ⌝ }
     ensures { λ r. ⌜ Leaves r (stateOf (slip (decode (now (pool .exit))) (numberOf r))) ⌝ }
 {
-    let t = room::next_vacant(pool, shape, 0);
-    if t == shape.slips {
+    let t = room::next_vacant(pool, shape, SlipNumber(0));
+    if t.0 == shape.slips {
         return Outcome::Refused(Refusal::Slips);
     }
     let count = room::buffers_for(input.len());
@@ -38,14 +38,9 @@ pub fn put(pool: &mut [u8], shape: Shape, storage: &mut [u8], input: &[u8]) -> O
     if !buffers.enough {
         return Outcome::Refused(Refusal::Buffers);
     }
-    transfer::fill_free(pool, shape, storage, input, buffers.lowest);
-    let first = build::lay(
-        pool,
-        shape,
-        input.len() as u32,
-        count as u16,
-        pieces.lowest,
-        buffers.lowest,
-    );
-    build::under_new(pool, shape, SlipNumber(t), first)
+    let piece = pieces.lowest;
+    let buffer = buffers.lowest;
+    transfer::fill_free(pool, shape, storage, input, buffer);
+    let first = build::lay(pool, shape, input.len() as u32, count as u16, piece, buffer);
+    build::under_new(pool, shape, t, first)
 }

@@ -54,16 +54,23 @@ pub fn wanted(link: u16, into: u32, own: bool) -> u16
 
 // Makes what stays from `into` bytes into the piece that `link` leads to, with the lowest free piece from `from`
 // on where a new one is needed; answers the link to it: a head trimmed in place or copied.
-pub fn settle(pool: &mut [u8], shape: Shape, link: u16, into: u32, own: bool, from: u16) -> u16
+pub fn settle(
+    pool: &mut [u8],
+    shape: Shape,
+    link: u16,
+    into: u32,
+    own: bool,
+    from: PieceNumber,
+) -> u16
     requires { ⌜ Opened (now pool) shape × Is (linkOk (decode (now pool)) link) ⌝ }
     requires { ⌜ ((link ≡ 0 → ⊥) → into < piece (decode (now pool)) (link - 1) .len) ⌝ }
     requires { ⌜ length (restFrom (decode (now pool)) own link into .more) ≤ length
-        (places (isFree (decode (now pool))) from (pieceTotal (decode (now pool)) - from)) ⌝ }
+        (places (isFree (decode (now pool))) (from .0) (pieceTotal (decode (now pool)) - from .0)) ⌝ }
     ensures { λ r. ⌜ Holds (now (pool .exit)) shape
         (made (restFrom (decode (now (pool .entry))) own link into)
-        (places (isFree (decode (now (pool .entry)))) from (pieceTotal (decode (now (pool .entry))) - from)))
+        (places (isFree (decode (now (pool .entry)))) (from .0) (pieceTotal (decode (now (pool .entry))) - from .0)))
         × (r ≡ madeLink (restFrom (decode (now (pool .entry))) own link into)
-        (places (isFree (decode (now (pool .entry)))) from (pieceTotal (decode (now (pool .entry))) - from))) ⌝ }
+        (places (isFree (decode (now (pool .entry)))) (from .0) (pieceTotal (decode (now (pool .entry))) - from .0))) ⌝ }
 {
     if link == 0 {
         return 0;
@@ -79,6 +86,6 @@ pub fn settle(pool: &mut [u8], shape: Shape, link: u16, into: u32, own: bool, fr
         return link;
     }
     let f = room::next_free_piece(pool, shape, from);
-    clone_rest(pool, shape, d, into as u16, PieceNumber(f));
-    f + 1
+    clone_rest(pool, shape, d, into as u16, f);
+    f.0 + 1
 }

@@ -15,8 +15,7 @@ use Rattle.rules.specs.Room.{isVacant, isFree, isUnheld, vacantSlips, freePiece
 use Rattle.rules.proofs.Logic.{if-T, if-F, if-either, bit-one, is-true}
 use Rattle.rules.proofs.Sums.{sumTo-ones}
 use Rattle.rules.proofs.Room.{places-count-0}
-use Rattle.room.specs.declared.Room.{Room}
-use Rattle.room.specs.Free.{firstOr, firstFrom, lowestFor, enoughFrom, roomFor}
+use Rattle.room.specs.Free.{firstOr, firstFrom, lowestFor, enoughFrom, RoomFor}
 
 -- ---- tests against zero
 
@@ -213,26 +212,9 @@ module _ (f : ℕ → Bool) (k i n : ℕ) where
 
 module _ (f : ℕ → Bool) (k n : ℕ) where
   -- none is wanted
-  pub room-none : k ≡ 0 → record { lowest = 0; enough = true } ≡ roomFor f k n
-  unfolding roomFor
-  room-none z =
-      let e : lowestFor f k n ≡ 0 = ap (λ (j : ℕ). lowestFor f j n) z in
-      λ i. record { lowest = sym e i; enough = sym (le-leb k (length (places f 0 n)) (omega arith)) i }
+  pub room-none : k ≡ 0 → RoomFor f k n 0 true
+  room-none z = (sym (ap (λ (j : ℕ). lowestFor f j n) z), sym (le-leb k (length (places f 0 n)) (omega arith)))
 
   -- some are: none that passes is below the lowest
-  pub room-some : {r : ℕ} {b : Bool} → (k ≡ 0 → ⊥) → r ≡ firstFrom f 0 n → b ≡ enoughFrom f k r n → record { lowest = r; enough = b } ≡ roomFor f k n
-  unfolding roomFor
-  room-some h e w =
-      let low = e ∙ sym (lowest-some f k n h) in
-      let all = w ∙ ap (λ (l : List ℕ). leb k (length l)) (places-skip f n e) in
-      λ i. record { lowest = low i; enough = all i }
-
-module _ (f : ℕ → Bool) (k n : ℕ) {r : Room} (e : r ≡ roomFor f k n) where
-  -- the two answers of a room test
-  pub room-lowest : r .lowest ≡ lowestFor f k n
-  unfolding roomFor
-  room-lowest = ap (λ (x : Room). x .lowest) e
-
-  pub room-enough : r .enough ≡ leb k (length (places f 0 n))
-  unfolding roomFor
-  room-enough = ap (λ (x : Room). x .enough) e
+  pub room-some : {r : ℕ} {b : Bool} → (k ≡ 0 → ⊥) → r ≡ firstFrom f 0 n → b ≡ enoughFrom f k r n → RoomFor f k n r b
+  room-some h e w = (e ∙ sym (lowest-some f k n h), w ∙ ap (λ (l : List ℕ). leb k (length l)) (places-skip f n e))

@@ -1,11 +1,11 @@
 -- The lowest free numbers.
+use mathlib.Core.Path.{_≡_}
 use mathlib.Core.Bool.{Bool}
 use mathlib.Core.List.{List, [], _∷_}
 use Prim.Native.Nat.{ℕ, zero, suc, _-_}
 use lib.ListN.{length}
 use lib.Dec.{leb}
 use Rattle.rules.specs.Basics.{places}
-use Rattle.room.specs.declared.Room.{Room}
 
 -- the first of a list, or n where it has none
 abbrev pub firstOr : ℕ → List ℕ → ℕ
@@ -25,6 +25,6 @@ lowestFor f (suc k) n = firstFrom f 0 n
 abbrev pub enoughFrom : (ℕ → Bool) → ℕ → ℕ → ℕ → Bool
 enoughFrom f k i n = leb k (length (places f i (n - i)))
 
--- the lowest below n that passes, and whether k pass
-unfoldable pub roomFor : (ℕ → Bool) → ℕ → ℕ → Room
-roomFor f k n = record { lowest = lowestFor f k n; enough = leb k (length (places f 0 n)) }
+-- r is the lowest below n that passes, where any is wanted, and b says whether k pass
+abbrev pub RoomFor : (ℕ → Bool) → ℕ → ℕ → ℕ → Bool → Type 0
+RoomFor f k n r b = (r ≡ lowestFor f k n) × (b ≡ leb k (length (places f 0 n)))

@@ -4,60 +4,66 @@ use kinds::PieceNumber;
 use kinds::SlipNumber;
 use layout::Shape;
 ghost use mathlib.Core.Path.{_≡_};
-ghost use Prim.Native.Nat.{_<_};
+ghost use Prim.Native.Nat.{_≤_, _<_};
 ghost use Rattle.rules.specs.Tables.{slipTotal, pieceTotal, bufferTotal};
 ghost use Rattle.rules.specs.Bytes.{decode};
 ghost use Rattle.rules.specs.Room.{isVacant, isFree, isUnheld};
 ghost use Rattle.rules.specs.Build.{buffersFor};
 ghost use Rattle.tables.specs.Shape.{Shaped};
-ghost use Rattle.room.specs.Free.{firstFrom, enoughFrom, roomFor};
+ghost use Rattle.room.specs.Free.{firstFrom, enoughFrom, RoomFor};
 
 // The bytes of a buffer, to count by.
 const SIZE: usize = BufferNumber::SIZE as usize;
 
-// The lowest free number where any is wanted, 0 where none is, and whether as many are free as are wanted: what a free-list probe finds.
-pub struct Room {
-    pub lowest: u16,
+// The lowest free piece where any is wanted, 0 where none is, and whether as many are free as are wanted: what a free-list probe of the descriptors finds.
+pub struct PieceRoom {
+    pub lowest: PieceNumber,
+    pub enough: bool,
+}
+
+// The same of the buffers: what a free-list probe of the clusters finds.
+pub struct BufferRoom {
+    pub lowest: BufferNumber,
     pub enough: bool,
 }
 
 // The lowest vacant slip from `from` on, or the count of slips: a scan for a free handle.
-pub fn next_vacant(pool: &[u8], shape: Shape, from: u16) -> u16
-    requires { ⌜ Shaped (now pool) shape ⌝ }
-    ensures { λ r. ⌜ r ≡ firstFrom (isVacant (decode (now (pool .entry)))) from (slipTotal (decode (now (pool .entry)))) ⌝ }
+pub fn next_vacant(pool: &[u8], shape: Shape, from: SlipNumber) -> SlipNumber
+    requires { ⌜ Shaped (now pool) shape × (from .0 ≤ shape .slips) ⌝ }
+    ensures { λ r. ⌜ r .0 ≡ firstFrom (isVacant (decode (now (pool .entry)))) (from .0) (slipTotal (decode (now (pool .entry)))) ⌝ }
 {
-    let mut s = from;
+    let mut s = from.0;
     while s < shape.slips {
         if tables::slip(pool, shape, SlipNumber(s)) == 0 {
-            return s;
+            break;
         }
         s += 1;
     }
-    shape.slips
+    SlipNumber(s)
 }
 
 // The lowest free piece from `from` on, or the count of pieces: a scan for a free descriptor.
-pub fn next_free_piece(pool: &[u8], shape: Shape, from: u16) -> u16
+pub fn next_free_piece(pool: &[u8], shape: Shape, from: PieceNumber) -> PieceNumber
     requires { ⌜ Shaped (now pool) shape ⌝ }
-    ensures { λ r. ⌜ r ≡ firstFrom (isFree (decode (now (pool .entry)))) from (pieceTotal (decode (now (pool .entry)))) ⌝ }
+    ensures { λ r. ⌜ r .0 ≡ firstFrom (isFree (decode (now (pool .entry)))) (from .0) (pieceTotal (decode (now (pool .entry)))) ⌝ }
 {
-    let mut d = from;
+    let mut d = from.0;
     while d < shape.pieces {
         if tables::piece_count(pool, shape, PieceNumber(d)) == 0 {
-            return d;
+            return PieceNumber(d);
         }
         d += 1;
     }
-    shape.pieces
+    PieceNumber(shape.pieces)
 }
 
 // Whether at least `k` pieces are free from `lowest` on, by a scan that stops at the k-th: a count of free descriptors.
-fn enough_pieces(pool: &[u8], shape: Shape, lowest: u16, k: usize) -> bool
+fn enough_pieces(pool: &[u8], shape: Shape, lowest: PieceNumber, k: usize) -> bool
     requires { ⌜ Shaped (now pool) shape × (0 < k) ⌝ }
-    ensures { λ r. ⌜ r ≡ enoughFrom (isFree (decode (now (pool .entry)))) k lowest (pieceTotal (decode (now (pool .entry)))) ⌝ }
+    ensures { λ r. ⌜ r ≡ enoughFrom (isFree (decode (now (pool .entry)))) k (lowest .0) (pieceTotal (decode (now (pool .entry)))) ⌝ }
 {
     let mut pieces_left = k;
-    let mut d = lowest;
+    let mut d = lowest.0;
     while d < shape.pieces {
         if tables::piece_count(pool, shape, PieceNumber(d)) == 0 {
             pieces_left -= 1;
@@ -71,46 +77,46 @@ fn enough_pieces(pool: &[u8], shape: Shape, lowest: u16, k: usize) -> bool
 }
 
 // Where the lowest free piece is, and whether `k` are free: a room test.
-pub fn piece_room(pool: &[u8], shape: Shape, k: usize) -> Room
+pub fn piece_room(pool: &[u8], shape: Shape, k: usize) -> PieceRoom
     requires { ⌜ Shaped (now pool) shape ⌝ }
-    ensures { λ r. ⌜ r ≡ roomFor (isFree (decode (now (pool .entry)))) k (pieceTotal (decode (now (pool .entry)))) ⌝ }
+    ensures { λ r. ⌜ RoomFor (isFree (decode (now (pool .entry)))) k (pieceTotal (decode (now (pool .entry)))) (r .lowest .0) (r .enough) ⌝ }
 {
     if k == 0 {
-        return Room {
-            lowest: 0,
+        return PieceRoom {
+            lowest: PieceNumber(0),
             enough: true,
         };
     }
-    let lowest = next_free_piece(pool, shape, 0);
+    let lowest = next_free_piece(pool, shape, PieceNumber(0));
     let enough = enough_pieces(pool, shape, lowest, k);
-    Room {
+    PieceRoom {
         lowest: lowest,
         enough: enough,
     }
 }
 
 // The lowest free buffer from `from` on, or the count of buffers: a scan for a free cluster.
-pub fn next_free_buffer(pool: &[u8], shape: Shape, from: u16) -> u16
+pub fn next_free_buffer(pool: &[u8], shape: Shape, from: BufferNumber) -> BufferNumber
     requires { ⌜ Shaped (now pool) shape ⌝ }
-    ensures { λ r. ⌜ r ≡ firstFrom (isUnheld (decode (now (pool .entry)))) from (bufferTotal (decode (now (pool .entry)))) ⌝ }
+    ensures { λ r. ⌜ r .0 ≡ firstFrom (isUnheld (decode (now (pool .entry)))) (from .0) (bufferTotal (decode (now (pool .entry)))) ⌝ }
 {
-    let mut b = from;
+    let mut b = from.0;
     while b < shape.buffers {
         if tables::buffer_count(pool, shape, BufferNumber(b)) == 0 {
-            return b;
+            return BufferNumber(b);
         }
         b += 1;
     }
-    shape.buffers
+    BufferNumber(shape.buffers)
 }
 
 // Whether at least `k` buffers are free from `lowest` on, by a scan that stops at the k-th: a count of free clusters.
-fn enough_buffers(pool: &[u8], shape: Shape, lowest: u16, k: usize) -> bool
+fn enough_buffers(pool: &[u8], shape: Shape, lowest: BufferNumber, k: usize) -> bool
     requires { ⌜ Shaped (now pool) shape × (0 < k) ⌝ }
-    ensures { λ r. ⌜ r ≡ enoughFrom (isUnheld (decode (now (pool .entry)))) k lowest (bufferTotal (decode (now (pool .entry)))) ⌝ }
+    ensures { λ r. ⌜ r ≡ enoughFrom (isUnheld (decode (now (pool .entry)))) k (lowest .0) (bufferTotal (decode (now (pool .entry)))) ⌝ }
 {
     let mut buffers_left = k;
-    let mut b = lowest;
+    let mut b = lowest.0;
     while b < shape.buffers {
         if tables::buffer_count(pool, shape, BufferNumber(b)) == 0 {
             buffers_left -= 1;
@@ -124,19 +130,19 @@ fn enough_buffers(pool: &[u8], shape: Shape, lowest: u16, k: usize) -> bool
 }
 
 // Where the lowest free buffer is, and whether `k` are free: a room test.
-pub fn buffer_room(pool: &[u8], shape: Shape, k: usize) -> Room
+pub fn buffer_room(pool: &[u8], shape: Shape, k: usize) -> BufferRoom
     requires { ⌜ Shaped (now pool) shape ⌝ }
-    ensures { λ r. ⌜ r ≡ roomFor (isUnheld (decode (now (pool .entry)))) k (bufferTotal (decode (now (pool .entry)))) ⌝ }
+    ensures { λ r. ⌜ RoomFor (isUnheld (decode (now (pool .entry)))) k (bufferTotal (decode (now (pool .entry)))) (r .lowest .0) (r .enough) ⌝ }
 {
     if k == 0 {
-        return Room {
-            lowest: 0,
+        return BufferRoom {
+            lowest: BufferNumber(0),
             enough: true,
         };
     }
-    let lowest = next_free_buffer(pool, shape, 0);
+    let lowest = next_free_buffer(pool, shape, BufferNumber(0));
     let enough = enough_buffers(pool, shape, lowest, k);
-    Room {
+    BufferRoom {
         lowest: lowest,
         enough: enough,
     }

@@ -2,6 +2,7 @@
 use calls_look::Shown;
 use gather::Gathered;
 use kinds::Answer;
+use kinds::SlipNumber;
 use list::Stretch;
 ghost use mathlib.Core.Path.{_≡_};
 ghost use mathlib.Core.List.{[]};
@@ -52,7 +53,7 @@ pub extern "C" fn slp_free(pool: &mut [u8], storage: &[u8], slip: u16) -> Answer
     ensures { λ r. ⌜ resultOf r (now (pool .exit)) (now (storage .entry)) [] noView
         ≡ step (Do (Free slip)) (lent (now (pool .entry)) (now (storage .entry))) ⌝ }
 {
-    calls_change::free(pool, storage, slip)
+    calls_change::free(pool, storage, SlipNumber(slip))
 }
 
 // dup: a new slip on the same chain.
@@ -60,7 +61,7 @@ pub extern "C" fn slp_free(pool: &mut [u8], storage: &[u8], slip: u16) -> Answer
 pub extern "C" fn slp_dup(pool: &mut [u8], storage: &[u8], slip: u16) -> Answer
     ensures { λ r. ⌜ resultOf r (now (pool .exit)) (now (storage .entry)) [] noView ≡ step (Do (Dup slip)) (lent (now (pool .entry)) (now (storage .entry))) ⌝ }
 {
-    calls_new::dup(pool, storage, slip)
+    calls_new::dup(pool, storage, SlipNumber(slip))
 }
 
 // cut: a new slip on a range of a chain.
@@ -75,7 +76,7 @@ pub extern "C" fn slp_cut(
     ensures { λ r. ⌜ resultOf r (now (pool .exit)) (now (storage .entry)) [] noView
         ≡ step (Do (Cut slip offset length)) (lent (now (pool .entry)) (now (storage .entry))) ⌝ }
 {
-    calls_new::cut(pool, storage, slip, offset, length)
+    calls_new::cut(pool, storage, SlipNumber(slip), offset, length)
 }
 
 // append: one chain behind another.
@@ -84,7 +85,7 @@ pub extern "C" fn slp_append(pool: &mut [u8], storage: &[u8], a: u16, b: u16) ->
     ensures { λ r. ⌜ resultOf r (now (pool .exit)) (now (storage .entry)) [] noView
         ≡ step (Do (Append a b)) (lent (now (pool .entry)) (now (storage .entry))) ⌝ }
 {
-    calls_change::append(pool, storage, a, b)
+    calls_change::append(pool, storage, SlipNumber(a), SlipNumber(b))
 }
 
 // drop: the first bytes of a chain go.
@@ -93,7 +94,7 @@ pub extern "C" fn slp_drop(pool: &mut [u8], storage: &[u8], slip: u16, n: u32) -
     ensures { λ r. ⌜ resultOf r (now (pool .exit)) (now (storage .entry)) [] noView
         ≡ step (Do (Drop slip n)) (lent (now (pool .entry)) (now (storage .entry))) ⌝ }
 {
-    calls_change::drop(pool, storage, slip, n)
+    calls_change::drop(pool, storage, SlipNumber(slip), n)
 }
 
 // keep: the first bytes of a chain stay.
@@ -102,7 +103,7 @@ pub extern "C" fn slp_keep(pool: &mut [u8], storage: &[u8], slip: u16, n: u32) -
     ensures { λ r. ⌜ resultOf r (now (pool .exit)) (now (storage .entry)) [] noView
         ≡ step (Do (Keep slip n)) (lent (now (pool .entry)) (now (storage .entry))) ⌝ }
 {
-    calls_change::keep(pool, storage, slip, n)
+    calls_change::keep(pool, storage, SlipNumber(slip), n)
 }
 
 // pullup: the first bytes of a chain in one piece.
@@ -111,7 +112,7 @@ pub extern "C" fn slp_pullup(pool: &mut [u8], storage: &mut [u8], slip: u16, n: 
     ensures { λ r. ⌜ resultOf r (now (pool .exit)) (now (storage .exit)) [] noView
         ≡ step (Do (Pullup slip n)) (lent (now (pool .entry)) (now (storage .entry))) ⌝ }
 {
-    calls_store::pullup(pool, storage, slip, n)
+    calls_store::pullup(pool, storage, SlipNumber(slip), n)
 }
 
 // pack: a chain's bytes put afresh under the same slip.
@@ -119,7 +120,7 @@ pub extern "C" fn slp_pullup(pool: &mut [u8], storage: &mut [u8], slip: u16, n: 
 pub extern "C" fn slp_pack(pool: &mut [u8], storage: &mut [u8], slip: u16) -> Answer
     ensures { λ r. ⌜ resultOf r (now (pool .exit)) (now (storage .exit)) [] noView ≡ step (Do (Pack slip)) (lent (now (pool .entry)) (now (storage .entry))) ⌝ }
 {
-    calls_store::pack(pool, storage, slip)
+    calls_store::pack(pool, storage, SlipNumber(slip))
 }
 
 // length: the byte count of a chain.
@@ -128,7 +129,7 @@ pub extern "C" fn slp_length(pool: &[u8], storage: &[u8], slip: u16) -> Answer
     ensures { λ r. ⌜ resultOf r (now (pool .entry)) (now (storage .entry)) [] noView
         ≡ step (Do (Length slip)) (lent (now (pool .entry)) (now (storage .entry))) ⌝ }
 {
-    calls_look::length(pool, storage, slip)
+    calls_look::length(pool, storage, SlipNumber(slip))
 }
 
 // read: copies bytes of a chain to the front of a lent output.
@@ -144,7 +145,7 @@ pub extern "C" fn slp_read(
     ensures { λ r. ⌜ resultOf r (now (pool .entry)) (now (storage .entry)) (now (output .exit)) noView
         ≡ step (Do (Read slip offset length (now (output .entry)))) (lent (now (pool .entry)) (now (storage .entry))) ⌝ }
 {
-    calls_look::read(pool, storage, slip, offset, length, output)
+    calls_look::read(pool, storage, SlipNumber(slip), offset, length, output)
 }
 
 // show: the first bytes of a chain in one stretch, of storage or of a lent scratch.
@@ -159,7 +160,7 @@ pub extern "C" fn slp_show(
     ensures { λ r. ⌜ shownOf r (now (pool .entry)) (now (storage .entry)) (now (scratch .exit))
         ≡ step (Do (Show slip n (now (scratch .entry)))) (lent (now (pool .entry)) (now (storage .entry))) ⌝ }
 {
-    calls_look::show(pool, storage, slip, n, scratch)
+    calls_look::show(pool, storage, SlipNumber(slip), n, scratch)
 }
 
 // list: where the pieces of a chain lie in storage, two numbers each, to the front of a lent list.
@@ -168,7 +169,7 @@ pub extern "C" fn slp_list(pool: &[u8], storage: &[u8], slip: u16, list: &mut [u
     ensures { λ r. ⌜ resultOf r (now (pool .entry)) (now (storage .entry)) (now (list .exit)) noView
         ≡ step (Do (WireList slip (now (list .entry)))) (lent (now (pool .entry)) (now (storage .entry))) ⌝ }
 {
-    calls_look::list(pool, storage, slip, list)
+    calls_look::list(pool, storage, SlipNumber(slip), list)
 }
 
 // gather: the bytes that the records of a list name, copied out of storage to the front of a lent output, with no pool.

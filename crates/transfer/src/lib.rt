@@ -123,10 +123,10 @@ fn part_end(at: usize, length: usize) -> usize
 }
 
 // Fills the lowest free buffers, from `buffer` on, with `input`, in order, and the rest of the last with zeros: a scatter to fresh clusters.
-pub fn fill_free(pool: &[u8], shape: Shape, storage: &mut [u8], input: &[u8], buffer: u16)
+pub fn fill_free(pool: &[u8], shape: Shape, storage: &mut [u8], input: &[u8], buffer: BufferNumber)
     requires { ⌜ Shaped (now pool) shape × (length (now storage) ≡ storageLength (stockOf shape) (shape .buffers)) ⌝ }
     requires { ⌜ buffersFor (length (now input)) ≤ length (freeBuffers (decode (now pool))) ⌝ }
-    requires { ⌜ buffer ≡ lowestFor (isUnheld (decode (now pool))) (buffersFor (length (now input))) (bufferTotal (decode (now pool))) ⌝ }
+    requires { ⌜ buffer .0 ≡ lowestFor (isUnheld (decode (now pool))) (buffersFor (length (now input))) (bufferTotal (decode (now pool))) ⌝ }
     ensures { λ _. ⌜ now (storage .exit)
         ≡ stored (decode (now (pool .entry)) .stock) (now (storage .entry)) (newBuffers (decode (now (pool .entry))) (buffersFor (length (now (input .entry)))))
         (now (input .entry)) ⌝ }
@@ -134,11 +134,11 @@ pub fn fill_free(pool: &[u8], shape: Shape, storage: &mut [u8], input: &[u8], bu
     let mut at = 0;
     let mut from = buffer;
     while at < input.len() {
-        let b = room::next_free_buffer(pool, shape, from);
+        let to = room::next_free_buffer(pool, shape, from);
         let end = part_end(at, input.len());
-        storage::fill_buffer(storage, BufferNumber(b), &input[at..end]);
+        storage::fill_buffer(storage, to, &input[at..end]);
         at = end;
-        from = b + 1;
+        from = BufferNumber(to.0 + 1);
     }
 }
 
@@ -178,11 +178,18 @@ fn refill_buffer(
 
 // Fills the lowest free buffers, from `buffer` on, with the first `n` bytes of the chain from
 // `link`, in order, and the rest of the last with zeros: a gather into fresh clusters.
-pub fn refill(pool: &[u8], shape: Shape, storage: &mut [u8], link: u16, n: u32, buffer: u16)
+pub fn refill(
+    pool: &[u8],
+    shape: Shape,
+    storage: &mut [u8],
+    link: u16,
+    n: u32,
+    buffer: BufferNumber,
+)
     requires { ⌜ Opened (now pool) shape × Is (linkOk (decode (now pool)) link) ⌝ }
     requires { ⌜ (length (now storage) ≡ storageLength (stockOf shape) (shape .buffers)) × (n ≤ total (stretchesFrom (decode (now pool)) link)) ⌝ }
     requires { ⌜ buffersFor n ≤ length (freeBuffers (decode (now pool))) ⌝ }
-    requires { ⌜ buffer ≡ lowestFor (isUnheld (decode (now pool))) (buffersFor n) (bufferTotal (decode (now pool))) ⌝ }
+    requires { ⌜ buffer .0 ≡ lowestFor (isUnheld (decode (now pool))) (buffersFor n) (bufferTotal (decode (now pool))) ⌝ }
     ensures { λ _. ⌜ now (storage .exit)
         ≡ stored (decode (now (pool .entry)) .stock) (now (storage .entry)) (newBuffers (decode (now (pool .entry))) (buffersFor n))
         (take n (contents (decode (now (pool .entry)) .stock) (now (storage .entry)) (stretchesFrom (decode (now (pool .entry))) link))) ⌝ }
@@ -194,10 +201,10 @@ pub fn refill(pool: &[u8], shape: Shape, storage: &mut [u8], link: u16, n: u32, 
     let mut left = n;
     let mut from = buffer;
     while 0 < left {
-        let b = BufferNumber(room::next_free_buffer(pool, shape, from));
+        let b = room::next_free_buffer(pool, shape, from);
         let m = kinds::lesser(left, BufferNumber::SIZE as u32);
         c = refill_buffer(pool, shape, storage, c, m, b);
         left = left - m;
-        from = b.0 + 1;
+        from = BufferNumber(b.0 + 1);
     }
 }

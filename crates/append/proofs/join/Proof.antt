@@ -11,7 +11,6 @@ use Rattle.rules.specs.Bytes.{decode}
 use Rattle.rules.specs.Room.{isFree, freePieces}
 use Rattle.rules.specs.Append.{notOwn}
 use Rattle.room.specs.Free.{lowestFor}
-use Rattle.room.proofs.Free.{room-lowest, room-enough}
 use Rattle.answer.proofs.Perform.{named-below}
 use Rattle.append.proofs.Ready.{IsReady, head-ok, last-below, next-ok, next-long, no-others, others-count, others-cut, own-ready, new-ready, first-small, join-hangable, join-after}
 use Rattle.append.proofs.Laws.{append-pieces, append-joined}
@@ -113,11 +112,11 @@ module _ (q : tie.After-piece-room) where
   abbrev from : tie.After-own-run
   from = counted .before .before .before
 
-  low : q .piece-room .result .lowest ≡ lowestFor (isFree (tables from)) (counted .pieces-from .result) (pieceTotal (tables from))
-  low = room-lowest (isFree (tables from)) (counted .pieces-from .result) (pieceTotal (tables from)) (q .piece-room .ensures)
+  low : q .piece-room .result .lowest .0 ≡ lowestFor (isFree (tables from)) (counted .pieces-from .result) (pieceTotal (tables from))
+  low = q .piece-room .ensures .0
 
   enough : q .piece-room .result .enough ≡ leb (counted .pieces-from .result) (length (freePieces (tables from)))
-  enough = room-enough (isFree (tables from)) (counted .pieces-from .result) (pieceTotal (tables from)) (q .piece-room .ensures)
+  enough = q .piece-room .ensures .1
 
   count : counted .pieces-from .result ≡ length (notOwn (tables from) (start from .args .a .0))
   count = others-count (start from .pre .0) (start from .pre .1) (from .own-run .ensures) (counted .pieces-from .ensures)
@@ -145,7 +144,7 @@ module _ (e : tie.Else2) where
 
 copy-pieces-requires : tie.Need-copy-pieces-requires
 copy-pieces-requires c κs =
-    let e = c .before in
+    let e = c .before .before in
     let q = asked e in
     let r = from q in
     let z = start r in
@@ -157,7 +156,7 @@ copy-pieces-requires c κs =
 set-slip-requires-2 : tie.Need-set-slip-requires-2
 set-slip-requires-2 c κs =
     let w = c .before .before .before in
-    (w .copy-pieces .ensures .0 .shaped, b-below (from (asked (w .before .before))))
+    (w .copy-pieces .ensures .0 .shaped, b-below (from (asked (w .before .before .before))))
 
 -- b is vacant
 module _ (v : tie.After-set-slip2) where
@@ -165,7 +164,7 @@ module _ (v : tie.After-set-slip2) where
   copied = v .before .before .before .before
 
   abbrev roomed : tie.Else2
-  roomed = copied .before .before
+  roomed = copied .before .before .before
 
   abbrev first-read : tie.After-own-run
   first-read = from (asked roomed)

@@ -19,11 +19,11 @@ sub-lesser c = search needs
 
 in-line-requires : tie.Need-in-line-requires
 in-line-requires c κs =
-    let z = c .before .before .before in
+    let z = c .before .before .before .before in
     (z .pre .0, omega (arith, z .pre .2 .free-below, total-pieces (whole (z .pre .0))), z .pre .1)
 
 piece-length-requires : tie.Need-piece-length-requires
-piece-length-requires c κs = let z = c .before .before .before .before .before in (z .pre .0, below z)
+piece-length-requires c κs = let z = c .before .before .before .before .before .before in (z .pre .0, below z)
 
 cast-lesser : tie.Need-cast-lesser
 cast-lesser c = search needs
@@ -35,10 +35,10 @@ lesser-requires : tie.Need-lesser-requires
 lesser-requires c κs = search needs
 
 piece-buffer-requires : tie.Need-piece-buffer-requires
-piece-buffer-requires c κs = let z = c .before .before .before .before .before .before .before .before .before in (z .pre .0, below z)
+piece-buffer-requires c κs = let z = c .before .before .before .before .before .before .before .before .before .before in (z .pre .0, below z)
 
 piece-offset-requires : tie.Need-piece-offset-requires
-piece-offset-requires c κs = let z = c .before .before .before .before .before .before .before .before .before .before .before in (z .pre .0, below z)
+piece-offset-requires c κs = let z = c .before .before .before .before .before .before .before .before .before .before .before .before in (z .pre .0, below z)
 
 cast-offset : tie.Need-cast-offset
 cast-offset c = search needs
@@ -47,7 +47,7 @@ add-offset : tie.Need-add-offset
 add-offset c = search needs
 
 piece-next-requires : tie.Need-piece-next-requires
-piece-next-requires c κs = let z = c .before .before .before .before .before .before .before .before .before .before .before .before .before .before in (z .pre .0, below z)
+piece-next-requires c κs = let z = c .before .before .before .before .before .before .before .before .before .before .before .before .before .before .before in (z .pre .0, below z)
 
 cast-take-piece : tie.Need-cast-take-piece
 cast-take-piece c = search needs
@@ -55,27 +55,27 @@ cast-take-piece c = search needs
 take-piece-requires : tie.Need-take-piece-requires
 take-piece-requires c κs =
     let b = c .before .before .before .before .before .before in
-    let z = b .before .before .before .before .before .before .before .before .before .before in
+    let z = b .before .before .before .before .before .before .before .before .before .before .before in
     let e = ap (λ (x : BufferNumber). x .0) (b .piece-buffer .ensures) in
     let w = whole (z .pre .0) in
     (z .pre .0, omega (arith, z .pre .2 .free-below, total-pieces w), omega (arith, e, z .pre .2 .place .in-store, total-buffers w), rw (b .piece-buffer .ensures) (z .pre .2 .place .room))
 
-sub-t19 : tie.Need-sub-t19
-sub-t19 c = search needs
+sub-t20 : tie.Need-sub-t20
+sub-t20 c = search needs
 
 same-length : tie.Need-same-length
 same-length c = search needs
 
 returns : tie.Need-returns
 returns c =
-    let t = c .before .before .before in
+    let t = c .before .before .before .before in
     let n = t .before .before in
     let o = n .before .before .before in
     let b = o .before .before in
     let s = b .before .before in
     let l = s .before .before in
     let i = l .before .before in
-    let a = i .before .before .before .before .args in
+    let a = i .before .before .before .before .before .args in
     clone-done (decode (a .pool .now)) (a .c) (a .more) (a .tail) (i .in-line .ensures) (l .piece-length .ensures) (s .lesser .ensures)
     (ap (λ (x : BufferNumber). x .0) (b .piece-buffer .ensures)) (o .piece-offset .ensures) (n .piece-next .ensures) (t .take-piece .ensures)
 
@@ -96,6 +96,6 @@ clone-piece-spec =
     piece-next-requires
     cast-take-piece
     take-piece-requires
-    sub-t19
+    sub-t20
     same-length
     returns)

@@ -34,7 +34,7 @@ returns c =
     (record { shaped = z .pre .0 .0 .shaped; is = sym (e .0) }, sym (e .1))
 
 -- the first piece to take is the lowest free one
-first-is : (i : tie.Else1 Inv-loop μ-loop) → let a = i .before .before .args in let T = decode (a .pool .now) in a .first ≡ firstFrom (isFree T) 0 (pieceTotal T)
+first-is : (i : tie.Else1 Inv-loop μ-loop) → let a = i .before .before .args in let T = decode (a .pool .now) in a .first .0 ≡ firstFrom (isFree T) 0 (pieceTotal T)
 first-is i =
     let z = i .before .before in
     let T = decode (z .args .pool .now) in
@@ -76,22 +76,23 @@ loop-again c =
     (k .kept .0 ∙ l .inv .0, k .ensures .0 .shaped, rw (k .ensures .0 .is, k .ensures .1) (copies-on (o .sound) (l .inv .2) (t .loop-test .taken) (same-pieces t) (same-buffers t)))
 
 add-result : tie.Need-add-result Inv-loop μ-loop
-add-result c = let i = c .before .before in omega (arith, link-fits (i .before .before .pre .0 .0) 0 (first-is i))
+add-result c = let i = c .before .before .before in omega (arith, link-fits (i .before .before .pre .0 .0) 0 (first-is i))
 
 same-length : tie.Need-same-length Inv-loop μ-loop
-same-length c = c .before .loop .inv .0
+same-length c = c .before .before .loop .inv .0
 
 returns-2 : tie.Need-returns-2 Inv-loop μ-loop
 returns-2 c =
-    let l = c .before .loop in
-    let i = c .before .before in
+    let e = c .before in
+    let l = e .before .loop in
+    let i = e .before .before in
     let z = i .before .before in
     let a = z .args in
     let T = decode (a .pool .now) in
     let w = l .inv .2 in
     let xs = cutOut (stretchesFrom T (a .link)) (a .into) (a .n) in
     let some : 0 < length xs = omega (arith, z .pre .1 .0 .0, i .if1 .left) in (
-      record { shaped = l .inv .1; is = line-done _ (w .line) (omega (arith, w .more, c .loop-test .left)) },
+      record { shaped = l .inv .1; is = line-done _ (w .line) (omega (arith, w .more, e .loop-test .left)) },
       ap (λ (n : ℕ). n + 1) (first-is i) ∙ line-link T xs (a .tail) some (omega (arith, z .pre .1 .0 .0, z .pre .1 .0 .1)),
     )
 

@@ -14,32 +14,32 @@ use Rattle.build.proofs.in_line.Tie as tie
 returns : tie.Need-returns
 returns c =
     let a = c .before .before .args in
-    last-in-line (decode (a .pool .now)) (a .f) (a .tail) (a .more) (c .if1 .taken)
+    last-in-line (decode (a .pool .now)) (a .f .0) (a .tail) (a .more) (c .if1 .taken)
 
-add-next-free-piece : tie.Need-add-next-free-piece
-add-next-free-piece c = search needs
+add-t8 : tie.Need-add-t8
+add-t8 c = search needs
 
 next-free-piece-requires : tie.Need-next-free-piece-requires
 next-free-piece-requires c κs = search needs
 
-add-t8 : tie.Need-add-t8
-add-t8 c =
-    let z = c .before .before .before in
+add-t8-2 : tie.Need-add-t8-2
+add-t8-2 c =
+    let z = c .before .before .before .before .before in
     let T = decode (z .args .pool .now) in
-    omega (arith, c .next-free-piece .ensures, first-lies (isFree T) (z .args .f + 1) (pieceTotal T) .0, total-pieces (whole (z .pre .0)), z .pre .2)
+    omega (arith, c .before .next-free-piece .ensures, first-lies (isFree T) (z .args .f .0 + 1) (pieceTotal T) .0, total-pieces (whole (z .pre .0)), z .pre .2)
 
 returns-2 : tie.Need-returns-2
 returns-2 c =
-    let i = c .before in
+    let i = c .before .before .before in
     let a = i .before .before .args in
-    next-in-line (decode (a .pool .now)) (a .f) (a .tail) (a .more) (i .if1 .left) (c .next-free-piece .ensures)
+    next-in-line (decode (a .pool .now)) (a .f .0) (a .tail) (a .more) (i .if1 .left) (c .before .next-free-piece .ensures)
 
 pub in-line-spec : {M : Type 1} → statement M
 in-line-spec =
     tie.close
     (tie.spec
     returns
-    add-next-free-piece
-    next-free-piece-requires
     add-t8
+    next-free-piece-requires
+    add-t8-2
     returns-2)

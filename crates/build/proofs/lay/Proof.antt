@@ -16,12 +16,12 @@ use Rattle.build.proofs.lay.Statement.{statement}
 use Rattle.build.proofs.lay.Tie as tie
 
 abbrev Inv-loop : tie.InvT-loop
-Inv-loop pool₀ shape n count first buffer c₀ more₀ pool c more =
+Inv-loop pool₀ shape n count first c₀ more₀ pool c more =
     let T = decode pool₀ in
     (length pool ≡ length pool₀) × Shaped pool shape × Lays (built T (freePieces T) (laid (T .stock) (newBuffers T count) n) 0) (decode pool) c more
 
 abbrev μ-loop : tie.MeasureT-loop
-μ-loop pool₀ shape n count first buffer c₀ more₀ pool c more = more
+μ-loop pool₀ shape n count first c₀ more₀ pool c more = more
 
 returns : tie.Need-returns Inv-loop μ-loop
 returns c =
@@ -31,7 +31,7 @@ returns c =
     (record { shaped = z .pre .0 .shaped; is = sym (e .0) }, sym (e .1))
 
 -- the first piece to take is the lowest free one
-first-is : (i : tie.Else1 Inv-loop μ-loop) → let a = i .before .before .args in let T = decode (a .pool .now) in a .first ≡ firstFrom (isFree T) 0 (pieceTotal T)
+first-is : (i : tie.Else1 Inv-loop μ-loop) → let a = i .before .before .args in let T = decode (a .pool .now) in a .first .0 ≡ firstFrom (isFree T) 0 (pieceTotal T)
 first-is i =
     let z = i .before .before in
     let T = decode (z .args .pool .now) in
@@ -64,22 +64,22 @@ loop-again c =
     (k .kept .0 ∙ l .inv .0, k .ensures .0 .shaped, rw (k .ensures .0 .is, k .ensures .1) (lays-on (l .inv .2) (t .loop-test .taken)))
 
 add-result : tie.Need-add-result Inv-loop μ-loop
-add-result c = let i = c .before .before in omega (arith, link-fits (i .before .before .pre .0) 0 (first-is i))
+add-result c = let i = c .before .before .before in omega (arith, link-fits (i .before .before .pre .0) 0 (first-is i))
 
 same-length : tie.Need-same-length Inv-loop μ-loop
-same-length c = c .before .loop .inv .0
+same-length c = c .before .before .loop .inv .0
 
 returns-2 : tie.Need-returns-2 Inv-loop μ-loop
 returns-2 c =
-    let l = c .before .loop in
-    let i = c .before .before in
+    let l = c .before .before .loop in
+    let i = c .before .before .before in
     let z = i .before .before in
     let a = z .args in
     let T = decode (a .pool .now) in
     let w = l .inv .2 in
     let xs = laid (T .stock) (newBuffers T (a .count)) (a .n) in
     let e = laid-all T (a .n) (a .count) (z .pre .1 .0 .1) in (
-      record { shaped = l .inv .1; is = lays-done w (c .loop-test .left) },
+      record { shaped = l .inv .1; is = lays-done w (c .before .loop-test .left) },
       ap (λ (n : ℕ). n + 1) (first-is i) ∙ line-link T xs 0 (omega (arith, e, i .if1 .left)) (omega (arith, e, z .pre .1 .0 .0)),
     )
 

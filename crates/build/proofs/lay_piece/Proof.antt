@@ -18,7 +18,7 @@ lesser-requires c κs = search needs
 
 in-line-requires : tie.Need-in-line-requires
 in-line-requires c κs =
-    let z = c .before .before .before .before .before in
+    let z = c .before .before .before .before .before .before .before in
     (z .pre .0, omega (arith, z .pre .2 .free-below, total-pieces (whole (z .pre .0))), z .pre .1)
 
 cast-take-piece : tie.Need-cast-take-piece
@@ -27,16 +27,16 @@ cast-take-piece c = search needs
 take-piece-requires : tie.Need-take-piece-requires
 take-piece-requires c κs =
     let b = c .before .before .before .before in
-    let z = b .before .before .before in
+    let z = b .before .before .before .before .before in
     let w = whole (z .pre .0) in
     let l = z .pre .2 in
     let e = b .next-free-buffer .ensures in
     (z .pre .0, omega (arith, l .free-below, total-pieces w), omega (arith, e, l .in-store, total-buffers w), rw e (laid-room (decode (z .args .pool .now)) (z .args .c) l))
 
-add-from : tie.Need-add-from
-add-from c =
-    let b = c .before .before .before .before .before .before .before in
-    let z = b .before .before .before in
+add-t21 : tie.Need-add-t21
+add-t21 c =
+    let b = c .before .before .before .before .before .before .before .before .before in
+    let z = b .before .before .before .before .before in
     omega (arith, b .next-free-buffer .ensures, z .pre .2 .in-store, total-buffers (whole (z .pre .0)), z .pre .0 .buffers)
 
 sub-left : tie.Need-sub-left
@@ -47,11 +47,11 @@ same-length c = search needs
 
 returns : tie.Need-returns
 returns c =
-    let t = c .before .before .before in
+    let t = c .before .before .before .before .before in
     let i = t .before .before in
     let n = i .before .before in
     let b = n .before in
-    let a = b .before .before .before .args in
+    let a = b .before .before .before .before .before .args in
     lay-done (decode (a .pool .now)) (a .c) (a .more) (b .next-free-buffer .ensures) (n .lesser .ensures) (i .in-line .ensures) (t .take-piece .ensures)
 
 pub lay-piece-spec : {M : Type 1} → statement M
@@ -64,7 +64,7 @@ lay-piece-spec =
     in-line-requires
     cast-take-piece
     take-piece-requires
-    add-from
+    add-t21
     sub-left
     same-length
     returns)

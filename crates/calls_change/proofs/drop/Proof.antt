@@ -20,7 +20,7 @@ returns c =
     let t = c .before in
     let u = t .before .before in
     let a = u .before .before .before .before .args in
-    torn-answer (a .storage .now) (u .audit .ensures) (not-true _ (t .if1 .taken)) (Drop (a .slip) (a .n)) (c .refused .ensures)
+    torn-answer (a .storage .now) (u .audit .ensures) (not-true _ (t .if1 .taken)) (Drop (a .slip .0) (a .n)) (c .refused .ensures)
 
 drop-first-requires : tie.Need-drop-first-requires
 drop-first-requires c κs =
@@ -40,7 +40,7 @@ returns-2 c =
     let e = k .before .before .before in
     let u = e .before .before in
     let a = u .before .before .before .before .args in
-    answered (a .storage .now) (u .audit .ensures) (not-false _ (e .if1 .left)) (k .drop-first .result) (Drop (a .slip) (a .n)) (c .answer-of .ensures) (k .drop-first .ensures .0 (a .storage .now))
+    answered (a .storage .now) (u .audit .ensures) (not-false _ (e .if1 .left)) (k .drop-first .result) (Drop (a .slip .0) (a .n)) (c .answer-of .ensures) (k .drop-first .ensures .0 (a .storage .now))
 
 pub drop-spec : {M : Type 1} → statement M
 drop-spec =

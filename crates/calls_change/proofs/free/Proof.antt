@@ -20,7 +20,7 @@ returns c =
     let t = c .before in
     let u = t .before .before in
     let a = u .before .before .before .before .args in
-    torn-answer (a .storage .now) (u .audit .ensures) (not-true _ (t .if1 .taken)) (Free (a .slip)) (c .refused .ensures)
+    torn-answer (a .storage .now) (u .audit .ensures) (not-true _ (t .if1 .taken)) (Free (a .slip .0)) (c .refused .ensures)
 
 free-requires : tie.Need-free-requires
 free-requires c κs =
@@ -40,7 +40,7 @@ returns-2 c =
     let e = k .before .before .before in
     let u = e .before .before in
     let a = u .before .before .before .before .args in
-    answered (a .storage .now) (u .audit .ensures) (not-false _ (e .if1 .left)) (k .free .result) (Free (a .slip)) (c .answer-of .ensures) (k .free .ensures .0 (a .storage .now))
+    answered (a .storage .now) (u .audit .ensures) (not-false _ (e .if1 .left)) (k .free .result) (Free (a .slip .0)) (c .answer-of .ensures) (k .free .ensures .0 (a .storage .now))
 
 pub free-spec : {M : Type 1} → statement M
 free-spec =

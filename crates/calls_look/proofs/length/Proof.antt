@@ -17,7 +17,7 @@ returns c =
     let t = c .before in
     let u = t .before .before in
     let a = u .before .before .before .args in
-    torn-answer (a .storage .now) (u .audit .ensures) (not-true _ (t .if1 .taken)) (Length (a .slip)) (c .refused .ensures)
+    torn-answer (a .storage .now) (u .audit .ensures) (not-true _ (t .if1 .taken)) (Length (a .slip .0)) (c .refused .ensures)
 
 length-requires : tie.Need-length-requires
 length-requires c κs =
@@ -34,7 +34,7 @@ returns-2 c =
     let e = l .before .before in
     let u = e .before .before in
     let a = u .before .before .before .args in
-    answered (a .storage .now) (u .audit .ensures) (not-false _ (e .if1 .left)) (l .length .result) (Length (a .slip)) (c .answer-of .ensures) (l .length .ensures .0 (a .storage .now))
+    answered (a .storage .now) (u .audit .ensures) (not-false _ (e .if1 .left)) (l .length .result) (Length (a .slip .0)) (c .answer-of .ensures) (l .length .ensures .0 (a .storage .now))
 
 pub length-spec : {M : Type 1} → statement M
 length-spec =

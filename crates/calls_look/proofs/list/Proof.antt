@@ -17,7 +17,7 @@ returns c =
     let t = c .before in
     let u = t .before .before in
     let a = u .before .before .before .before .args in
-    torn-answer (a .storage .now) (u .audit .ensures) (not-true _ (t .if1 .taken)) (WireList (a .slip) (a .list .now)) (c .refused .ensures)
+    torn-answer (a .storage .now) (u .audit .ensures) (not-true _ (t .if1 .taken)) (WireList (a .slip .0) (a .list .now)) (c .refused .ensures)
 
 list-requires : tie.Need-list-requires
 list-requires c κs =
@@ -37,7 +37,7 @@ returns-2 c =
     let e = k .before .before .before in
     let u = e .before .before in
     let a = u .before .before .before .before .args in
-    answered (a .storage .now) (u .audit .ensures) (not-false _ (e .if1 .left)) (k .list .result) (WireList (a .slip) (a .list .now)) (c .answer-of .ensures) (k .list .ensures .0 (a .storage .now))
+    answered (a .storage .now) (u .audit .ensures) (not-false _ (e .if1 .left)) (k .list .result) (WireList (a .slip .0) (a .list .now)) (c .answer-of .ensures) (k .list .ensures .0 (a .storage .now))
 
 pub list-spec : {M : Type 1} → statement M
 list-spec =

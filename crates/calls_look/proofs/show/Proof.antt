@@ -23,7 +23,7 @@ returns c =
     let t = k .before in
     let u = t .before .before in
     let a = u .before .before .before .before .args in
-    torn-shown (a .storage .now) (u .audit .ensures) (not-true _ (t .if1 .taken)) (Show (a .slip) (a .n) (a .scratch .now)) (c .shown-of .ensures) (k .unseen .ensures)
+    torn-shown (a .storage .now) (u .audit .ensures) (not-true _ (t .if1 .taken)) (Show (a .slip .0) (a .n) (a .scratch .now)) (c .shown-of .ensures) (k .unseen .ensures)
 
 show-requires : tie.Need-show-requires
 show-requires c κs =

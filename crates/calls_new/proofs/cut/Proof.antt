@@ -20,7 +20,7 @@ returns c =
     let t = c .before in
     let u = t .before .before in
     let a = u .before .before .before .before .args in
-    torn-answer (a .storage .now) (u .audit .ensures) (not-true _ (t .if1 .taken)) (Cut (a .slip) (a .offset) (a .length)) (c .refused .ensures)
+    torn-answer (a .storage .now) (u .audit .ensures) (not-true _ (t .if1 .taken)) (Cut (a .slip .0) (a .offset) (a .length)) (c .refused .ensures)
 
 cut-requires : tie.Need-cut-requires
 cut-requires c κs =
@@ -40,7 +40,7 @@ returns-2 c =
     let e = k .before .before .before in
     let u = e .before .before in
     let a = u .before .before .before .before .args in
-    answered (a .storage .now) (u .audit .ensures) (not-false _ (e .if1 .left)) (k .cut .result) (Cut (a .slip) (a .offset) (a .length)) (c .answer-of .ensures) (k .cut .ensures .0 (a .storage .now))
+    answered (a .storage .now) (u .audit .ensures) (not-false _ (e .if1 .left)) (k .cut .result) (Cut (a .slip .0) (a .offset) (a .length)) (c .answer-of .ensures) (k .cut .ensures .0 (a .storage .now))
 
 pub cut-spec : {M : Type 1} → statement M
 cut-spec =

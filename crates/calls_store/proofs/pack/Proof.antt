@@ -20,7 +20,7 @@ returns c =
     let t = c .before in
     let u = t .before .before in
     let a = u .before .before .before .before .args in
-    torn-answer (a .storage .now) (u .audit .ensures) (not-true _ (t .if1 .taken)) (Pack (a .slip)) (c .refused .ensures)
+    torn-answer (a .storage .now) (u .audit .ensures) (not-true _ (t .if1 .taken)) (Pack (a .slip .0)) (c .refused .ensures)
 
 pack-requires : tie.Need-pack-requires
 pack-requires c κs =
@@ -44,7 +44,7 @@ returns-2 c =
     let e = k .before .before .before .before in
     let u = e .before .before in
     let a = u .before .before .before .before .args in
-    answered (a .storage .now) (u .audit .ensures) (not-false _ (e .if1 .left)) (k .pack .result) (Pack (a .slip)) (c .answer-of .ensures) (k .pack .ensures .0)
+    answered (a .storage .now) (u .audit .ensures) (not-false _ (e .if1 .left)) (k .pack .result) (Pack (a .slip .0)) (c .answer-of .ensures) (k .pack .ensures .0)
 
 pub pack-spec : {M : Type 1} → statement M
 pack-spec =

@@ -20,7 +20,7 @@ returns c =
     let t = c .before in
     let u = t .before .before in
     let a = u .before .before .before .before .args in
-    torn-answer (a .storage .now) (u .audit .ensures) (not-true _ (t .if1 .taken)) (Pullup (a .slip) (a .n)) (c .refused .ensures)
+    torn-answer (a .storage .now) (u .audit .ensures) (not-true _ (t .if1 .taken)) (Pullup (a .slip .0) (a .n)) (c .refused .ensures)
 
 pullup-requires : tie.Need-pullup-requires
 pullup-requires c κs =
@@ -44,7 +44,7 @@ returns-2 c =
     let e = k .before .before .before .before in
     let u = e .before .before in
     let a = u .before .before .before .before .args in
-    answered (a .storage .now) (u .audit .ensures) (not-false _ (e .if1 .left)) (k .pullup .result) (Pullup (a .slip) (a .n)) (c .answer-of .ensures) (k .pullup .ensures .0)
+    answered (a .storage .now) (u .audit .ensures) (not-false _ (e .if1 .left)) (k .pullup .result) (Pullup (a .slip .0) (a .n)) (c .answer-of .ensures) (k .pullup .ensures .0)
 
 pub pullup-spec : {M : Type 1} → statement M
 pullup-spec =

@@ -8,10 +8,10 @@ use lib.Dec.{leb}
 use borrow.Author.Needs.{needs}
 use borrow.Author.Tests.{not-true, not-false, leb-true, leb-false}
 use Rattle.rules.specs.Basics.{Is}
-use Rattle.rules.specs.Tables.{Tables, headOf, slipTotal, pieceTotal}
+use Rattle.rules.specs.Tables.{Tables, headOf, slipTotal}
 use Rattle.rules.specs.Bytes.{decode}
 use Rattle.rules.specs.Chain.{Stretch, spans, lengthOf, cutOut}
-use Rattle.rules.specs.Room.{isVacant, isFree, vacantSlips, freePieces, newSlip}
+use Rattle.rules.specs.Room.{isVacant, vacantSlips, freePieces, newSlip}
 use Rattle.rules.specs.Build.{plain}
 use Rattle.rules.specs.Rule.{unnamed}
 use Rattle.tables.proofs.Laws.{whole, total-slips, total-pieces}
@@ -19,7 +19,7 @@ use Rattle.chain.specs.Enter.{Enters}
 use Rattle.chain.specs.Length.{stretchesFrom}
 use Rattle.chain.proofs.Spots.{Found}
 use Rattle.chain.proofs.Parts.{range-short, range-there}
-use Rattle.room.proofs.Free.{first-lies, new-slip, no-slip, room-lowest, room-enough}
+use Rattle.room.proofs.Free.{first-lies, new-slip, no-slip}
 use Rattle.answer.proofs.New.{under-made, new-link}
 use Rattle.cut.proofs.Laws.{place-found, range-pieces, cut-slip, cut-range, cut-slips, cut-pieces, cut-done}
 use Rattle.cut.proofs.cut.Statement.{statement}
@@ -107,26 +107,26 @@ same-length-3 c = search needs
 
 returns-3 : tie.Need-returns-3
 returns-3 c =
-    let v = c .before .before in
+    let v = c .before .before .before in
     let e2 = v .before .before in
     let e = from (found-at e2) in
     let z = start e in
-    let all : v .next-vacant .result ≡ slipTotal (tables e) = omega (arith, c .if3 .taken, total-slips (whole (z .pre .shaped))) in
+    let all : v .next-vacant .result .0 ≡ slipTotal (tables e) = omega (arith, c .if3 .taken, total-slips (whole (z .pre .shaped))) in
     (λ st. cut-slips (z .args .pool .now) st (z .args .s .0) (z .args .off) (z .args .n) (named-here e) (in-range e2) (no-slip (tables e) (v .next-vacant .ensures) all), tt)
 
 -- the new slip: the lowest vacant one
 abbrev ranged : tie.Else3 → tie.Else2
-ranged c = c .before .before .before .before
+ranged c = c .before .before .before .before .before
 
 abbrev entered : tie.Else3 → tie.Else1
 entered c = from (found-at (ranged c))
 
-new : (c : tie.Else3) → let t = c .before .before .next-vacant .result in let T = tables (entered c) in (t < slipTotal T) × (newSlip T ≡ t) × (1 ≤ length (vacantSlips T))
+new : (c : tie.Else3) → let t = c .before .before .before .next-vacant .result .0 in let T = tables (entered c) in (t < slipTotal T) × (newSlip T ≡ t) × (1 ≤ length (vacantSlips T))
 new c =
-    let v = c .before .before in
+    let v = c .before .before .before in
     let e = entered c in
     let T = tables e in
-    let below : v .next-vacant .result < slipTotal T =
+    let below : v .next-vacant .result .0 < slipTotal T =
     omega (arith, c .if3 .left, total-slips (whole (start e .pre .shaped)), v .next-vacant .ensures, first-lies (isVacant T) 0 (slipTotal T) .0) in
     let it = new-slip T (v .next-vacant .ensures) below in
     (below, it .0, it .1)
@@ -151,10 +151,7 @@ piece-room-requires c κs = search needs
 
 -- whether there are as many free pieces
 enough : (q : tie.After-piece-room) → let k = q .before .before in q .piece-room .result .enough ≡ leb (k .overlapped .result) (length (freePieces (tables (entered (k .before)))))
-enough q =
-    let k = q .before .before in
-    let T = tables (entered (k .before)) in
-    room-enough (isFree T) (k .overlapped .result) (pieceTotal T) (q .piece-room .ensures)
+enough q = q .piece-room .ensures .1
 
 same-length-4 : tie.Need-same-length-4
 same-length-4 c = search needs
@@ -181,18 +178,17 @@ copied f = cutOut (stretchesFrom (tables (from f)) (f .find .result .link)) (f .
 
 copy-pieces-requires : tie.Need-copy-pieces-requires
 copy-pieces-requires c κs =
-    let e4 = c .before in
+    let e4 = c .before .before in
     let k = counted e4 in
     let f = found-at (ranged (k .before)) in
     let z = start (from f) in
-    let T = tables (from f) in
-    let low = room-lowest (isFree T) (k .overlapped .result) (pieceTotal T) (e4 .before .before .piece-room .ensures) in
+    let low = e4 .before .before .piece-room .ensures .0 in
     ((z .pre, place f .good), ((overlaps k ∙ ap length (place f .cut (z .args .n)), room e4), (place f .inside, low)))
 
 under-new-requires : tie.Need-under-new-requires
 under-new-requires c κs =
     let w = c .before .before .before in
-    let e3 = counted (w .before .before) .before in
+    let e3 = counted (w .before .before .before) .before in
     let z = start (entered e3) in
     let T = tables (entered e3) in
     let s = whole (z .pre .shaped) in (
@@ -208,14 +204,14 @@ returns-5 : tie.Need-returns-5
 returns-5 c =
     let u = c .before .before in
     let w = u .before .before .before .before in
-    let e4 = w .before .before in
+    let e4 = w .before .before .before in
     let k = counted e4 in
     let e3 = k .before in
     let f = found-at (ranged e3) in
     let e = from f in
     let a = start e .args in
     let T = tables e in
-    let t = e3 .before .before .next-vacant .result in
+    let t = e3 .before .before .before .next-vacant .result .0 in
     let is = under-made (plain T (copied f)) (freePieces T) t (w .copy-pieces .ensures .0) (w .copy-pieces .ensures .1) (u .under-new .ensures .0) in (
       λ st. cut-done (a .pool .now) st (a .s .0) (a .off) (a .n) (named-here e) (in-range (ranged e3)) (new e3 .2) (omega (arith, overlaps k, room e4)) (new e3 .1) (u .under-new .ensures .1)
           (λ i. omega (arith, c .slice-known3 .given i)) is (place f .cut (a .n)),

@@ -23,7 +23,7 @@ use Rattle.tables.specs.Shape.{Holds}
 use Rattle.chain.specs.Enter.{Enters}
 use Rattle.chain.specs.Find.{pastEnd}
 use Rattle.chain.proofs.Spots.{Found, found-at, past-range}
-use Rattle.room.proofs.Free.{lowest-all, room-lowest, room-enough}
+use Rattle.room.proofs.Free.{lowest-all}
 use Rattle.release.proofs.Under.{under-asks, under-small, under-done}
 use Rattle.rest.specs.Rest.{restFrom}
 use Rattle.rest.proofs.Dropped.{dropped-at}
@@ -168,7 +168,7 @@ returns-4 c =
     let e = from f in
     let z = start e in
     let r = w .before .before in
-    let few = leb-false _ (length (free e)) (sym (room-enough (isFree (tables e)) (w .wanted .result) (pieceTotal (tables e)) (k .piece-room .ensures)) ∙ not-true _ (c .if4 .taken)) in
+    let few = leb-false _ (length (free e)) (sym (k .piece-room .ensures .1) ∙ not-true _ (c .if4 .taken)) in
     (λ st. drop-pieces (z .args .pool .now) st (slip e) (z .args .n) (named-here e) (in-range r) (omega (arith, few, wants w)), tt)
 
 -- ---- there is room
@@ -181,21 +181,20 @@ module _ (c : tie.Else4) where
   origin = from (found-there asked)
 
   -- the free pieces from the lowest wanted on are all
-  all-free : let f = c .before .before .piece-room .result .lowest in places (isFree (tables origin)) f (pieceTotal (tables origin) - f) ≡ free origin
+  all-free : let f = c .before .before .piece-room .result .lowest .0 in places (isFree (tables origin)) f (pieceTotal (tables origin) - f) ≡ free origin
   all-free =
       let T = tables origin in
-      lowest-all (isFree T) (asked .wanted .result) (pieceTotal T) (room-lowest (isFree T) (asked .wanted .result) (pieceTotal T) (c .before .before .piece-room .ensures))
+      lowest-all (isFree T) (asked .wanted .result) (pieceTotal T) (c .before .before .piece-room .ensures .0)
 
   -- for the pieces wanted
   enough : length (rest origin .more) ≤ length (free origin)
   enough =
-      let T = tables origin in
-      let most = leb-true _ (length (free origin)) (sym (room-enough (isFree T) (asked .wanted .result) (pieceTotal T) (c .before .before .piece-room .ensures)) ∙ not-false _ (c .if4 .left)) in
+      let most = leb-true _ (length (free origin)) (sym (c .before .before .piece-room .ensures .1) ∙ not-false _ (c .if4 .left)) in
       omega (arith, most, wants asked)
 
 settle-requires : tie.Need-settle-requires
 settle-requires c κs =
-    let k = c .before in
+    let k = c .before .before in
     let f = found-there (asked k) in
     let e = from f in
     let some = rw (plan f) at (enough k) in
@@ -205,7 +204,7 @@ settle-requires c κs =
 
 module _ (g : tie.After-settle) where
   abbrev room : tie.Else4
-  room = g .before .before
+  room = g .before .before .before
 
   abbrev first : tie.Else1
   first = origin room

@@ -58,20 +58,20 @@ same-length-2 c = search needs
 
 returns-2 : tie.Need-returns-2
 returns-2 c =
-    let v = c .before .before in
+    let v = c .before .before .before in
     let e = v .before .before in
     let z = start e in
-    let all : v .next-vacant .result ≡ slipTotal (tables e) = omega (arith, c .if2 .taken, total-slips (whole (z .pre .shaped))) in
+    let all : v .next-vacant .result .0 ≡ slipTotal (tables e) = omega (arith, c .if2 .taken, total-slips (whole (z .pre .shaped))) in
     (λ st. dup-slips (z .args .pool .now) st (z .args .s .0) (named-here e) (no-slip (tables e) (v .next-vacant .ensures) all), tt)
 
 -- the new slip: the lowest vacant one
-found : (c : tie.Else2) → let v = c .before .before in let T = tables (v .before .before) in
-    (v .next-vacant .result < slipTotal T) × (newSlip T ≡ v .next-vacant .result) × (1 ≤ length (vacantSlips T))
+found : (c : tie.Else2) → let v = c .before .before .before in let T = tables (v .before .before) in
+    (v .next-vacant .result .0 < slipTotal T) × (newSlip T ≡ v .next-vacant .result .0) × (1 ≤ length (vacantSlips T))
 found c =
-    let v = c .before .before in
+    let v = c .before .before .before in
     let e = v .before .before in
     let T = tables e in
-    let below : v .next-vacant .result < slipTotal T =
+    let below : v .next-vacant .result .0 < slipTotal T =
     omega (arith, c .if2 .left, total-slips (whole (start e .pre .shaped)), v .next-vacant .ensures, first-lies (isVacant T) 0 (slipTotal T) .0) in
     let new = new-slip T (v .next-vacant .ensures) below in
     (below, new .0, new .1)
@@ -82,7 +82,7 @@ module _ (c : tie.Else3) where
   at = c .before
 
   abbrev from : tie.Else1
-  from = at .before .before .before .before
+  from = at .before .before .before .before .before
 
   some : headOf (tables from) (start from .args .s .0) ≡ 0 → ⊥
   some z = c .if3 .left (entry from .link-is ∙ z)
@@ -97,7 +97,7 @@ sub-head c = search needs
 under-new-requires : tie.Need-under-new-requires
 under-new-requires c κs =
     let e2 = c .before .before in
-    let z = start (e2 .before .before .before .before) in
+    let z = start (e2 .before .before .before .before .before) in
     (z .pre .shaped, omega (arith, found e2 .0, total-slips (whole (z .pre .shaped))), omega arith)
 
 same-length-3 : tie.Need-same-length-3
@@ -108,7 +108,7 @@ returns-3 c =
     let u = c .before .before in
     let t = u .before .before in
     let e2 = t .before in
-    let e = e2 .before .before .before .before in
+    let e = e2 .before .before .before .before .before in
     let z = start e in
     let T = tables e in
     let s = z .args .s .0 in
@@ -127,19 +127,19 @@ same-length-4 c = search needs
 
 returns-4 : tie.Need-returns-4
 returns-4 c =
-    let f = c .before .before in
+    let f = c .before .before .before in
     let e3 = f .before .before in
     let e = from e3 in
     let z = start e in
     let T = tables e in
-    let all : f .next-free-piece .result ≡ pieceTotal T = omega (arith, c .if4 .taken, total-pieces (whole (z .pre .shaped))) in
+    let all : f .next-free-piece .result .0 ≡ pieceTotal T = omega (arith, c .if4 .taken, total-pieces (whole (z .pre .shaped))) in
     let none = ap length (no-piece T (f .next-free-piece .ensures) all) in
     (λ st. dup-pieces (z .args .pool .now) st (z .args .s .0) (named-here e) (found (at e3) .2) (omega (arith, none, plan-one T (headOf T (z .args .s .0)) (some e3))), tt)
 
 -- the new piece: the lowest free one
-taken-here : (c : tie.Else4) → let f = c .before .before in f .next-free-piece .result < pieceTotal (tables (from (f .before .before)))
+taken-here : (c : tie.Else4) → let f = c .before .before .before in f .next-free-piece .result .0 < pieceTotal (tables (from (f .before .before)))
 taken-here c =
-    let f = c .before .before in
+    let f = c .before .before .before in
     let e = from (f .before .before) in
     let T = tables e in
     omega (arith, c .if4 .left, total-pieces (whole (start e .pre .shaped)), f .next-free-piece .ensures, first-lies (isFree T) 0 (pieceTotal T) .0)
@@ -150,7 +150,7 @@ sub-under-new c = search needs
 clone-rest-requires : tie.Need-clone-rest-requires
 clone-rest-requires c κs =
     let e4 = c .before in
-    let e3 = e4 .before .before .before .before in
+    let e3 = e4 .before .before .before .before .before in
     let z = start (from e3) in
     let d = head (from e3) - 1 in (
       z .pre .shaped,
@@ -161,15 +161,15 @@ clone-rest-requires c κs =
 
 add-under-new : tie.Need-add-under-new
 add-under-new c =
-    let e4 = c .before .before .before .before .before in
-    let z = start (from (e4 .before .before .before .before)) in
+    let e4 = c .before .before .before .before .before .before in
+    let z = start (from (e4 .before .before .before .before .before)) in
     omega (arith, taken-here e4, total-pieces (whole (z .pre .shaped)), z .pre .few-pieces)
 
 under-new-requires-2 : tie.Need-under-new-requires-2
 under-new-requires-2 c κs =
-    let w = c .before .before .before in
+    let w = c .before .before .before .before in
     let e4 = w .before .before in
-    let e3 = e4 .before .before .before .before in
+    let e3 = e4 .before .before .before .before .before in
     let z = start (from e3) in (
       w .clone-rest .ensures .shaped,
       omega (arith, found (at e3) .0, total-slips (whole (z .pre .shaped))),
@@ -182,16 +182,16 @@ same-length-5 c = search needs
 returns-5 : tie.Need-returns-5
 returns-5 c =
     let u = c .before .before in
-    let w = u .before .before .before .before in
+    let w = u .before .before .before .before .before in
     let e4 = w .before .before in
-    let f = e4 .before .before in
+    let f = e4 .before .before .before in
     let e3 = f .before .before in
     let e = from e3 in
     let z = start e in
     let T = tables e in
     let s = z .args .s .0 in
-    let t = at e3 .before .before .next-vacant .result in
-    let g = f .next-free-piece .result in
+    let t = at e3 .before .before .before .next-vacant .result .0 in
+    let g = f .next-free-piece .result .0 in
     let fs = piece-first T (f .next-free-piece .ensures) (taken-here e4) in
     let now = onward (w .clone-rest .ensures) (λ (U : Tables). setSlip U t (holding (g + 1))) (u .under-new2 .ensures .0) in (
       λ st. dup-done (z .args .pool .now) st s (named-here e) (found (at e3) .2) (omega (arith, ap length fs, plan-one T (headOf T s) (some e3))) (found (at e3) .1) (u .under-new2 .ensures .1)

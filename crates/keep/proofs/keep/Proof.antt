@@ -19,7 +19,6 @@ use Rattle.chain.specs.Enter.{Enters}
 use Rattle.own.specs.Own.{ownPart}
 use Rattle.chain.proofs.Spots.{past-range, at-end, before-end}
 use Rattle.room.specs.Free.{lowestFor}
-use Rattle.room.proofs.Free.{room-lowest, room-enough}
 use Rattle.keep.proofs.Laws.{Seen, last-below, next-ok, no-others, last-long, short-hangable, short-after, others-count, others-cut, next-long, new-small, new-hangable, new-after, keep-slip, keep-range, keep-whole, keep-pieces, keep-done}
 use Rattle.keep.proofs.keep.Statement.{statement}
 use Rattle.keep.proofs.keep.Tie as tie
@@ -225,11 +224,11 @@ module _ (c : tie.After-piece-room) where
   abbrev there : Tables
   there = tables (at (here (passed (other counted))))
 
-  low : c .piece-room .result .lowest ≡ lowestFor (isFree there) (counted .part-of .result .pieces) (pieceTotal there)
-  low = room-lowest (isFree there) (counted .part-of .result .pieces) (pieceTotal there) (c .piece-room .ensures)
+  low : c .piece-room .result .lowest .0 ≡ lowestFor (isFree there) (counted .part-of .result .pieces) (pieceTotal there)
+  low = c .piece-room .ensures .0
 
   enough : c .piece-room .result .enough ≡ leb (counted .part-of .result .pieces) (length (freePieces there))
-  enough = room-enough (isFree there) (counted .part-of .result .pieces) (pieceTotal there) (c .piece-room .ensures)
+  enough = c .piece-room .ensures .1
 
 returns-5 : tie.Need-returns-5
 returns-5 c =
@@ -246,15 +245,15 @@ room c = leb-true (counted (c .before .before) .part-of .result .pieces) (length
 
 copy-pieces-requires : tie.Need-copy-pieces-requires
 copy-pieces-requires c κs =
-    let q = c .before .before .before in
+    let q = c .before .before .before .before in
     let g = counted q in
     let w = seen (passed (other g)) in
-    ((w .opened, next-ok w), ((others-cut w (g .part-of .ensures), room (c .before)), (next-long w, low q)))
+    ((w .opened, next-ok w), ((others-cut w (g .part-of .ensures), room (c .before .before)), (next-long w, low q)))
 
 hang-requires-2 : tie.Need-hang-requires-2
 hang-requires-2 c κs =
     let d = c .before .before .before in
-    let f = passed (other (counted (d .before .before .before .before))) in
+    let f = passed (other (counted (d .before .before .before .before .before))) in
     let w = seen f in
     let k = d .copy-pieces .ensures in (
       k .0 .shaped,
@@ -267,7 +266,7 @@ hang-requires-2 c κs =
 done-requires-3 : tie.Need-done-requires-3
 done-requires-3 c κs =
     let g = c .before .before .before in
-    let q = g .before .before .before .before .before .before .before .before in
+    let q = g .before .before .before .before .before .before .before .before .before in
     (g .hang2 .ensures .shaped, below (at (here (passed (other (counted q))))))
 
 same-length-6 : tie.Need-same-length-6
@@ -278,7 +277,7 @@ returns-6 c =
     let b = c .before .before in
     let g = b .before .before in
     let d = g .before .before .before .before in
-    let e5 = d .before .before in
+    let e5 = d .before .before .before in
     let e4 = other (counted (e5 .before .before)) in
     let f = passed e4 in
     let w = seen f in

@@ -11,14 +11,14 @@ use Rattle.rules.specs.Basics.{Is}
 use Rattle.rules.specs.Tables.{Tables, pieceTotal, bufferTotal}
 use Rattle.rules.specs.Bytes.{decode}
 use Rattle.rules.specs.Chain.{walk, chain, lengthOf, total}
-use Rattle.rules.specs.Room.{isFree, isUnheld, freePieces, freeBuffers}
+use Rattle.rules.specs.Room.{isUnheld, freePieces, freeBuffers}
 use Rattle.rules.specs.Build.{buffersFor}
 use Rattle.rules.specs.Rule.{unnamed}
 use Rattle.tables.proofs.Laws.{whole, total-buffers}
 use Rattle.chain.specs.Enter.{Enters}
 use Rattle.chain.specs.Length.{stretchesFrom}
 use Rattle.room.specs.Free.{lowestFor}
-use Rattle.room.proofs.Free.{count-most, room-lowest, room-enough}
+use Rattle.room.proofs.Free.{count-most}
 use Rattle.pack.proofs.Laws.{Found, new-small, new-held, new-after, new-bytes, pack-slip, pack-whole, pack-pieces, pack-buffers, pack-done}
 use Rattle.pack.proofs.pack.Statement.{statement}
 use Rattle.pack.proofs.pack.Tie as tie
@@ -130,9 +130,7 @@ wanted p = p .before .before
 
 -- whether there are as many
 enough-pieces : (p : tie.After-piece-room) → p .piece-room .result .enough ≡ leb (wanted p .buffers-for .result) (length (freePieces (tables (here (wanted p)))))
-enough-pieces p =
-    let T = tables (here (wanted p)) in
-    room-enough (isFree T) (wanted p .buffers-for .result) (pieceTotal T) (p .piece-room .ensures)
+enough-pieces p = p .piece-room .ensures .1
 
 same-length-3 : tie.Need-same-length-3
 same-length-3 c = search needs
@@ -161,10 +159,7 @@ buffer-room-requires c κs = search needs
 
 -- whether there are as many free buffers
 enough-buffers : (q : tie.After-buffer-room) → let b = pieced (q .before .before) in q .buffer-room .result .enough ≡ leb (b .buffers-for .result) (length (freeBuffers (tables (here b))))
-enough-buffers q =
-    let b = pieced (q .before .before) in
-    let T = tables (here b) in
-    room-enough (isUnheld T) (b .buffers-for .result) (bufferTotal T) (q .buffer-room .ensures)
+enough-buffers q = q .buffer-room .ensures .1
 
 same-length-4 : tie.Need-same-length-4
 same-length-4 c = search needs
@@ -198,8 +193,8 @@ module _ (c : tie.Else4) where
       leb-true (sized .buffers-for .result) (length (freeBuffers (tables at))) (sym (enough-buffers lowest) ∙ not-false _ (c .if4 .left))
 
   -- from the lowest on
-  lowest-buffer : lowest .buffer-room .result .lowest ≡ lowestFor (isUnheld (tables at)) (sized .buffers-for .result) (bufferTotal (tables at))
-  lowest-buffer = room-lowest (isUnheld (tables at)) (sized .buffers-for .result) (bufferTotal (tables at)) (lowest .buffer-room .ensures)
+  lowest-buffer : lowest .buffer-room .result .lowest .0 ≡ lowestFor (isUnheld (tables at)) (sized .buffers-for .result) (bufferTotal (tables at))
+  lowest-buffer = lowest .buffer-room .ensures .0
 
   -- so there are few
   small : sized .buffers-for .result ≤ mostBuffers
@@ -214,7 +209,7 @@ module _ (c : tie.Else4) where
 
 refill-requires : tie.Need-refill-requires
 refill-requires c κs =
-    let e4 = c .before .before in
+    let e4 = c .before .before .before .before in
     let b = sized e4 in
     let z = start (at e4) in
     let T = tables (at e4) in
@@ -223,17 +218,16 @@ refill-requires c κs =
 
 -- where the pieces were laid
 abbrev room : tie.After-lay → tie.Else4
-room y = y .before .before .before .before .before .before .before
+room y = y .before .before .before .before .before .before .before .before .before
 
 cast-lay : tie.Need-cast-lay
-cast-lay c = let e4 = c .before .before .before .before .before .before in omega (arith, small e4)
+cast-lay c = let e4 = c .before .before .before .before .before .before .before .before in omega (arith, small e4)
 
 lay-requires : tie.Need-lay-requires
 lay-requires c κs =
-    let e4 = c .before .before .before .before .before .before in
+    let e4 = c .before .before .before .before .before .before .before .before in
     let e3 = enough e4 in
-    let T = tables (at e4) in
-    let low = room-lowest (isFree T) (sized e4 .buffers-for .result) (pieceTotal T) (e3 .before .before .piece-room .ensures) in
+    let low = e3 .before .before .piece-room .ensures .0 in
     (start (at e4) .pre .0, ((pieces-room e3, buffers-room e4), (low, lowest-buffer e4)))
 
 add-turn : tie.Need-add-turn

@@ -19,21 +19,21 @@ module _ (z : tie.Start) where
   some : 0 < length (freePieces tables)
   some = omega (arith, z .pre .1 .1 .0)
 
-  below : z .args .f < z .args .shape .pieces
+  below : z .args .f .0 < z .args .shape .pieces
   below = omega (arith, first-below tables (z .pre .1 .1 .1) some, total-pieces (whole (z .pre .0 .0 .shaped)))
 
-add-settle : tie.Need-add-settle
-add-settle c = let z = c .before .before in omega (arith, below z, z .pre .0 .0 .few-pieces)
+add-t10 : tie.Need-add-t10
+add-t10 c = let z = c .before .before .before in omega (arith, below z, z .pre .0 .0 .few-pieces)
 
 settle-requires : tie.Need-settle-requires
 settle-requires c κs =
-    let z = c .before .before in
+    let z = c .before .before .before in
     ((z .pre .0 .0, z .pre .0 .1), (z .pre .1 .0, first-room (tables z) (z .pre .1 .1 .1) (some z) _ (z .pre .1 .1 .0)))
 
 take-piece-requires : tie.Need-take-piece-requires
 take-piece-requires c κs =
     let g = c .before .before .before in
-    let z = g .before .before .before in
+    let z = g .before .before .before .before in
     let o = z .pre .0 .0 in
     let at = z .args .at in (
       g .settle .ensures .0 .shaped,
@@ -45,7 +45,7 @@ take-piece-requires c κs =
 
 add-result : tie.Need-add-result
 add-result c =
-    let z = c .before .before .before .before .before .before .before .before .before in
+    let z = c .before .before .before .before .before .before .before .before .before .before .before in
     omega (arith, below z, z .pre .0 .0 .few-pieces)
 
 same-length : tie.Need-same-length
@@ -53,9 +53,9 @@ same-length c = search needs
 
 returns : tie.Need-returns
 returns c =
-    let t = c .before .before in
+    let t = c .before .before .before in
     let g = t .before .before .before .before in
-    let z = g .before .before .before in
+    let z = g .before .before .before .before in
     let a = z .args in
     first-made (tables z) (z .pre .1 .1 .1) (some z) (a .at) (a .b .0) (a .n) (g .settle .ensures) (t .take-piece .ensures)
 
@@ -63,7 +63,7 @@ pub make-first-spec : {M : Type 1} → statement M
 make-first-spec =
     tie.close
     (tie.spec
-    add-settle
+    add-t10
     settle-requires
     take-piece-requires
     add-result

@@ -21,7 +21,7 @@ use Rattle.chain.specs.Enter.{Enters}
 use Rattle.chain.specs.Length.{stretchesFrom}
 use Rattle.chain.specs.Find.{pastEnd}
 use Rattle.chain.proofs.Spots.{past-range}
-use Rattle.room.proofs.Free.{first-lies, no-buffer, buffer-first, lowest-some, room-lowest, room-enough}
+use Rattle.room.proofs.Free.{first-lies, no-buffer, buffer-first, lowest-some}
 use Rattle.rest.proofs.Dropped.{dropped-at}
 use Rattle.pullup.specs.Pull.{Pullable}
 use Rattle.pullup.proofs.Laws.{pullup-slip, pullup-long, pullup-range, pullup-nothing, pullup-pieces, pullup-buffers, pullup-done}
@@ -193,10 +193,7 @@ module _ (w : tie.After-wanted) where
 
 -- whether there is a piece more
 enough-pieces : (p : tie.After-piece-room) → let w = p .before .before in p .piece-room .result .enough ≡ leb (w .wanted .result + 1) (length (freePieces (tables (first w))))
-enough-pieces p =
-    let w = p .before .before in
-    let T = tables (first w) in
-    room-enough (isFree T) (w .wanted .result + 1) (pieceTotal T) (p .piece-room .ensures)
+enough-pieces p = p .piece-room .ensures .1
 
 same-length-5 : tie.Need-same-length-5
 same-length-5 c = search needs
@@ -225,20 +222,20 @@ module _ (c : tie.Else5) where
       omega (arith, most, wants asked)
 
 next-free-buffer-requires : tie.Need-next-free-buffer-requires
-next-free-buffer-requires c κs = start (source (c .before)) .pre .0 .shaped
+next-free-buffer-requires c κs = start (source (c .before .before)) .pre .0 .shaped
 
 same-length-6 : tie.Need-same-length-6
 same-length-6 c = search needs
 
 returns-6 : tie.Need-returns-6
 returns-6 c =
-    let u = c .before .before in
-    let r = u .before .before in
+    let u = c .before .before .before in
+    let r = u .before .before .before in
     let w = asked r in
     let k = looked w in
     let e = source r in
     let a = start e .args in
-    let all : u .next-free-buffer .result ≡ bufferTotal (tables e) = omega (arith, c .if6 .taken, total-buffers (whole (start e .pre .0 .shaped))) in
+    let all : u .next-free-buffer .result .0 ≡ bufferTotal (tables e) = omega (arith, c .if6 .taken, total-buffers (whole (start e .pre .0 .shaped))) in
     let none = ap length (no-buffer (tables e) (u .next-free-buffer .ensures) all) in
     (pullup-buffers (a .pool .now) (a .storage .now) (slip e) (a .n) (named-here e) (fits-here (fitting (there k))) (in-range (ranged k)) (scattered (w .before)) (enough r) none, tt)
 
@@ -246,16 +243,16 @@ returns-6 c =
 
 module _ (c : tie.Else6) where
   abbrev lowest : tie.After-next-free-buffer
-  lowest = c .before .before
+  lowest = c .before .before .before
 
   abbrev roomy : tie.Else5
-  roomy = lowest .before .before
+  roomy = lowest .before .before .before
 
   abbrev base : tie.Else1
   base = source roomy
 
   -- the lowest free buffer is one of the pool's
-  buffer-below : lowest .next-free-buffer .result < bufferTotal (tables base)
+  buffer-below : lowest .next-free-buffer .result .0 < bufferTotal (tables base)
   buffer-below =
       let T = tables base in
       omega (arith, c .if6 .left, total-buffers (whole (start base .pre .0 .shaped)), lowest .next-free-buffer .ensures, first-lies (isUnheld T) 0 (bufferTotal T) .0)
@@ -265,7 +262,7 @@ module _ (c : tie.Else6) where
 
   -- so the bytes can go there
   pullable : let f = there (looked (asked roomy)) in
-      Pullable (tables base) (slip base) (start base .args .n) (base .before .enter .result - 1) (f .find .result) (roomy .before .before .piece-room .result .lowest) (lowest .next-free-buffer .result)
+      Pullable (tables base) (slip base) (start base .args .n) (base .before .enter .result - 1) (f .find .result) (roomy .before .before .piece-room .result .lowest .0) (lowest .next-free-buffer .result .0)
   pullable =
       let w = asked roomy in
       let f = there (looked w) in
@@ -276,7 +273,7 @@ module _ (c : tie.Else6) where
         fits = fits-here (fitting f);
         enough = not-less _ _ (in-range (ranged (looked w)));
         scattered = scattered (w .before);
-        lowest-piece = room-lowest (isFree (tables base)) (w .wanted .result + 1) (pieceTotal (tables base)) (roomy .before .before .piece-room .ensures) ∙ lowest-some (isFree (tables base)) (w .wanted .result + 1) (pieceTotal (tables base)) (λ z. omega arith);
+        lowest-piece = roomy .before .before .piece-room .ensures .0 ∙ lowest-some (isFree (tables base)) (w .wanted .result + 1) (pieceTotal (tables base)) (λ z. omega arith);
         lowest = lowest .next-free-buffer .ensures;
         inside = buffer-below;
         room = enough roomy;

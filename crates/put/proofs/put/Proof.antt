@@ -8,15 +8,15 @@ use lib.Dec.{leb}
 use borrow.Author.Needs.{needs}
 use borrow.Author.Tests.{not-true, not-false, leb-true, leb-false}
 use Rattle.kinds.specs.Limits.{mostBuffers}
-use Rattle.rules.specs.Tables.{Tables, slipTotal, pieceTotal, bufferTotal}
+use Rattle.rules.specs.Tables.{Tables, slipTotal, bufferTotal}
 use Rattle.rules.specs.Bytes.{decode}
 use Rattle.rules.specs.Chain.{Stretch}
-use Rattle.rules.specs.Room.{isVacant, isFree, isUnheld, vacantSlips, freePieces, freeBuffers, newSlip, newBuffers}
+use Rattle.rules.specs.Room.{isVacant, isUnheld, vacantSlips, freePieces, freeBuffers, newSlip, newBuffers}
 use Rattle.rules.specs.Build.{plain, underNew, laid}
 use Rattle.tables.specs.Shape.{Holds}
 use Rattle.tables.proofs.Laws.{whole, total-slips, total-pieces, total-buffers}
 use Rattle.room.specs.Free.{lowestFor}
-use Rattle.room.proofs.Free.{first-lies, count-most, new-slip, no-slip, room-lowest, room-enough}
+use Rattle.room.proofs.Free.{first-lies, count-most, new-slip, no-slip}
 use Rattle.answer.proofs.New.{under-made, new-link}
 use Rattle.put.proofs.Laws.{put-slips, put-pieces, put-buffers, put-done}
 use Rattle.put.proofs.put.Statement.{statement}
@@ -37,18 +37,18 @@ tables v = decode (start v .args .pool .now)
 
 returns : tie.Need-returns
 returns c =
-    let v = c .before .before in
+    let v = c .before .before .before in
     let z = start v in
-    let all : v .next-vacant .result ≡ slipTotal (tables v) = omega (arith, c .if1 .taken, total-slips (whole (z .pre .0 .shaped))) in
+    let all : v .next-vacant .result .0 ≡ slipTotal (tables v) = omega (arith, c .if1 .taken, total-slips (whole (z .pre .0 .shaped))) in
     (put-slips (z .args .pool .now) (z .args .storage .now) (z .args .input .now) (no-slip (tables v) (v .next-vacant .ensures) all), tt)
 
 -- the new slip: the lowest vacant one
-new : (c : tie.Else1) → let v = c .before .before in
-    (v .next-vacant .result < slipTotal (tables v)) × (newSlip (tables v) ≡ v .next-vacant .result) × (1 ≤ length (vacantSlips (tables v)))
+new : (c : tie.Else1) → let v = c .before .before .before in
+    (v .next-vacant .result .0 < slipTotal (tables v)) × (newSlip (tables v) ≡ v .next-vacant .result .0) × (1 ≤ length (vacantSlips (tables v)))
 new c =
-    let v = c .before .before in
+    let v = c .before .before .before in
     let T = tables v in
-    let below : v .next-vacant .result < slipTotal T =
+    let below : v .next-vacant .result .0 < slipTotal T =
     omega (arith, c .if1 .left, total-slips (whole (start v .pre .0 .shaped)), v .next-vacant .ensures, first-lies (isVacant T) 0 (slipTotal T) .0) in
     let it = new-slip T (v .next-vacant .ensures) below in
     (below, it .0, it .1)
@@ -64,7 +64,7 @@ abbrev found : tie.After-buffers-for → tie.Else1
 found b = b .before
 
 abbrev from : tie.After-buffers-for → tie.After-next-vacant
-from b = found b .before .before
+from b = found b .before .before .before
 
 -- where the free pieces were looked up, how many are wanted
 abbrev wanted : tie.After-piece-room → tie.After-buffers-for
@@ -72,9 +72,7 @@ wanted p = p .before .before
 
 -- whether there are as many
 enough-pieces : (p : tie.After-piece-room) → p .piece-room .result .enough ≡ leb (wanted p .buffers-for .result) (length (freePieces (tables (from (wanted p)))))
-enough-pieces p =
-    let T = tables (from (wanted p)) in
-    room-enough (isFree T) (wanted p .buffers-for .result) (pieceTotal T) (p .piece-room .ensures)
+enough-pieces p = p .piece-room .ensures .1
 
 same-length-2 : tie.Need-same-length-2
 same-length-2 c = search needs
@@ -102,10 +100,7 @@ buffer-room-requires c κs = search needs
 
 -- whether there are as many free buffers
 enough-buffers : (q : tie.After-buffer-room) → let b = pieced (q .before .before) in q .buffer-room .result .enough ≡ leb (b .buffers-for .result) (length (freeBuffers (tables (from b))))
-enough-buffers q =
-    let b = pieced (q .before .before) in
-    let T = tables (from b) in
-    room-enough (isUnheld T) (b .buffers-for .result) (bufferTotal T) (q .buffer-room .ensures)
+enough-buffers q = q .buffer-room .ensures .1
 
 same-length-3 : tie.Need-same-length-3
 same-length-3 c = search needs
@@ -135,10 +130,8 @@ buffers-room c =
     leb-true (counted c .buffers-for .result) (length (freeBuffers (tables (from (counted c))))) (sym (enough-buffers (lowest c)) ∙ not-false _ (c .if3 .left))
 
 -- from the lowest on
-lowest-buffer : (c : tie.Else3) → let T = tables (from (counted c)) in lowest c .buffer-room .result .lowest ≡ lowestFor (isUnheld T) (counted c .buffers-for .result) (bufferTotal T)
-lowest-buffer c =
-    let T = tables (from (counted c)) in
-    room-lowest (isUnheld T) (counted c .buffers-for .result) (bufferTotal T) (lowest c .buffer-room .ensures)
+lowest-buffer : (c : tie.Else3) → let T = tables (from (counted c)) in lowest c .buffer-room .result .lowest .0 ≡ lowestFor (isUnheld T) (counted c .buffers-for .result) (bufferTotal T)
+lowest-buffer c = lowest c .buffer-room .ensures .0
 
 -- so there are few
 small : (c : tie.Else3) → counted c .buffers-for .result ≤ mostBuffers
@@ -149,7 +142,7 @@ small c =
 
 fill-free-requires : tie.Need-fill-free-requires
 fill-free-requires c κs =
-    let e3 = c .before .before in
+    let e3 = c .before .before .before .before in
     let b = counted e3 in
     let z = start (from b) in
     let T = tables (from b) in
@@ -158,27 +151,26 @@ fill-free-requires c κs =
 
 cast-lay : tie.Need-cast-lay
 cast-lay c =
-    let e3 = c .before .before .before .before .before .before in
+    let e3 = c .before .before .before .before .before .before .before .before in
     omega (arith, small e3, counted e3 .buffers-for .ensures)
 
 cast-lay-2 : tie.Need-cast-lay-2
 cast-lay-2 c =
-    let e3 = c .before .before .before .before .before .before in
+    let e3 = c .before .before .before .before .before .before .before .before in
     omega (arith, small e3)
 
 lay-requires : tie.Need-lay-requires
 lay-requires c κs =
-    let e3 = c .before .before .before .before .before .before in
+    let e3 = c .before .before .before .before .before .before .before .before in
     let e2 = enough e3 in
     let b = counted e3 in
-    let T = tables (from b) in
-    let low = room-lowest (isFree T) (b .buffers-for .result) (pieceTotal T) (e2 .before .before .piece-room .ensures) in
+    let low = e2 .before .before .piece-room .ensures .0 in
     (start (from b) .pre .0, ((pieces-room e2, buffers-room e3), (low, lowest-buffer e3)))
 
 under-new-requires : tie.Need-under-new-requires
 under-new-requires c κs =
     let y = c .before .before .before in
-    let e3 = y .before .before .before .before .before .before .before in
+    let e3 = y .before .before .before .before .before .before .before .before .before in
     let b = counted e3 in
     let z = start (from b) in
     let T = tables (from b) in
@@ -199,13 +191,13 @@ returns-4 c =
     let u = c .before .before in
     let y = u .before .before .before .before in
     let w = y .before .before .before .before in
-    let e3 = w .before .before .before in
+    let e3 = w .before .before .before .before .before in
     let e2 = enough e3 in
     let b = counted e3 in
     let z = start (from b) in
     let a = z .args in
     let T = tables (from b) in
-    let t = from b .next-vacant .result in
+    let t = from b .next-vacant .result .0 in
     let n = length (a .input .now) in
     let k = b .buffers-for .ensures in
     let xs : ℕ → List Stretch = λ m. laid (T .stock) (newBuffers T m) n in

@@ -21,7 +21,7 @@ abbrev planOf : (c : tie.Start) → Plan
 planOf c = restFrom (decode (c .args .pool .now)) (c .args .own) (c .args .link) (c .args .into)
 
 abbrev freeOf : (c : tie.Start) → List ℕ
-freeOf c = freeFrom (decode (c .args .pool .now)) (c .args .from)
+freeOf c = freeFrom (decode (c .args .pool .now)) (c .args .from .0)
 
 -- the link leads to a piece in use, and the place is inside it
 leads : (c : tie.Start) → (c .args .link ≡ 0 → ⊥) → InUse (decode (c .args .pool .now)) (c .args .link - 1)
@@ -115,25 +115,25 @@ clone-rest-requires c κs =
     let i = k .before .before in
     let z = i .before .before in
     let o = z .pre .0 .0 in
-    let f = one-free (decode (z .args .pool .now)) (z .args .from) (planOf z) (copies k) (z .pre .1 .1) (g .next-free-piece .ensures) in
+    let f = one-free (decode (z .args .pool .now)) (z .args .from .0) (planOf z) (copies k) (z .pre .1 .1) (g .next-free-piece .ensures) in
     (o .shaped, omega (arith, f .below, total-pieces (whole (o .shaped))), place z (i .if1 .left), opened-sharable o _ (leads z (i .if1 .left) .onward))
 
 add-result : tie.Need-add-result
 add-result c =
-    let g = c .before .before .before .before in
+    let g = c .before .before .before .before .before in
     let z = g .before .before .before .before .before .before in
-    omega (arith, link-fits (z .pre .0 .0) (z .args .from) (g .next-free-piece .ensures))
+    omega (arith, link-fits (z .pre .0 .0) (z .args .from .0) (g .next-free-piece .ensures))
 
 same-length-3 : tie.Need-same-length-3
 same-length-3 c = search needs
 
 returns-4 : tie.Need-returns-4
 returns-4 c =
-    let t = c .before .before in
+    let t = c .before .before .before in
     let g = t .before .before in
     let k = g .before .before in
     let z = k .before .before .before .before in
-    let f = one-free (decode (z .args .pool .now)) (z .args .from) (planOf z) (copies k) (z .pre .1 .1) (g .next-free-piece .ensures) in
+    let f = one-free (decode (z .args .pool .now)) (z .args .from .0) (planOf z) (copies k) (z .pre .1 .1) (g .next-free-piece .ensures) in
     made-one (freeOf z) (planOf z) (copies k) (f .split) (t .clone-rest .ensures)
 
 pub settle-spec : {M : Type 1} → statement M

@@ -13,12 +13,12 @@ use Rattle.room.proofs.enough_buffers.Statement.{statement}
 use Rattle.room.proofs.enough_buffers.Tie as tie
 
 abbrev Inv-loop : tie.InvT-loop
-Inv-loop pool shape lowest k buffers-left₀ b₀ buffers-left b =
+Inv-loop pool shape k buffers-left₀ b₀ buffers-left b =
     let T = decode pool in
-    (0 < buffers-left) × (enoughFrom (isUnheld T) buffers-left b (bufferTotal T) ≡ enoughFrom (isUnheld T) k lowest (bufferTotal T))
+    (0 < buffers-left) × (enoughFrom (isUnheld T) buffers-left b (bufferTotal T) ≡ enoughFrom (isUnheld T) k b₀ (bufferTotal T))
 
 abbrev μ-loop : tie.MeasureT-loop
-μ-loop pool shape lowest k buffers-left₀ b₀ buffers-left b = shape .buffers - b
+μ-loop pool shape k buffers-left₀ b₀ buffers-left b = shape .buffers - b
 
 loop-holds : tie.Need-loop-holds Inv-loop μ-loop
 loop-holds c = (c .before .pre .1, refl)

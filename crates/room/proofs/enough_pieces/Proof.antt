@@ -13,12 +13,12 @@ use Rattle.room.proofs.enough_pieces.Statement.{statement}
 use Rattle.room.proofs.enough_pieces.Tie as tie
 
 abbrev Inv-loop : tie.InvT-loop
-Inv-loop pool shape lowest k pieces-left₀ d₀ pieces-left d =
+Inv-loop pool shape k pieces-left₀ d₀ pieces-left d =
     let T = decode pool in
-    (0 < pieces-left) × (enoughFrom (isFree T) pieces-left d (pieceTotal T) ≡ enoughFrom (isFree T) k lowest (pieceTotal T))
+    (0 < pieces-left) × (enoughFrom (isFree T) pieces-left d (pieceTotal T) ≡ enoughFrom (isFree T) k d₀ (pieceTotal T))
 
 abbrev μ-loop : tie.MeasureT-loop
-μ-loop pool shape lowest k pieces-left₀ d₀ pieces-left d = shape .pieces - d
+μ-loop pool shape k pieces-left₀ d₀ pieces-left d = shape .pieces - d
 
 loop-holds : tie.Need-loop-holds Inv-loop μ-loop
 loop-holds c = (c .before .pre .1, refl)

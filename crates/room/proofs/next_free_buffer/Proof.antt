@@ -12,10 +12,10 @@ use Rattle.room.proofs.next_free_buffer.Statement.{statement}
 use Rattle.room.proofs.next_free_buffer.Tie as tie
 
 abbrev Inv-loop : tie.InvT-loop
-Inv-loop pool shape from b₀ b = let T = decode pool in firstFrom (isUnheld T) b (bufferTotal T) ≡ firstFrom (isUnheld T) from (bufferTotal T)
+Inv-loop pool shape b₀ b = let T = decode pool in firstFrom (isUnheld T) b (bufferTotal T) ≡ firstFrom (isUnheld T) b₀ (bufferTotal T)
 
 abbrev μ-loop : tie.MeasureT-loop
-μ-loop pool shape from b₀ b = shape .buffers - b
+μ-loop pool shape b₀ b = shape .buffers - b
 
 loop-holds : tie.Need-loop-holds Inv-loop μ-loop
 loop-holds c = refl

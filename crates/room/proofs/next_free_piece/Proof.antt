@@ -12,10 +12,10 @@ use Rattle.room.proofs.next_free_piece.Statement.{statement}
 use Rattle.room.proofs.next_free_piece.Tie as tie
 
 abbrev Inv-loop : tie.InvT-loop
-Inv-loop pool shape from d₀ d = let T = decode pool in firstFrom (isFree T) d (pieceTotal T) ≡ firstFrom (isFree T) from (pieceTotal T)
+Inv-loop pool shape d₀ d = let T = decode pool in firstFrom (isFree T) d (pieceTotal T) ≡ firstFrom (isFree T) d₀ (pieceTotal T)
 
 abbrev μ-loop : tie.MeasureT-loop
-μ-loop pool shape from d₀ d = shape .pieces - d
+μ-loop pool shape d₀ d = shape .pieces - d
 
 loop-holds : tie.Need-loop-holds Inv-loop μ-loop
 loop-holds c = refl

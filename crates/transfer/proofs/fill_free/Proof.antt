@@ -15,12 +15,12 @@ use Rattle.transfer.proofs.fill_free.Statement.{statement}
 use Rattle.transfer.proofs.fill_free.Tie as tie
 
 abbrev Inv-loop : tie.InvT-loop
-Inv-loop pool shape storage₀ input buffer at₀ from₀ storage at from =
+Inv-loop pool shape storage₀ input at₀ from₀ storage at from =
     let T = decode pool in
-    (at ≤ length input) × Filling (T .stock) (isUnheld T) (bufferTotal T) (stored (T .stock) storage₀ (newBuffers T (buffersFor (length input))) input) from storage (drop at input)
+    (at ≤ length input) × Filling (T .stock) (isUnheld T) (bufferTotal T) (stored (T .stock) storage₀ (newBuffers T (buffersFor (length input))) input) (from .0) storage (drop at input)
 
 abbrev μ-loop : tie.MeasureT-loop
-μ-loop pool shape storage₀ input buffer at₀ from₀ storage at from = length input - at
+μ-loop pool shape storage₀ input at₀ from₀ storage at from = length input - at
 
 -- the storage has the pool's buffers
 fits : (c : tie.Start Inv-loop μ-loop) → Fit (decode (c .args .pool .now) .stock) (bufferTotal (decode (c .args .pool .now))) (c .args .storage .now)
@@ -37,7 +37,7 @@ some : (c : tie.In-loop Inv-loop μ-loop) → 0 < length (drop (c .before .loop 
 some c = simp length-drop (omega arith)
 
 -- the buffer found is one of the pool's
-below : (c : tie.After-next-free-buffer Inv-loop μ-loop) → c .next-free-buffer .result < bufferTotal (decode (c .before .before .before .before .before .before .args .pool .now))
+below : (c : tie.After-next-free-buffer Inv-loop μ-loop) → c .next-free-buffer .result .0 < bufferTotal (decode (c .before .before .before .before .before .before .args .pool .now))
 below c = filling-below (c .before .before .loop .inv .1) (some (c .before)) (c .next-free-buffer .ensures)
 
 next-free-buffer-requires : tie.Need-next-free-buffer-requires Inv-loop μ-loop
@@ -60,17 +60,17 @@ fill-buffer-requires c κs =
     let t = c .before .before .before in
     let l = t .before .before .loop in
     let T = decode (t .before .before .before .before .before .before .args .pool .now) in
-    (place-inside (place-one (T .stock) (t .next-free-buffer .result)) (bufferTotal T) (l .storage) (l .inv .1 .fits) (below t), simp (length-take, length-drop) (omega arith))
+    (place-inside (place-one (T .stock) (t .next-free-buffer .result .0)) (bufferTotal T) (l .storage) (l .inv .1 .fits) (below t), simp (length-take, length-drop) (omega arith))
 
-add-from : tie.Need-add-from Inv-loop μ-loop
-add-from c = let t = c .before .before .before .before .before .before in omega (arith, below t, total-buffers (whole (t .before .before .before .before .before .before .pre .0 .0)))
+add-t18 : tie.Need-add-t18 Inv-loop μ-loop
+add-t18 c = let t = c .before .before .before .before .before .before .before in omega (arith, below t, total-buffers (whole (t .before .before .before .before .before .before .pre .0 .0)))
 
 loop-less : tie.Need-loop-less Inv-loop μ-loop
 loop-less c = omega arith
 
 loop-again : tie.Need-loop-again Inv-loop μ-loop
 loop-again c =
-    let k = c .before .before in
+    let k = c .before .before .before in
     let e = k .before .before .before in
     let t = e .before in
     let l = t .before .before .loop in
@@ -97,7 +97,7 @@ fill-free-spec =
     part-fill-buffer-start
     part-fill-buffer-end
     fill-buffer-requires
-    add-from
+    add-t18
     loop-less
     loop-again
     same-length

@@ -17,12 +17,12 @@ use Rattle.transfer.proofs.refill.Statement.{statement}
 use Rattle.transfer.proofs.refill.Tie as tie
 
 abbrev Inv-loop : tie.InvT-loop
-Inv-loop pool shape storage₀ link n buffer c₀ left₀ from₀ storage c left from =
+Inv-loop pool shape storage₀ link n c₀ left₀ from₀ storage c left from =
     let T = decode pool in
-    Refilling T (stored (T .stock) storage₀ (newBuffers T (buffersFor n)) (take n (contents (T .stock) storage₀ (stretchesFrom T link)))) from storage c left
+    Refilling T (stored (T .stock) storage₀ (newBuffers T (buffersFor n)) (take n (contents (T .stock) storage₀ (stretchesFrom T link)))) (from .0) storage c left
 
 abbrev μ-loop : tie.MeasureT-loop
-μ-loop pool shape storage₀ link n buffer c₀ left₀ from₀ storage c left from = left
+μ-loop pool shape storage₀ link n c₀ left₀ from₀ storage c left from = left
 
 -- the storage has the pool's buffers
 fits : (c : tie.Start Inv-loop μ-loop) → Fit (decode (c .args .pool .now) .stock) (bufferTotal (decode (c .args .pool .now))) (c .args .storage .now)
@@ -35,7 +35,7 @@ loop-holds c =
     refilling-first (decode (z .args .pool .now)) (z .args .storage .now) (z .args .link) (z .args .n) (p .1 .1 .1) (p .0 .0 .sound) (fits z) (p .0 .1) (p .1 .0 .1) (p .1 .1 .0)
 
 -- the buffer found is one of the pool's
-below : (c : tie.After-next-free-buffer Inv-loop μ-loop) → c .next-free-buffer .result < c .before .before .before .before .before .args .shape .buffers
+below : (c : tie.After-next-free-buffer Inv-loop μ-loop) → c .next-free-buffer .result .0 < c .before .before .before .before .before .args .shape .buffers
 below c =
     let o = c .before .before .before .before .before .pre .0 .0 in
     omega (arith, refilling-below (o .sound) (c .before .before .loop .inv) (c .before .loop-test .taken) (c .next-free-buffer .ensures), total-buffers (whole (o .shaped)))
@@ -61,8 +61,8 @@ refill-buffer-requires c κs =
 sub-left : tie.Need-sub-left Inv-loop μ-loop
 sub-left c = omega arith
 
-add-from : tie.Need-add-from Inv-loop μ-loop
-add-from c =
+add-t16 : tie.Need-add-t16 Inv-loop μ-loop
+add-t16 c =
     let t = c .before .before .before .before .before .before in
     omega (arith, below t)
 
@@ -95,7 +95,7 @@ refill-spec =
     lesser-requires
     refill-buffer-requires
     sub-left
-    add-from
+    add-t16
     loop-less
     loop-again
     same-length
