@@ -16,7 +16,7 @@ ghost use Rattle.rules.specs.Sound.{linkOk};
 ghost use Rattle.rules.specs.Room.{isFree, isUnheld, freePieces, freeBuffers, newBuffers};
 ghost use Rattle.rules.specs.Release.{shared};
 ghost use Rattle.rules.specs.Build.{taken, fresh, built, builtLink, laid};
-ghost use Rattle.tables.specs.Shape.{Shaped, Holds};
+ghost use Rattle.tables.specs.Shape.{Shaped, Becomes};
 ghost use Rattle.chain.specs.Opened.{Opened};
 ghost use Rattle.chain.specs.Length.{stretchesFrom};
 ghost use Rattle.room.specs.Free.{lowestFor};
@@ -57,8 +57,8 @@ pub fn take_piece(
     next: u16,
 )
     requires { ⌜ Shaped (now pool) shape × (f .0 < shape .pieces) × (buffer .0 < shape .buffers) × (bufferCount (decode (now pool)) (buffer .0) < 65535) ⌝ }
-    ensures { λ _. ⌜ Holds (now (pool .exit)) shape
-        (taken (decode (now (pool .entry))) (f .0) (fresh (record { buffer = buffer .0; offset = offset; len = length }) next)) ⌝ }
+    ensures { λ _. ⌜ Becomes (now (pool .entry)) (now (pool .exit)) shape
+        (λ T. taken T (f .0) (fresh (record { buffer = buffer .0; offset = offset; len = length }) next)) ⌝ }
 {
     let m = tables::buffer_count(pool, shape, buffer);
     tables::set_buffer_count(pool, shape, buffer, m + 1);
@@ -68,7 +68,7 @@ pub fn take_piece(
 // One reference more to where `link` leads, 0 none and 1 + d piece d: a reference count raised.
 pub fn share(pool: &mut [u8], shape: Shape, link: u16)
     requires { ⌜ Shaped (now pool) shape × Sharable (decode (now pool)) link ⌝ }
-    ensures { λ _. ⌜ Holds (now (pool .exit)) shape (shared (decode (now (pool .entry))) link) ⌝ }
+    ensures { λ _. ⌜ Becomes (now (pool .entry)) (now (pool .exit)) shape (λ T. shared T link) ⌝ }
 {
     if link == 0 {
         return;
@@ -99,9 +99,8 @@ fn in_line(pool: &[u8], shape: Shape, f: PieceNumber, more: u16, tail: u16) -> I
 // Takes a new piece for what the range has of the piece to copy, `more` to come after it; answers how far copying is then: a descriptor cloned.
 fn clone_piece(pool: &mut [u8], shape: Shape, c: Cloning, more: u16, tail: u16) -> Cloning
     requires { ⌜ Shaped (now pool) shape × (shape .pieces < 65535) × Clonable (decode (now pool)) c ⌝ }
-    ensures { λ r. ⌜ Holds (now (pool .exit)) shape
-        (taken (decode (now (pool .entry))) (c .free .0)
-        (fresh (nextPart (stretchAt (decode (now (pool .entry))) (c .at)) c) (linkInLine (decode (now (pool .entry))) (c .free .0) more tail)))
+    ensures { λ r. ⌜ Becomes (now (pool .entry)) (now (pool .exit)) shape
+        (λ T. taken T (c .free .0) (fresh (nextPart (stretchAt T (c .at)) c) (linkInLine T (c .free .0) more tail)))
         × (r ≡ cloned (decode (now (pool .entry))) c more) ⌝ }
 {
     let d = PieceNumber(c.at - 1);
@@ -137,8 +136,7 @@ pub fn copy_pieces(
     requires { ⌜ (pieces ≡ length (cutOut (stretchesFrom (decode (now pool)) link) into n)) × (pieces ≤ length (freePieces (decode (now pool)))) ⌝ }
     requires { ⌜ ((link ≡ 0 → ⊥) → into < piece (decode (now pool)) (link - 1) .len) ⌝ }
     requires { ⌜ first .0 ≡ lowestFor (isFree (decode (now pool))) pieces (pieceTotal (decode (now pool))) ⌝ }
-    ensures { λ r. ⌜ Holds (now (pool .exit)) shape
-        (built (decode (now (pool .entry))) (freePieces (decode (now (pool .entry)))) (cutOut (stretchesFrom (decode (now (pool .entry))) link) into n) tail)
+    ensures { λ r. ⌜ Becomes (now (pool .entry)) (now (pool .exit)) shape (λ T. built T (freePieces T) (cutOut (stretchesFrom T link) into n) tail)
         × (r ≡ builtLink (freePieces (decode (now (pool .entry)))) (cutOut (stretchesFrom (decode (now (pool .entry))) link) into n) tail) ⌝ }
 {
     if pieces == 0 {
@@ -161,9 +159,7 @@ pub fn copy_pieces(
 // Takes a new piece on the lowest free buffer, `more` to come after it; answers how far laying is then: a descriptor over a fresh cluster.
 fn lay_piece(pool: &mut [u8], shape: Shape, c: Laying, more: u16) -> Laying
     requires { ⌜ Shaped (now pool) shape × (shape .pieces < 65535) × Layable (decode (now pool)) c ⌝ }
-    ensures { λ r. ⌜ Holds (now (pool .exit)) shape
-        (taken (decode (now (pool .entry))) (c .free .0)
-        (fresh (laidAt (decode (now (pool .entry))) c) (linkInLine (decode (now (pool .entry))) (c .free .0) more 0)))
+    ensures { λ r. ⌜ Becomes (now (pool .entry)) (now (pool .exit)) shape (λ T. taken T (c .free .0) (fresh (laidAt T c) (linkInLine T (c .free .0) more 0)))
         × (r ≡ laidOn (decode (now (pool .entry))) c more) ⌝ }
 {
     let f = c.free;
@@ -196,9 +192,8 @@ pub fn lay(
     requires { ⌜ (count ≤ length (freePieces (decode (now pool)))) × (count ≤ length (freeBuffers (decode (now pool)))) ⌝ }
     requires { ⌜ (first .0 ≡ lowestFor (isFree (decode (now pool))) count (pieceTotal (decode (now pool))))
         × (buffer .0 ≡ lowestFor (isUnheld (decode (now pool))) count (bufferTotal (decode (now pool)))) ⌝ }
-    ensures { λ r. ⌜ Holds (now (pool .exit)) shape
-        (built (decode (now (pool .entry))) (freePieces (decode (now (pool .entry))))
-        (laid (decode (now (pool .entry)) .stock) (newBuffers (decode (now (pool .entry))) count) n) 0)
+    ensures { λ r. ⌜ Becomes (now (pool .entry)) (now (pool .exit)) shape
+        (λ T. built T (freePieces T) (laid (T .stock) (newBuffers T count) n) 0)
         × (r ≡ builtLink (freePieces (decode (now (pool .entry))))
         (laid (decode (now (pool .entry)) .stock) (newBuffers (decode (now (pool .entry))) count) n) 0) ⌝ }
 {
@@ -221,7 +216,7 @@ pub fn lay(
 // The vacant slip `t` takes the chain that starts at `link`, and its number is the answer: a new handle.
 pub fn under_new(pool: &mut [u8], shape: Shape, t: SlipNumber, link: u16) -> Outcome
     requires { ⌜ Shaped (now pool) shape × (t .0 < shape .slips) × (link < 65535) ⌝ }
-    ensures { λ _. ⌜ Holds (now (pool .exit)) shape (setSlip (decode (now (pool .entry))) (t .0) (holding link)) ⌝ }
+    ensures { λ _. ⌜ Becomes (now (pool .entry)) (now (pool .exit)) shape (λ T. setSlip T (t .0) (holding link)) ⌝ }
     ensures { λ r. ⌜ r ≡ Outcome.Done (record { state = stateOf (slip (decode (now (pool .exit))) (t .0)); number = t .0 }) ⌝ }
 {
     tables::set_slip(pool, shape, t, link + 1);

@@ -24,7 +24,8 @@ pub fn put(pool: &mut [u8], storage: &mut [u8], input: &[u8]) -> Answer
 
 // dup: a new slip on the same chain.
 pub fn dup(pool: &mut [u8], storage: &[u8], slip: SlipNumber) -> Answer
-    ensures { λ r. ⌜ resultOf r (now (pool .exit)) (now (storage .entry)) [] noView ≡ step (Do (Dup (slip .0))) (lent (now (pool .entry)) (now (storage .entry))) ⌝ }
+    ensures { λ r. ⌜ resultOf r (now (pool .exit)) (now (storage .entry)) [] noView
+        ≡ step (Do (Dup (slip .0))) (lent (now (pool .entry)) (now (storage .entry))) ⌝ }
 {
     let audited = audit::audit(pool, storage.len());
     if !audited.sound {

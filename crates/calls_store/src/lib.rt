@@ -24,7 +24,8 @@ pub fn pullup(pool: &mut [u8], storage: &mut [u8], slip: SlipNumber, n: u32) -> 
 
 // pack: a chain's bytes put afresh under the same slip.
 pub fn pack(pool: &mut [u8], storage: &mut [u8], slip: SlipNumber) -> Answer
-    ensures { λ r. ⌜ resultOf r (now (pool .exit)) (now (storage .exit)) [] noView ≡ step (Do (Pack (slip .0))) (lent (now (pool .entry)) (now (storage .entry))) ⌝ }
+    ensures { λ r. ⌜ resultOf r (now (pool .exit)) (now (storage .exit)) [] noView
+        ≡ step (Do (Pack (slip .0))) (lent (now (pool .entry)) (now (storage .entry))) ⌝ }
 {
     let audited = audit::audit(pool, storage.len());
     if !audited.sound {

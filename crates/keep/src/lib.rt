@@ -13,7 +13,7 @@ ghost use Rattle.rules.specs.Bytes.{decode};
 ghost use Rattle.rules.specs.Sound.{lent};
 ghost use Rattle.rules.specs.Rule.{noView};
 ghost use Rattle.rules.specs.Step.{Keep, perform};
-ghost use Rattle.tables.specs.Shape.{Shaped, Holds};
+ghost use Rattle.tables.specs.Shape.{Shaped, Becomes};
 ghost use Rattle.chain.specs.Opened.{Opened};
 ghost use Rattle.answer.specs.Result.{resultOf, Leaves};
 ghost use Rattle.keep.specs.Shorten.{shortenedBy};
@@ -22,7 +22,7 @@ ghost use Rattle.keep.specs.Shorten.{shortenedBy};
 fn trim_end(pool: &mut [u8], shape: Shape, last: u16, over: u32)
     requires { ⌜ Shaped (now pool) shape × (last ≤ shape .pieces) × ((last ≡ 0 → ⊥) → (over ≤ piece (decode (now pool)) (last - 1) .len)
         × (piece (decode (now pool)) (last - 1) .offset + piece (decode (now pool)) (last - 1) .len < 65536)) ⌝ }
-    ensures { λ _. ⌜ Holds (now (pool .exit)) shape (shortenedBy (decode (now (pool .entry))) last over) ⌝ }
+    ensures { λ _. ⌜ Becomes (now (pool .entry)) (now (pool .exit)) shape (λ T. shortenedBy T last over) ⌝ }
 {
     if last == 0 {
         return;

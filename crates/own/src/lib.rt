@@ -7,7 +7,7 @@ ghost use Rattle.rules.specs.Basics.{Is};
 ghost use Rattle.rules.specs.Tables.{piece, setPiece, withPlace};
 ghost use Rattle.rules.specs.Bytes.{decode};
 ghost use Rattle.rules.specs.Sound.{linkOk};
-ghost use Rattle.tables.specs.Shape.{Shaped, Holds};
+ghost use Rattle.tables.specs.Shape.{Shaped, Becomes};
 ghost use Rattle.chain.specs.Opened.{Opened};
 ghost use Rattle.own.specs.Own.{single, ownRun, ownPart};
 
@@ -80,9 +80,8 @@ pub fn own_part(pool: &[u8], shape: Shape, link: u16, n: u32) -> OwnPart
 pub fn shorten(pool: &mut [u8], shape: Shape, d: PieceNumber, front: u16, back: u16)
     requires { ⌜ Shaped (now pool) shape × (d .0 < shape .pieces) ⌝ }
     requires { ⌜ (front + back ≤ piece (decode (now pool)) (d .0) .len) × (piece (decode (now pool)) (d .0) .offset + front < 65536) ⌝ }
-    ensures { λ _. ⌜ Holds (now (pool .exit)) shape
-        (setPiece (decode (now (pool .entry))) (d .0) (withPlace (piece (decode (now (pool .entry))) (d .0))
-        (piece (decode (now (pool .entry))) (d .0) .offset + front) (piece (decode (now (pool .entry))) (d .0) .len - front - back))) ⌝ }
+    ensures { λ _. ⌜ Becomes (now (pool .entry)) (now (pool .exit)) shape
+        (λ T. setPiece T (d .0) (withPlace (piece T (d .0)) (piece T (d .0) .offset + front) (piece T (d .0) .len - front - back))) ⌝ }
 {
     let offset = tables::piece_offset(pool, shape, d);
     let length = tables::piece_length(pool, shape, d);

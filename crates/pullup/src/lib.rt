@@ -20,7 +20,7 @@ ghost use Rattle.rules.specs.Room.{isFree, freePieces};
 ghost use Rattle.rules.specs.Build.{made, madeLink};
 ghost use Rattle.rules.specs.Rule.{noView};
 ghost use Rattle.rules.specs.Step.{Pullup, perform};
-ghost use Rattle.tables.specs.Shape.{Holds, stockOf};
+ghost use Rattle.tables.specs.Shape.{Becomes, stockOf};
 ghost use Rattle.chain.specs.Opened.{Opened};
 ghost use Rattle.room.specs.Free.{firstFrom};
 ghost use Rattle.answer.specs.Result.{resultOf, Leaves};
@@ -40,7 +40,7 @@ fn make_first(
     requires { ⌜ ((at .link ≡ 0 → ⊥) → at .into < piece (decode (now pool)) (at .link - 1) .len) ⌝ }
     requires { ⌜ (length (restFrom (decode (now pool)) (at .own) (at .link) (at .into) .more) < length (freePieces (decode (now pool))))
         × (f .0 ≡ firstFrom (isFree (decode (now pool))) 0 (pieceTotal (decode (now pool)))) ⌝ }
-    ensures { λ r. ⌜ Holds (now (pool .exit)) shape (made (pulledFrom (decode (now (pool .entry))) at (b .0) n) (freePieces (decode (now (pool .entry)))))
+    ensures { λ r. ⌜ Becomes (now (pool .entry)) (now (pool .exit)) shape (λ T. made (pulledFrom T at (b .0) n) (freePieces T))
         × (r ≡ madeLink (pulledFrom (decode (now (pool .entry))) at (b .0) n) (freePieces (decode (now (pool .entry))))) ⌝ }
 {
     let rest = rest::settle(pool, shape, at.link, at.into, at.own, PieceNumber(f.0 + 1));

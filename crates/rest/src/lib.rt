@@ -4,16 +4,16 @@ use layout::Shape;
 ghost use mathlib.Core.Path.{_≡_};
 ghost use Prim.Native.Nat.{_-_, _≤_, _<_};
 ghost use lib.ListN.{length};
-ghost use Rattle.rules.specs.Basics.{Is, places};
-ghost use Rattle.rules.specs.Tables.{Tables, piece, pieceTotal};
+ghost use Rattle.rules.specs.Basics.{Is};
+ghost use Rattle.rules.specs.Tables.{Tables, piece};
 ghost use Rattle.rules.specs.Bytes.{decode};
 ghost use Rattle.rules.specs.Chain.{stretch};
 ghost use Rattle.rules.specs.Sound.{linkOk};
-ghost use Rattle.rules.specs.Room.{isFree};
+ghost use Rattle.rules.specs.Room.{freeFrom};
 ghost use Rattle.rules.specs.Release.{shared};
 ghost use Rattle.rules.specs.Build.{taken, fresh, made, madeLink};
 ghost use Rattle.rules.specs.Drop.{shorter};
-ghost use Rattle.tables.specs.Shape.{Shaped, Holds};
+ghost use Rattle.tables.specs.Shape.{Shaped, Becomes};
 ghost use Rattle.chain.specs.Opened.{Opened};
 ghost use Rattle.build.specs.Share.{Sharable};
 ghost use Rattle.build.specs.Clone.{Copyable};
@@ -24,9 +24,8 @@ ghost use Rattle.rest.specs.Rest.{restFrom};
 pub fn clone_rest(pool: &mut [u8], shape: Shape, d: PieceNumber, n: u16, f: PieceNumber)
     requires { ⌜ Shaped (now pool) shape × (f .0 < shape .pieces) × Copyable (decode (now pool)) (d .0) n
         × Sharable (decode (now pool)) (piece (decode (now pool)) (d .0) .next) ⌝ }
-    ensures { λ _. ⌜ Holds (now (pool .exit)) shape
-        (taken (shared (decode (now (pool .entry))) (piece (decode (now (pool .entry))) (d .0) .next)) (f .0)
-        (fresh (stretch (shorter (piece (decode (now (pool .entry))) (d .0)) n)) (piece (decode (now (pool .entry))) (d .0) .next))) ⌝ }
+    ensures { λ _. ⌜ Becomes (now (pool .entry)) (now (pool .exit)) shape
+        (λ T. taken (shared T (piece T (d .0) .next)) (f .0) (fresh (stretch (shorter (piece T (d .0)) n)) (piece T (d .0) .next))) ⌝ }
 {
     let buffer = tables::piece_buffer(pool, shape, d);
     let offset = tables::piece_offset(pool, shape, d);
@@ -64,13 +63,9 @@ pub fn settle(
 ) -> u16
     requires { ⌜ Opened (now pool) shape × Is (linkOk (decode (now pool)) link) ⌝ }
     requires { ⌜ ((link ≡ 0 → ⊥) → into < piece (decode (now pool)) (link - 1) .len) ⌝ }
-    requires { ⌜ length (restFrom (decode (now pool)) own link into .more) ≤ length
-        (places (isFree (decode (now pool))) (from .0) (pieceTotal (decode (now pool)) - from .0)) ⌝ }
-    ensures { λ r. ⌜ Holds (now (pool .exit)) shape
-        (made (restFrom (decode (now (pool .entry))) own link into)
-        (places (isFree (decode (now (pool .entry)))) (from .0) (pieceTotal (decode (now (pool .entry))) - from .0)))
-        × (r ≡ madeLink (restFrom (decode (now (pool .entry))) own link into)
-        (places (isFree (decode (now (pool .entry)))) (from .0) (pieceTotal (decode (now (pool .entry))) - from .0))) ⌝ }
+    requires { ⌜ length (restFrom (decode (now pool)) own link into .more) ≤ length (freeFrom (decode (now pool)) (from .0)) ⌝ }
+    ensures { λ r. ⌜ Becomes (now (pool .entry)) (now (pool .exit)) shape (λ T. made (restFrom T own link into) (freeFrom T (from .0)))
+        × (r ≡ madeLink (restFrom (decode (now (pool .entry))) own link into) (freeFrom (decode (now (pool .entry))) (from .0))) ⌝ }
 {
     if link == 0 {
         return 0;

@@ -1,7 +1,7 @@
 -- The free numbers, lowest first, and the new numbers that a call takes.
 use mathlib.Core.Bool.{Bool}
 use mathlib.Core.List.{List}
-use Prim.Native.Nat.{ℕ}
+use Prim.Native.Nat.{ℕ, _-_}
 use lib.ListN.{getD, take}
 use lib.Dec.{eqb}
 use Rattle.rules.specs.Basics.{places}
@@ -21,6 +21,10 @@ vacantSlips T = places (isVacant T) 0 (slipTotal T)
 
 abbrev pub freePieces : Tables → List ℕ
 freePieces T = places (isFree T) 0 (pieceTotal T)
+
+-- the free pieces from number i on
+abbrev pub freeFrom : Tables → ℕ → List ℕ
+freeFrom T i = places (isFree T) i (pieceTotal T - i)
 
 abbrev pub freeBuffers : Tables → List ℕ
 freeBuffers T = places (isUnheld T) 0 (bufferTotal T)
