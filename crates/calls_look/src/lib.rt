@@ -116,8 +116,8 @@ pub fn list(pool: &[u8], storage: &[u8], slip: SlipNumber, list: &mut [u32]) -> 
 }
 
 // What slp_stretches answers, and where its records start: audited and judged before any is written.
-pub fn begin(pool: &[u8], storage: &[u8], slip: u16, room: usize) -> Begun
-    ensures { λ r. ⌜ Begins (now (pool .entry)) (now (storage .entry)) slip room r ⌝ }
+pub fn begin(pool: &[u8], storage: &[u8], slip: SlipNumber, room: usize) -> Begun
+    ensures { λ r. ⌜ Begins (now (pool .entry)) (now (storage .entry)) (slip .0) room r ⌝ }
 {
     let audited = audit::audit(pool, storage.len());
     let shape = audited.shape;
@@ -128,7 +128,7 @@ pub fn begin(pool: &[u8], storage: &[u8], slip: u16, room: usize) -> Begun
             link: 0,
         };
     }
-    let b = list::begin(pool, shape, SlipNumber(slip), room);
+    let b = list::begin(pool, shape, slip, room);
     let outcome = b.outcome;
     let link = b.link;
     Begun {

@@ -191,7 +191,7 @@ pub extern "C" fn slp_stretches(
     ensures { λ r. ⌜ resultOf r (now (pool .entry)) (now (storage .entry)) (numbers (now (list .exit))) noView
         ≡ step (Do (WireList slip (numbers (now (list .entry))))) (lent (now (pool .entry)) (now (storage .entry))) ⌝ }
 {
-    let b = calls_look::begin(pool, storage, slip, list.len());
+    let b = calls_look::begin(pool, storage, SlipNumber(slip), list.len());
     let shape = b.shape;
     let mut at = b.link;
     let mut k = 0;

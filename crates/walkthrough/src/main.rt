@@ -1,5 +1,6 @@
 // One morning at a relay: document 01's ten marked rows, each with its call, its answer and the tables after it.
 use kinds::Answer;
+use kinds::SlipNumber;
 use libc::STDOUT_FILENO;
 use page::Cursor;
 use reply::Reply;
@@ -83,9 +84,9 @@ fn share(pool: &mut [u8], storage: &[u8]) {
 }
 
 // Rows 4 and 10, a slip gives up its chain: a release.
-fn free(pool: &mut [u8], storage: &[u8], slip: u16) {
-    let a = slp::slp_free(pool, storage, slip);
-    show_one(b"free ", slip as u32, Reply::Done, a, pool);
+fn free(pool: &mut [u8], storage: &[u8], slip: SlipNumber) {
+    let a = slp::slp_free(pool, storage, slip.0);
+    show_one(b"free ", slip.0 as u32, Reply::Done, a, pool);
 }
 
 // Rows 5 to 7, a chain shortened at its front, joined, and shortened at its end: no byte is copied.
@@ -113,8 +114,8 @@ fn main() {
     open(&mut pool, &storage);
     put(&mut pool, &mut storage);
     share(&mut pool, &storage);
-    free(&mut pool, &storage, 0);
+    free(&mut pool, &storage, SlipNumber(0));
     trim(&mut pool, &storage);
     gather(&mut pool, &mut storage);
-    free(&mut pool, &storage, 1);
+    free(&mut pool, &storage, SlipNumber(1));
 }

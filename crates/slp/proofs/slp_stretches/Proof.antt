@@ -25,7 +25,7 @@ use contract.Monad.{Fun, fact}
 use contract.Running.{givenOf, tables, tablesOf}
 use types.Kit.{Given, Item, Sq, prop, runs, anyQ, atRet, raw, some, later, pick, await, ‵, _⊛_, ⋆, _$_, _∵_, !, qed, by, move, keep, drop as drop′, use1, use2, split, join, rewrite, fsplit, fjoin, suffices, frame, done}
 use types.Run.{look, init, store, store-raw, forget, stop, hop, fld, from, load, lit, of-opd, and-then, no-more, bin, assigns, assigns-last, stays, leaves-loop, first, blocks, loops, again, Below, land, exec, returns, enter, alloc1, alloc0, params1, pass1, pass0, free1, free0}
-use types.Part.{whole, sub, look-in}
+use types.Part.{whole, sub, look-in, agg}
 use sound.WpLaws.{FmC, fmOf, WpFn-mono}
 use denote.RattleType.{RattleType, owns}
 use denote.Shadow.{pureI}
@@ -48,6 +48,9 @@ use denote.Triple.Clauses.{ensured, lasts}
 use denote.Triple.Table.{entered, cited}
 use denote.Triple.Walked.{says, Stays, stay-slice, stay-none-slice, stay-none, walkOf, goes-slice, goes-none-slice, goes-none, Walks, ends-at, walked, walk-meets}
 use denote.Exit.{yes}
+use Rattle.kinds.specs.declared.SlipNumber.{SlipNumber}
+use Rattle.kinds.proofs.SlipNumber as N
+use Rattle.kinds.proofs.SlipNumber.Laws as N′
 use Rattle.kinds.proofs.Answer as An
 use Rattle.kinds.proofs.Answer.Laws as An′
 use Rattle.rules.specs.Tables as rules
@@ -135,19 +138,26 @@ module _ {M : Type 1} (𝓤 : URA M) (H : Heap 𝓤) (A : Atoms 𝓤) (W : Given
   abbrev OwnT : Fml
   OwnT = ShrSlice (named 1) κ₁ u8 .own st (ss ∷ [])
 
+  -- the slip number, as begin takes it
+  abbrev sn : SlipNumber
+  sn = record { 0 = sl }
+
+  fits-slip : Is N.the-row sn (N′.lowered sn ∷ [])
+  fits-slip = ((vint w16 sl ∷ [], tt), (refl, ((refl, gs), tt)))
+
   abbrev to-begin : Begin 𝓤 H A at-mem run .Ghost
-  to-begin = (((κ₀, (κ₁, tt)), (q₀, (q₁, tt)), tt, (pl, (st, (sl, (length ys, tt)))), (ps ∷ [], (ss ∷ [], (vint w16 sl ∷ [], (vint w64 (length ys) ∷ [], tt))))), tt)
+  to-begin = (((κ₀, (κ₁, tt)), (q₀, (q₁, tt)), tt, (pl, (st, (sn, (length ys, tt)))), (ps ∷ [], (ss ∷ [], (N′.lowered sn ∷ [], (vint w64 (length ys) ∷ [], tt))))), tt)
 
   goes-begin : ent 𝓤 (⋆ 𝓤 H A ((‵ (flft κ₀ q₀) ⊛ ‵ (flft κ₁ q₁)) ∷ (‵ OwnP ⊛ ‵ OwnT) ∷ [])) (Begin 𝓤 H A at-mem run .pre to-begin)
   goes-begin =
       qed W ((‵ (flft κ₀ q₀) ⊛ ‵ (flft κ₁ q₁)) ∷ (‵ OwnP ⊛ ‵ OwnT) ∷ []) ∵ split ! $ move ! (2 ∷ []) $ split ! $ move ! (2 ∷ 3 ∷ []) $
       nothing ! $ move ! (2 ∷ 0 ∷ []) $ join ! $ move ! (1 ∷ 0 ∷ []) $ join ! $
-      nothing ! $ owned ! usize (Is usize) (uint-makes 𝓤 H A W w64) (length ys) _ (refl, gn .0) $ fjoin ! $ owned ! u16 (Is u16) (uint-makes 𝓤 H A W w16) sl _ (refl, gs) $ fjoin ! $
+      nothing ! $ owned ! usize (Is usize) (uint-makes 𝓤 H A W w64) (length ys) _ (refl, gn .0) $ fjoin ! $ owned ! N.the-row (Is N.the-row) (LL.makes N.the-type N′.the-plain 𝓤 H A) sn _ fits-slip $ fjoin ! $
       move ! (3 ∷ 0 ∷ []) $ fjoin ! $ move ! (2 ∷ 0 ∷ []) $ fjoin ! $ move ! (1 ∷ 0 ∷ []) $ join ! $ frame ! $ done !
 
   -- what begin says of its answer
-  said-begin : (y : Begun) → ent 𝓤 (ensured 𝓤 H A beg.ended (beg.clauses 𝓤 H A at-mem run) (κ₀, (κ₁, tt)) (pl, (st, (sl, (length ys, tt)))) tt y) (fact 𝓤 (Begins (now pl) (now st) sl (length ys) y))
-  said-begin y = exE 𝓤 _ (λ ws. snd∗ 𝓤 (sem 𝓤 H A (lasts beg.ended (κ₀, (κ₁, tt)) (pl, (st, (sl, (length ys, tt)))) ws)) (fact 𝓤 (Begins (now pl) (now st) sl (length ys) y)))
+  said-begin : (y : Begun) → ent 𝓤 (ensured 𝓤 H A beg.ended (beg.clauses 𝓤 H A at-mem run) (κ₀, (κ₁, tt)) (pl, (st, (sn, (length ys, tt)))) tt y) (fact 𝓤 (Begins (now pl) (now st) sl (length ys) y))
+  said-begin y = exE 𝓤 _ (λ ws. snd∗ 𝓤 (sem 𝓤 H A (lasts beg.ended (κ₀, (κ₁, tt)) (pl, (st, (sn, (length ys, tt)))) ws)) (fact 𝓤 (Begins (now pl) (now st) sl (length ys) y)))
 
   -- a value of the struct that begin answers
   module _ (y : Begun) (u : Val) (is : Is B.the-row y (u ∷ [])) where
@@ -258,10 +268,10 @@ module _ {M : Type 1} (𝓤 : URA M) (H : Heap 𝓤) (A : Atoms 𝓤) (W : Given
       abbrev Λ : Loops 𝓤 H
       Λ = 𝓣 .Λ
 
-      module _ (l₀ l₁ l₂ l₃ l₄ l₅ l₆ l₇ l₈ l₉ l₁₀ l₁₁ l₁₂ l₁₃ : ℕ) where
+      module _ (l₀ l₁ l₂ l₃ l₄ l₅ l₆ l₇ l₈ l₉ ls l₁₀ l₁₁ l₁₂ l₁₃ : ℕ) where
         abbrev E : Env 𝓤 H
         E = (An′.mir, l₀) ∷ (sliceTy (tyRef (named 0) imm (tyInt w8)), l₁) ∷ (sliceTy (tyRef (named 1) imm (tyInt w8)), l₂) ∷ (tyInt w16, l₃) ∷ (sliceTy (tyRef (named 2) mut (pointee (S .written))), l₄)
-            ∷ (B′.mir, l₅) ∷ (Sh′.mir, l₆) ∷ (tyInt w16, l₇) ∷ (tyInt w64, l₈) ∷ (R′.mir, l₉) ∷ (tyInt w64, l₁₀) ∷ (tyBool, l₁₁) ∷ (tyInt w64, l₁₂) ∷ (tyPtr, l₁₃) ∷ []
+            ∷ (B′.mir, l₅) ∷ (Sh′.mir, l₆) ∷ (tyInt w16, l₇) ∷ (tyInt w64, l₈) ∷ (R′.mir, l₉) ∷ (N′.mir, ls) ∷ (tyInt w64, l₁₀) ∷ (tyBool, l₁₁) ∷ (tyInt w64, l₁₂) ∷ (tyPtr, l₁₃) ∷ []
 
         -- after k records
         abbrev J : ℕ → List (Item 𝓤)
@@ -272,14 +282,14 @@ module _ {M : Type 1} (𝓤 : URA M) (H : Heap 𝓤) (A : Atoms 𝓤) (W : Given
             ∷ ‵ (froom R′.mir l₉ 0) ∷ ‵ (froom (tyInt w64) l₁₀ 0) ∷ ‵ (froom tyBool l₁₁ 0) ∷ ‵ (froom (tyInt w64) l₁₂ 0) ∷ ‵ (froom tyPtr l₁₃ 0) ∷ ‵ (froom An′.mir l₀ 0)
             ∷ ‵ (fdies An′.mir l₀) ∷ ‵ (fdies (sliceTy (tyRef (named 0) imm (tyInt w8))) l₁) ∷ ‵ (fdies (sliceTy (tyRef (named 1) imm (tyInt w8))) l₂) ∷ ‵ (fdies (tyInt w16) l₃)
             ∷ ‵ (fdies (sliceTy (tyRef (named 2) mut (pointee (S .written)))) l₄) ∷ ‵ (fdies B′.mir l₅) ∷ ‵ (fdies Sh′.mir l₆) ∷ ‵ (fdies (tyInt w16) l₇) ∷ ‵ (fdies (tyInt w64) l₈)
-            ∷ ‵ (fdies R′.mir l₉) ∷ ‵ (fdies (tyInt w64) l₁₀) ∷ ‵ (fdies tyBool l₁₁) ∷ ‵ (fdies (tyInt w64) l₁₂) ∷ ‵ (fdies tyPtr l₁₃) ∷ []
+            ∷ ‵ (fdies R′.mir l₉) ∷ ‵ (fdies (tyInt w64) l₁₀) ∷ ‵ (fdies tyBool l₁₁) ∷ ‵ (fdies (tyInt w64) l₁₂) ∷ ‵ (fdies tyPtr l₁₃) ∷ ‵ (froom N′.mir ls 0) ∷ ‵ (fdies N′.mir ls) ∷ []
 
         -- where t records are left
         abbrev I : ℕ → List (Item 𝓤)
         I t = J (n - t)
 
         abbrev Left : Out → SProp 𝓤
-        Left = afterBlock 𝓤 H (afterSeq 𝓤 H (Wp 𝓤 H C Λ E pieces.t-7 (atReturn 𝓤 H E Post)) (atReturn 𝓤 H E Post))
+        Left = afterBlock 𝓤 H (afterSeq 𝓤 H (Wp 𝓤 H C Λ E pieces.t-8 (atReturn 𝓤 H E Post)) (atReturn 𝓤 H E Post))
 
         next : (t k : ℕ) → k ≡ n - t → k < n → Sq W (J (k + 1)) (prop (Below 𝓤 H A _<_ I t))
         next t k e h =
@@ -329,12 +339,12 @@ module _ {M : Type 1} (𝓤 : URA M) (H : Heap 𝓤) (A : Atoms 𝓤) (W : Given
         ends t k e =
             assigns ! (bin ! (load ! (from ! (stop !)) (look ! 13 refl)) (lit ! tt) tt) (from ! (stop !)) (init ! 17 refl (tt, tt)) $
             rewrite ! 17 (λ (z : Bool). ‵ (fat fullShare tyBool l₁₁ 0 (vbool z))) (ap not (eq-eqb (link k) 0 (ap link e ∙ link-end U (y .link) (λ z. bs .opened z .sound) (bs .good)))) refl $
-            leaves-loop ! (load ! (from ! (stop !)) (look ! 17 refl)) $ exec ! C Λ E pieces.t-7 (atRet E Post) $
+            leaves-loop ! (load ! (from ! (stop !)) (look ! 17 refl)) $ exec ! C Λ E pieces.t-8 (atRet E Post) $
             assigns ! (of-opd ! (load ! (from ! (fld ! refl (stop !))) (look-in ! 11 (sub ! 0 refl (whole !))))) (from ! (stop !))
             (init ! 20 refl (LL.lawful An.the-type An′.the-laws 𝓤 H A W .typed (y .answer) (An′.lowered (y .answer) ∷ []) answer-is .0)) $
             returns ! (look ! 20 refl) $ forget ! 7 refl $ forget ! 8 refl $ forget ! 9 refl $ forget ! 10 refl $ forget ! 11 refl $ forget ! 12 refl $ forget ! 13 refl $ forget ! 14 refl $ forget ! 17 refl $ forget ! 20 refl $
             move ! (20 ∷ 21 ∷ []) $ free1 ! $ move ! (7 ∷ 20 ∷ []) $ free1 ! $ move ! (7 ∷ 19 ∷ []) $ free1 ! $ move ! (7 ∷ 18 ∷ []) $ free1 ! $ move ! (7 ∷ 17 ∷ []) $ free1 ! $
-            move ! (7 ∷ 16 ∷ []) $ free1 ! $ move ! (7 ∷ 15 ∷ []) $ free1 ! $ move ! (7 ∷ 14 ∷ []) $ free1 ! $ move ! (7 ∷ 13 ∷ []) $ free1 ! $ move ! (7 ∷ 12 ∷ []) $ free1 ! $
+            move ! (7 ∷ 16 ∷ []) $ free1 ! $ move ! (7 ∷ 15 ∷ []) $ free1 ! $ move ! (7 ∷ 14 ∷ []) $ free1 ! $ move ! (7 ∷ 13 ∷ []) $ free1 ! $ move ! (7 ∷ 12 ∷ []) $ free1 ! $ move ! (15 ∷ 16 ∷ []) $ free1 ! $
             move ! (7 ∷ 11 ∷ []) $ free1 ! $ move ! (7 ∷ 10 ∷ []) $ free1 ! $ move ! (7 ∷ 9 ∷ []) $ free1 ! $ move ! (7 ∷ 8 ∷ []) $ free1 ! $ free0 ! $ by ! (exits k e)
 
         turn : (t : ℕ) → Sq W (I t) (runs C Λ E pieces.turn-1 (anyQ (afterTurn 𝓤 H (Below 𝓤 H A _<_ I t) Left)))
@@ -343,7 +353,7 @@ module _ {M : Type 1} (𝓤 : URA M) (H : Heap 𝓤) (A : Atoms 𝓤) (W : Given
         looped : Sq W (I n) (runs C Λ E (loop pieces.turn-1) (anyQ Left))
         looped = loops ! 𝓣 _<_ (Nat·lt-wfRel .wf) I {E = E} {b = pieces.turn-1} {q = anyQ Left} turn n
 
-        start : Sq W (J 0) (runs C Λ E pieces.t-6 (atRet E Post))
+        start : Sq W (J 0) (runs C Λ E pieces.t-7 (atRet E Post))
         start = let z : n - n ≡ 0 = omega arith in first ! $ blocks ! $ subst (λ (j : ℕ). Sq W (J j) (runs C Λ E (loop pieces.turn-1) (anyQ Left))) z looped
 
   module _ (𝓣 : Tables 𝓤 H) (fm : FmC 𝓤 H (W .laws) (𝓣 .C)) (known-begin : Triple 𝓤 (𝓣 .C #calls-look·begin) (Begin 𝓤 H A at-mem run)) (known-first : Triple 𝓤 (𝓣 .C #list·first) (First 𝓤 H A at-mem run)) where
@@ -351,21 +361,23 @@ module _ {M : Type 1} (𝓤 : URA M) (H : Heap 𝓤) (A : Atoms 𝓤) (W : Given
     walk =
         qed W ((‵ (flft κ₀ q₀) ⊛ (‵ (flft κ₁ q₁) ⊛ (‵ (flft κ₂ q₂) ⊛ ‵ ftrue))) ∷ ‵ (owns (ShrSlice (named 0) κ₀ u8 ∷ ShrSlice (named 1) κ₁ u8 ∷ u16 ∷ MutSlice (named 2) κ₂ S ∷ []) x at) ∷ []) ∵
         enter ! (𝓣 .C) (𝓣 .Λ) code.function (ps ∷ ss ∷ vint w16 sl ∷ s ∷ []) _ $
-        alloc1 ! (λ l₀. alloc1 ! (λ l₁. alloc1 ! (λ l₂. alloc1 ! (λ l₃. alloc1 ! (λ l₄. alloc1 ! (λ l₅. alloc1 ! (λ l₆. alloc1 ! (λ l₇. alloc1 ! (λ l₈. alloc1 ! (λ l₉. alloc1 ! (λ l₁₀. alloc1 ! (λ l₁₁. alloc1 ! (λ l₁₂. alloc1 ! (λ l₁₃. alloc0 ! $ params1 ! $
-        pass1 ! (init ! 24 refl (tt, (tt, (record { fits = gp .0 }, tt)))) $ pass1 ! (init ! 22 refl (tt, (tt, (record { fits = gt .0 }, tt)))) $ pass1 ! (init ! 20 refl (tt, record { fits = gs })) $ pass1 ! (init ! 18 refl (tt, (tt, (record { fits = gn .0 }, tt)))) $ pass0 ! $
-        assigns ! (of-opd ! (load ! (from ! (fld ! refl (stop !))) (look-in ! 18 (sub ! 1 refl (whole !))))) (from ! (stop !)) (init ! 6 refl (tt, record { fits = gn .0 })) $
-        move ! (29 ∷ []) $ fsplit ! $ move ! (1 ∷ []) $ fsplit ! $ move ! (1 ∷ []) $ fsplit ! $ move ! (1 ∷ []) $ fsplit ! $ fsplit ! $ move ! (1 ∷ []) $ fsplit ! $
+        alloc1 ! (λ l₀. alloc1 ! (λ l₁. alloc1 ! (λ l₂. alloc1 ! (λ l₃. alloc1 ! (λ l₄. alloc1 ! (λ l₅. alloc1 ! (λ l₆. alloc1 ! (λ l₇. alloc1 ! (λ l₈. alloc1 ! (λ l₉. alloc1 ! (λ ls. alloc1 ! (λ l₁₀. alloc1 ! (λ l₁₁. alloc1 ! (λ l₁₂. alloc1 ! (λ l₁₃. alloc0 ! $ params1 ! $
+        pass1 ! (init ! 26 refl (tt, (tt, (record { fits = gp .0 }, tt)))) $ pass1 ! (init ! 24 refl (tt, (tt, (record { fits = gt .0 }, tt)))) $ pass1 ! (init ! 22 refl (tt, record { fits = gs })) $ pass1 ! (init ! 20 refl (tt, (tt, (record { fits = gn .0 }, tt)))) $ pass0 ! $
+        assigns ! (agg ! (and-then ! (load ! (from ! (stop !)) (look ! 22 refl)) (no-more !))) (from ! (stop !))
+        (init ! 8 refl (LL.lawful N.the-type N′.the-laws 𝓤 H A W .typed sn (N′.lowered sn ∷ []) fits-slip .0)) $
+        assigns ! (of-opd ! (load ! (from ! (fld ! refl (stop !))) (look-in ! 20 (sub ! 1 refl (whole !))))) (from ! (stop !)) (init ! 6 refl (tt, record { fits = gn .0 })) $
+        move ! (31 ∷ []) $ fsplit ! $ move ! (1 ∷ []) $ fsplit ! $ move ! (1 ∷ []) $ fsplit ! $ move ! (1 ∷ []) $ fsplit ! $ fsplit ! $ move ! (1 ∷ []) $ fsplit ! $
         -- [obs; the borrow; list's fact; true; what slip, storage and pool own; _13; …; _0; …; the tokens]
-        move ! (35 ∷ []) $ split ! $ move ! (1 ∷ []) $ split ! $ move ! (1 ∷ []) $ split ! $
-        keep ! (4 ∷ 5 ∷ 0 ∷ 10 ∷ 3 ∷ 2 ∷ 9 ∷ 35 ∷ 33 ∷ 31 ∷ 29 ∷ 27 ∷ 25 ∷ 23 ∷ 21 ∷ 19 ∷ 17 ∷ 15 ∷ 13 ∷ 11 ∷ 37 ∷ 38 ∷ 36 ∷ 34 ∷ 32 ∷ 30 ∷ 28 ∷ 26 ∷ 24 ∷ 22 ∷ 20 ∷ 18 ∷ 16 ∷ 14 ∷ 12 ∷ []) $
+        move ! (37 ∷ []) $ split ! $ move ! (1 ∷ []) $ split ! $ move ! (1 ∷ []) $ split ! $
+        keep ! (4 ∷ 5 ∷ 0 ∷ 10 ∷ 3 ∷ 2 ∷ 9 ∷ 37 ∷ 35 ∷ 33 ∷ 31 ∷ 29 ∷ 27 ∷ 25 ∷ 23 ∷ 21 ∷ 17 ∷ 15 ∷ 13 ∷ 11 ∷ 39 ∷ 40 ∷ 38 ∷ 36 ∷ 34 ∷ 32 ∷ 30 ∷ 28 ∷ 26 ∷ 24 ∷ 22 ∷ 18 ∷ 16 ∷ 14 ∷ 12 ∷ 19 ∷ 20 ∷ []) $
         -- [obs; the borrow; list's token; what the pool owns; its token; storage's token; what storage owns; _1; …; _13; _0; …]
         move ! (3 ∷ []) $ use1 W (‵ OwnP ⊛ ‵ OwnP) (shr-slice-copy 𝓤 H A W (named 0) κ₀ u8 .twice pl (ps ∷ [])) $ split ! $
         move ! (7 ∷ []) $ use1 W (‵ OwnT ⊛ ‵ OwnT) (shr-slice-copy 𝓤 H A W (named 1) κ₁ u8 .twice st (ss ∷ [])) $ split ! $
         move ! (2 ∷ 0 ∷ []) $ join ! $ move ! (6 ∷ 7 ∷ []) $ join ! $ use2 W (raw (Begin 𝓤 H A at-mem run .pre to-begin)) goes-begin $
         -- [what begin asks; what storage and pool own; obs; the borrow; list's token; _1; …]
         calls-at ! fm (Begin 𝓤 H A at-mem run) known-begin to-begin
-        (and-then ! (load ! (from ! (stop !)) (look ! 6 refl)) (and-then ! (load ! (from ! (stop !)) (look ! 7 refl)) (and-then ! (load ! (from ! (stop !)) (look ! 8 refl)) (and-then ! (load ! (from ! (stop !)) (look ! 15 refl)) (no-more !))))) (λ u.
-        use1 W (later (some (λ (y : Begun). ((‵ (flft κ₀ q₀) ⊛ (‵ (flft κ₁ q₁) ⊛ ‵ ftrue)) ⊛ ‵ (B.the-row .own y (u ∷ []))) ⊛ raw (ensured 𝓤 H A beg.ended (beg.clauses 𝓤 H A at-mem run) (κ₀, (κ₁, tt)) (pl, (st, (sl, (length ys, tt)))) tt y)))) (id⊢ 𝓤 _) $ await ! tt $ pick ! (λ y.
+        (and-then ! (load ! (from ! (stop !)) (look ! 6 refl)) (and-then ! (load ! (from ! (stop !)) (look ! 7 refl)) (and-then ! (load ! (from ! (stop !)) (look ! 34 refl)) (and-then ! (load ! (from ! (stop !)) (look ! 15 refl)) (no-more !))))) (λ u.
+        use1 W (later (some (λ (y : Begun). ((‵ (flft κ₀ q₀) ⊛ (‵ (flft κ₁ q₁) ⊛ ‵ ftrue)) ⊛ ‵ (B.the-row .own y (u ∷ []))) ⊛ raw (ensured 𝓤 H A beg.ended (beg.clauses 𝓤 H A at-mem run) (κ₀, (κ₁, tt)) (pl, (st, (sn, (length ys, tt)))) tt y)))) (id⊢ 𝓤 _) $ await ! tt $ pick ! (λ y.
         split ! $ move ! (1 ∷ []) $ use1 W (raw (fact 𝓤 (Begins (now pl) (now st) sl (length ys) y))) (said-begin y) $ heard ! (Begins (now pl) (now st) sl (length ys) y) (λ bs. split ! $ move ! (1 ∷ []) $
         -- [what the answer owns; the tokens of pool and storage; what storage and pool own; obs; the borrow; list's token; _1; …]
         peeks ! B.the-row (Is B.the-row) (shows 𝓤 H A B.the-row) y (u ∷ []) (λ is.
@@ -375,9 +387,9 @@ module _ {M : Type 1} (𝓤 : URA M) (H : Heap 𝓤) (A : Atoms 𝓤) (W : Given
         assigns ! (of-opd ! (load ! (from ! (fld ! refl (stop !))) (look-in ! 11 (sub ! 1 refl (whole !))))) (from ! (stop !))
         (init ! 12 refl (LL.lawful Sh.the-type Sh′.the-laws 𝓤 H A W .typed (y .shape) (Sh′.lowered (y .shape) ∷ []) (fits-shape y u is) .0)) $
         assigns ! (of-opd ! (load ! (from ! (fld ! refl (stop !))) (look-in ! 11 (sub ! 2 refl (whole !))))) (from ! (stop !)) (init ! 13 refl (tt, record { fits = fits-link y u is })) $
-        assigns ! (of-opd ! (lit ! tt)) (from ! (stop !)) (init ! 14 refl (tt, record { fits = lit< tt })) $ forget ! 16 refl $
+        assigns ! (of-opd ! (lit ! tt)) (from ! (stop !)) (init ! 14 refl (tt, record { fits = lit< tt })) $ forget ! 16 refl $ forget ! 35 refl $
         rewrite ! 13 (λ (m : ℕ). ‵ (fat fullShare (tyInt w16) l₇ 0 (vint w16 m))) (follow-start (decode (now pl)) (y .link)) refl $
-        start y bs (fits-answer y u is) (fits-shape y u is) (fits-link y u is) 𝓣 fm known-first l₀ l₁ l₂ l₃ l₄ l₅ l₆ l₇ l₈ l₉ l₁₀ l₁₁ l₁₂ l₁₃))))))))))))))))))
+        start y bs (fits-answer y u is) (fits-shape y u is) (fits-link y u is) 𝓣 fm known-first l₀ l₁ l₂ l₃ l₄ l₅ l₆ l₇ l₈ l₉ ls l₁₀ l₁₁ l₁₂ l₁₃)))))))))))))))))))
 
 module _ {M : Type 1} (𝓤 : URA M) (H : Heap 𝓤) (A : Atoms 𝓤) (W : Given 𝓤 H A) (at-mem : Memory → SProp 𝓤) (run : Routine → Fun 𝓤) where
   stretches-walks : (𝓣 : Tables 𝓤 H) → FmC 𝓤 H (W .laws) (𝓣 .C) → Triple 𝓤 (𝓣 .C #calls-look·begin) (Begin 𝓤 H A at-mem run) → Triple 𝓤 (𝓣 .C #list·first) (First 𝓤 H A at-mem run)
