@@ -7,6 +7,7 @@ use kinds::SlipNumber;
 use layout::Shape;
 use transfer::Cursor;
 ghost use mathlib.Core.Path.{_≡_};
+ghost use mathlib.Core.Logic.{_↔_};
 ghost use mathlib.Core.List.{List, []};
 ghost use Prim.Native.Nat.{ℕ, _≤_};
 ghost use lib.ListN.{length};
@@ -37,6 +38,21 @@ pub enum Place {
 pub struct Shown {
     pub outcome: Outcome,
     pub place: Place,
+}
+
+// Whether there are `n` bytes at a place: a bounds test.
+pub fn lies(storage: &[u8], scratch: &[u8], place: Place, n: usize) -> bool
+    ensures { λ r. ⌜ Is r ↔ Lies (now (storage .entry)) (now (scratch .entry)) place n ⌝ }
+{
+    match place {
+        Place::Storage(start) => {
+            if storage.len() < start {
+                return false;
+            }
+            n <= storage.len() - start
+        }
+        Place::Scratch => n <= scratch.len(),
+    }
 }
 
 // The `n` bytes at a place: a part of storage or a part of the scratch.
