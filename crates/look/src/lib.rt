@@ -72,7 +72,7 @@ pub fn length(pool: &[u8], shape: Shape, s: SlipNumber) -> Outcome
     ensures { λ r. ⌜ ((st : List ℕ) → resultOf r (now (pool .entry)) st [] noView ≡ perform (Length (s .0)) (lent (now (pool .entry)) st)) ⌝ }
     ensures { λ r. ⌜ Leaves r (stateOf (slip (decode (now (pool .entry))) (s .0))) ⌝ }
 {
-    if chain::enter(pool, shape, s) != 0 {
+    if kinds::state_of(chain::enter(pool, shape, s)).held() {
         return answer::done(pool, shape, s, chain::chain_length(pool, shape, s));
     }
     Outcome::Refused(Refusal::Slip)
@@ -94,7 +94,7 @@ pub fn read(
     ensures { λ r. ⌜ Leaves r (stateOf (slip (decode (now (pool .entry))) (s .0))) ⌝ }
 {
     let entry = chain::enter(pool, shape, s);
-    if entry == 0 {
+    if !kinds::state_of(entry).held() {
         return Outcome::Refused(Refusal::Slip);
     }
     let head = entry - 1;
@@ -150,7 +150,7 @@ pub fn show(
     ensures { λ r. ⌜ Seen r (now (pool .entry)) (now (storage .entry)) (s .0) n (now (scratch .entry)) (now (scratch .exit)) ⌝ }
 {
     let entry = chain::enter(pool, shape, s);
-    if entry == 0 {
+    if !kinds::state_of(entry).held() {
         return unseen(Refusal::Slip);
     }
     if !BufferNumber::fits(n) {

@@ -1,11 +1,13 @@
 -- `pack::pack` meets its contract. Assumes nothing.
 use mathlib.Core.Path.{_≡_, sym, ap, _∙_}
+use mathlib.Core.Logic.{_≢_}
 use Prim.Native.Nat.{ℕ, _-_, _≤_, _<_}
 use native.Mathlib.Omega.{arith}
 use lib.ListN.{length}
 use lib.Dec.{leb}
 use borrow.Author.Needs.{needs}
 use borrow.Author.Tests.{not-true, not-false, leb-true, leb-false}
+use Rattle.kinds.proofs.Laws.{entry-none, entry-some}
 use Rattle.rules.specs.Basics.{Is}
 use Rattle.rules.specs.Tables.{Tables, pieceTotal, bufferTotal}
 use Rattle.rules.specs.Bytes.{decode}
@@ -25,34 +27,43 @@ use Rattle.pack.proofs.pack.Tie as tie
 enter-requires : tie.Need-enter-requires
 enter-requires c κs = search needs
 
+state-of-requires : tie.Need-state-of-requires
+state-of-requires c κs = search needs
+
+held-requires : tie.Need-held-requires
+held-requires c κs = search needs
+
 same-length : tie.Need-same-length
 same-length c = search needs
 
 returns : tie.Need-returns
 returns c =
-    let a = c .before .before .before .before .before .args in
-    (pack-slip (a .pool .now) (a .storage .now) (a .s .0) (c .before .enter .ensures .strange (c .if1 .taken)), tt)
+    let a = c .before .before .before .before .before .before .before .args in
+    (pack-slip (a .pool .now) (a .storage .now) (a .s .0) (c .before .before .before .enter .ensures .strange (entry-none (c .before .before .state-of .ensures) (c .before .held .ensures) (not-true _ (c .if1 .taken)))), tt)
 
 module _ (e : tie.Else1) where
   -- where the call started, and the tables there
   abbrev start : tie.Start
-  start = e .before .before .before .before .before
+  start = e .before .before .before .before .before .before .before
 
   abbrev tables : Tables
   tables = decode (start .args .pool .now)
 
   -- what was looked up of the slip: it is named, and one of the pool's
   abbrev head : ℕ
-  head = e .before .enter .result - 1
+  head = e .before .before .before .enter .result - 1
 
-  abbrev entry : Enters tables (start .args .shape) (start .args .s .0) (e .before .enter .result)
-  entry = e .before .enter .ensures
+  abbrev entry : Enters tables (start .args .shape) (start .args .s .0) (e .before .before .before .enter .result)
+  entry = e .before .before .before .enter .ensures
+
+  held-here : e .before .before .before .enter .result ≢ 0
+  held-here = entry-some (e .before .before .state-of .ensures) (e .before .held .ensures) (not-false _ (e .if1 .left))
 
   named-here : Is (unnamed tables (start .args .s .0)) → ⊥
-  named-here = entry .named (e .if1 .left)
+  named-here = entry .named held-here
 
   below : start .args .s .0 < start .args .shape .slips
-  below = entry .below (e .if1 .left)
+  below = entry .below held-here
 
   -- the chain from the head is the slip's
   same-chain : length (walk (pieceTotal tables) tables head) ≡ length (chain tables (start .args .s .0))
@@ -281,6 +292,8 @@ pack-spec =
     tie.close
     (tie.spec
     enter-requires
+    state-of-requires
+    held-requires
     same-length
     returns
     sub-head

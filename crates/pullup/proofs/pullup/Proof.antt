@@ -1,5 +1,6 @@
 -- `pullup::pullup` meets its contract. Assumes nothing.
 use mathlib.Core.Path.{_≡_, sym, ap, subst, _∙_}
+use mathlib.Core.Logic.{_≢_}
 use Prim.Native.Nat.{ℕ, _+_, _-_, _≤_, _<_}
 use native.Mathlib.Omega.{arith}
 use lib.ListN.{length}
@@ -7,6 +8,7 @@ use lib.Dec.{ltb, leb}
 use borrow.Author.Needs.{needs}
 use borrow.Author.Tests.{not-true, not-false, leb-true, leb-false}
 use Rattle.kinds.specs.Limits.{bufferSize}
+use Rattle.kinds.proofs.Laws.{entry-none, entry-some}
 use Rattle.rules.specs.Basics.{Is}
 use Rattle.rules.specs.Tables.{Tables, slipTotal, pieceTotal, bufferTotal}
 use Rattle.rules.specs.Bytes.{decode}
@@ -31,20 +33,26 @@ use Rattle.pullup.proofs.pullup.Tie as tie
 enter-requires : tie.Need-enter-requires
 enter-requires c κs = search needs
 
+state-of-requires : tie.Need-state-of-requires
+state-of-requires c κs = search needs
+
+held-requires : tie.Need-held-requires
+held-requires c κs = search needs
+
 same-length : tie.Need-same-length
 same-length c = search needs
 
 returns : tie.Need-returns
 returns c =
-    let a = c .before .before .before .before .before .args in
-    (pullup-slip (a .pool .now) (a .storage .now) (a .s .0) (a .n) (c .before .enter .ensures .strange (c .if1 .taken)), tt)
+    let a = c .before .before .before .before .before .before .before .args in
+    (pullup-slip (a .pool .now) (a .storage .now) (a .s .0) (a .n) (c .before .before .before .enter .ensures .strange (entry-none (c .before .before .state-of .ensures) (c .before .held .ensures) (not-true _ (c .if1 .taken)))), tt)
 
 -- ---- the slip is named
 
 module _ (e : tie.Else1) where
   -- where the call started, the tables there, and the slip
   abbrev start : tie.Start
-  start = e .before .before .before .before .before
+  start = e .before .before .before .before .before .before .before
 
   abbrev tables : Tables
   tables = decode (start .args .pool .now)
@@ -53,17 +61,20 @@ module _ (e : tie.Else1) where
   slip = start .args .s .0
 
   -- what was looked up of it: it is not vacant, and one of the pool's
-  abbrev entry : Enters tables (start .args .shape) slip (e .before .enter .result)
-  entry = e .before .enter .ensures
+  abbrev entry : Enters tables (start .args .shape) slip (e .before .before .before .enter .result)
+  entry = e .before .before .before .enter .ensures
+
+  held-here : e .before .before .before .enter .result ≢ 0
+  held-here = entry-some (e .before .before .state-of .ensures) (e .before .held .ensures) (not-false _ (e .if1 .left))
 
   named-here : Is (unnamed tables slip) → ⊥
-  named-here = entry .named (e .if1 .left)
+  named-here = entry .named held-here
 
   below : slip < start .args .shape .slips
-  below = entry .below (e .if1 .left)
+  below = entry .below held-here
 
   inside : slip < slipTotal tables
-  inside = entry .inside (e .if1 .left)
+  inside = entry .inside held-here
 
 fits-requires : tie.Need-fits-requires
 fits-requires c κs = search needs
@@ -265,7 +276,7 @@ module _ (c : tie.Else6) where
 
   -- so the bytes can go there
   pullable : let f = there (looked (asked roomy)) in
-      Pullable (tables base) (slip base) (start base .args .n) (base .before .enter .result - 1) (f .find .result) (roomy .before .before .piece-room .result .lowest) (lowest .next-free-buffer .result)
+      Pullable (tables base) (slip base) (start base .args .n) (base .before .before .before .enter .result - 1) (f .find .result) (roomy .before .before .piece-room .result .lowest) (lowest .next-free-buffer .result)
   pullable =
       let w = asked roomy in
       let f = there (looked w) in
@@ -315,6 +326,8 @@ pullup-spec =
     tie.close
     (tie.spec
     enter-requires
+    state-of-requires
+    held-requires
     same-length
     returns
     fits-requires
