@@ -63,7 +63,7 @@ module _ (e : tie.Else1) where
   named-here = entry .named held-here
 
 sub-head : tie.Need-sub-head
-sub-head c = search needs
+sub-head c = let i = held-here c in omega arith
 
 find-requires : tie.Need-find-requires
 find-requires c κs = let e = c .before in (start e .pre, entry e .good)

@@ -91,7 +91,7 @@ module _ (e : tie.Else1) where
   planned = dropped-planned tables slip (start .args .n) (tables-now tables (start .pre .sound))
 
 sub-find : tie.Need-sub-find
-sub-find c = search needs
+sub-find c = let i = held-here (c .before) in omega arith
 
 find-requires : tie.Need-find-requires
 find-requires c κs = let e = c .before in (start e .pre, entry e .good)
@@ -145,7 +145,7 @@ returns-3 c =
     let e = from (r .before .before) in
     let z = start e in (
       λ st. drop-nothing (z .args .pool .now) st (slip e) (z .args .n) (named-here e) (in-range r) (t .if3 .taken) (c .done .ensures)
-          (λ i. omega (arith, e .before .before .before .slice-known .given i)) (z .pre .shaped),
+          (λ i. omega (arith, e .before .before .before .before .before .slice-known .given i)) (z .pre .shaped),
       rw (c .done .ensures),
     )
 

@@ -55,7 +55,7 @@ module _ (e : tie.Else1) where
   named-here = entry .named held-here
 
 sub-link : tie.Need-sub-link
-sub-link c = search needs
+sub-link c = let i = held-here c in omega arith
 
 pieces-from-requires : tie.Need-pieces-from-requires
 pieces-from-requires c κs = (start c .pre, entry c .good)

@@ -70,7 +70,7 @@ module _ (e : tie.Else1) where
   same-chain = ap (λ (x : ℕ). length (walk (pieceTotal tables) tables x)) (entry .link-is)
 
 sub-head : tie.Need-sub-head
-sub-head c = search needs
+sub-head c = let i = held-here c in omega arith
 
 scattered-requires : tie.Need-scattered-requires
 scattered-requires c κs = let e = c .before in (start e .pre .0, entry e .good)

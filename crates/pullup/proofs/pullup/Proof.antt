@@ -96,7 +96,7 @@ fits-here : (c : tie.Else2) → start (c .before .before) .args .n ≤ bufferSiz
 fits-here c = leb-true (start (c .before .before) .args .n) bufferSize (sym (c .before .fits2 .ensures) ∙ not-false _ (c .if2 .left))
 
 sub-head : tie.Need-sub-head
-sub-head c = search needs
+sub-head c = let i = held-here c in omega arith
 
 find-requires : tie.Need-find-requires
 find-requires c κs = let e = c .before .before .before in (start e .pre .0, entry e .good)
