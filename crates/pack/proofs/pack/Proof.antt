@@ -91,7 +91,7 @@ returns-2 c =
     let a = t .before in
     let e = from a in
     let z = start e in
-    let k = e .before .before .before .before in
+    let k = e .before .before .before .before .before .before in
     let T = tables e in
     let few = leb-true (length (walk (pieceTotal T) T (head e))) 1 (not-false _ (sym (a .scattered .ensures) ∙ not-true _ (t .if2 .taken))) in (
       pack-whole (z .args .pool .now) (z .args .storage .now) (z .args .s .0) (named-here e) (omega (arith, few, same-chain e)) (c .done .ensures) (λ i. omega (arith, k .slice-known .given i)) (whole (z .pre .0 .shaped)),

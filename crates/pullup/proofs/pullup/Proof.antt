@@ -96,7 +96,7 @@ fits-here : (c : tie.Else2) → start (c .before .before) .args .n ≤ bufferSiz
 fits-here c = leb-true (start (c .before .before) .args .n) bufferSize (sym (c .before .fits2 .ensures) ∙ not-false _ (c .if2 .left))
 
 sub-head : tie.Need-sub-head
-sub-head c = let i = held-here c in omega arith
+sub-head c = let i = held-here (c .before .before) in omega arith
 
 find-requires : tie.Need-find-requires
 find-requires c κs = let e = c .before .before .before in (start e .pre .0, entry e .good)
@@ -165,7 +165,7 @@ returns-4 c =
     let z = start e in
     let a = z .args in (
       pullup-nothing (a .pool .now) (a .storage .now) (slip e) (a .n) (named-here e) (fits-here (fitting (there k))) (in-range (ranged k)) (subst Is (sym (t .if4 .taken) ∙ first-has k) tt)
-          (c .done .ensures) (λ i. omega (arith, e .before .before .before .before .slice-known .given i)) (z .pre .0 .shaped),
+          (c .done .ensures) (λ i. omega (arith, e .before .before .before .before .before .before .slice-known .given i)) (z .pre .0 .shaped),
       rw (c .done .ensures),
     )
 
