@@ -4,6 +4,7 @@ use mathlib.Core.Path.{_≡_, refl, sym, ap, _∙_}
 use mathlib.Core.Logic.{_≢_}
 use mathlib.Core.Bool.{Bool, true, false, true≢false}
 use native.Mathlib.Omega.{arith}
+use Rattle.kinds.specs.declared.PieceNumber.{PieceNumber}
 use Rattle.kinds.specs.declared.SlipState.{SlipState}
 use Rattle.kinds.specs.declared.SlipState.the-variants.{Vacant, Empty, Heads}
 use Rattle.kinds.specs.SlipState.{stateOf, isHeld, rawOf}
@@ -19,6 +20,10 @@ pub raw-state : (n : ℕ) → rawOf (stateOf n) ≡ n
 raw-state zero = refl
 raw-state (suc zero) = refl
 raw-state (suc (suc d)) = refl
+
+-- a number that stands for the head of a chain is two above the piece's
+pub heads-raw : {n : ℕ} {p : PieceNumber} → stateOf n ≡ Heads p → n ≡ suc (suc (p .0))
+heads-raw {n} e = sym (raw-state n) ∙ ap rawOf e
 
 -- a number that is neither 0 nor 1 stands for the piece two below it
 pub state-heads : (n : ℕ) → n ≢ 0 → n ≢ 1 → Heads (record { 0 = n - 2 }) ≡ stateOf n
