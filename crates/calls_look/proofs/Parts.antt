@@ -54,7 +54,8 @@ module _ (p st sc before : List ℕ) (s n : ℕ) where
         let back : viewAt q ≡ viewIn x = ap (λ (y : View). viewAt (placeOf y)) v ∙ view-back (decode p .stock) (spans (decode p) s) n ∙ sym v in
         let part : partAt st sc q n ≡ take n (reads S s) =
         part-seen st sc q n ∙ ap (λ (y : View). seen y n st sc) back ∙ ap (λ (r : Result). seen (r .view) n st (r .output)) e ∙ show-seen s n before S h f a in
-        let whole = lies-whole st sc q n (λ i. back ∙ v ∙ sym (view-none (decode p .stock) (spans (decode p) s) n i)) (ap length part ∙ show-exact s n before S h f a) in
+        let start-none : n ≡ 0 → viewAt q ≡ noView = λ i. back ∙ v ∙ sym (view-none (decode p .stock) (spans (decode p) s) n i) in
+        let whole = lies-whole st sc q n start-none (ap length part ∙ show-exact s n before S h f a) in
         subst (Shows (viewIn x)) (sym k) (record { there = whole; bytes = part ∙ sym (if-T (eqb (step (Do o) m .code) 0) _ _ (eq→eqb _ 0 (sym code-is ∙ z))) })
 
     shows-none : x .code ≢ 0 → Shows (viewIn x) (x .number)

@@ -65,7 +65,7 @@ fn place_of(shown: Shown) -> Place
     Place::Scratch
 }
 
-// The bytes that an answer of show shows, of the storage and the scratch that were lent to it: of a done show the first bytes of its slip, of a refused one none.
+// The bytes that an answer of show shows, of the storage and the scratch lent to it: of a done one the first bytes of its slip, of a refused one none.
 pub fn part<'a>(storage: &'a [u8], scratch: &'a [u8], shown: Shown) -> &'a [u8]
     ensures { λ r. ⌜ ((pool before : List ℕ) (s n : ℕ)
         → shownOf shown pool (now (storage .entry)) (now (scratch .entry)) ≡ step (Do (Show s n before)) (lent pool (now (storage .entry)))

@@ -203,7 +203,8 @@ pub view-back : (Z : List ℕ) (xs : List Stretch) (n : ℕ) → viewAt (placeOf
 unfolding viewOf if_then_else_
 view-back Z [] n = refl
 view-back Z (x ∷ xs) n =
-    if-either (λ (v : View). viewAt (placeOf v) ≡ v) (eqb n 0) _ _ (λ _. refl) (λ _. if-either (λ (v : View). viewAt (placeOf v) ≡ v) (scattered (x ∷ xs) n) _ _ (λ _. refl) (λ _. refl))
+    if-either (λ (v : View). viewAt (placeOf v) ≡ v) (eqb n 0) _ _ (λ _. refl)
+    (λ _. if-either (λ (v : View). viewAt (placeOf v) ≡ v) (scattered (x ∷ xs) n) _ _ (λ _. refl) (λ _. refl))
 
 -- the bytes at a place are those that the rules' view shows
 pub part-seen : (st sc : List ℕ) (place : Place) (n : ℕ) → partAt st sc place n ≡ seen (viewAt place) n st sc

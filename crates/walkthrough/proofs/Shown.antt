@@ -34,6 +34,9 @@ bytes-next s i h =
     ∙ ap bytesText one
 
 -- the row of an answer x of show s, n, whose bytes are seen
-pub shown-row : {x : Shown} {sc bytes : List ℕ} (p st before : List ℕ) (s n : ℕ) → shownOf x p st sc ≡ step (Do (Show s n before)) (lent p st) → bytes ≡ bytesShown s n before (lent p st)
-    → answerText Number (record { code = x .code; number = x .number }) ++ placeText (viewIn x) ++ bytesText bytes ++ ascii "\n\n" ≡ shownText s n before (lent p st)
-shown-row p st before s n w e = λ i. answerText Number (record { code = w i .code; number = w i .number }) ++ placeText (w i .view) ++ bytesText (e i) ++ ascii "\n\n"
+module _ {x : Shown} {sc bytes : List ℕ} (p st before : List ℕ) (s n : ℕ) where
+  pub shown-row : shownOf x p st sc ≡ step (Do (Show s n before)) (lent p st) → bytes ≡ bytesShown s n before (lent p st)
+      → answerText Number (record { code = x .code; number = x .number }) ++ placeText (viewIn x) ++ bytesText bytes ++ ascii "\n\n"
+      ≡ shownText s n before (lent p st)
+  shown-row w e =
+      λ i. answerText Number (record { code = w i .code; number = w i .number }) ++ placeText (w i .view) ++ bytesText (e i) ++ ascii "\n\n"

@@ -32,7 +32,8 @@ returns : tie.Need-returns
 returns c =
     let a = c .before .before .before .before .before .before .args in
     let p = a .pool .now in
-    (λ st. append-slip p st (a .a .0) (a .b .0) (or-left (unnamed (decode p) (a .a .0)) _ (c .before .before .before .enter .ensures .strange (entry-none (c .before .before .state-of .ensures) (c .before .held .ensures) (not-true _ (c .if1 .taken))))), tt)
+    let vacant = entry-none (c .before .before .state-of .ensures) (c .before .held .ensures) (not-true _ (c .if1 .taken)) in
+    (λ st. append-slip p st (a .a .0) (a .b .0) (or-left (unnamed (decode p) (a .a .0)) _ (c .before .before .before .enter .ensures .strange vacant)), tt)
 
 -- where the call started, and the tables there
 abbrev start : tie.Else1 → tie.Start
@@ -77,7 +78,8 @@ returns-3 c =
     let h = u .before in
     let a = start (h .before .before .before .before .before) .args in
     let p = a .pool .now in
-    (λ st. append-slip p st (a .a .0) (a .b .0) (or-right (unnamed (decode p) (a .a .0)) _ (h .enter2 .ensures .strange (entry-none (u .state-of2 .ensures) (c .before .held2 .ensures) (not-true _ (c .if3 .taken))))), tt)
+    let vacant = entry-none (u .state-of2 .ensures) (c .before .held2 .ensures) (not-true _ (c .if3 .taken)) in
+    (λ st. append-slip p st (a .a .0) (a .b .0) (or-right (unnamed (decode p) (a .a .0)) _ (h .enter2 .ensures .strange vacant)), tt)
 
 -- they are two, of the pool's
 module _ (c : tie.Else3) where

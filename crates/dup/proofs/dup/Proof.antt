@@ -237,7 +237,12 @@ returns-5 c =
     let now = onward (w .clone-rest .ensures) (λ (U : Tables). setSlip U t (holding (g + 1))) (u .under-new2 .ensures .0) in (
       λ st. dup-done (z .args .pool .now) st s (named-here e) (found (at e3) .2) (omega (arith, ap length fs, plan-one T (headOf T s) (some e3))) (found (at e3) .1) (u .under-new2 .ensures .1)
           (λ i. omega (arith, c .slice-known4 .given i))
-          (record { shaped = now .shaped; is = now .is ∙ ap (λ (U : Tables). setSlip U t (holding (g + 1))) (cloned-made T (piece-here e3) g) ∙ ap (λ (d : ℕ). setSlip (made (dupPlan T (suc d)) (g ∷ [])) t (holding (g + 1))) same-piece ∙ clone-under T (headOf T s) t g (some e3) fs }),
+          (record {
+            shaped = now .shaped;
+            is = now .is ∙ ap (λ (U : Tables). setSlip U t (holding (g + 1))) (cloned-made T (piece-here e3) g)
+                ∙ ap (λ (d : ℕ). setSlip (made (dupPlan T (suc d)) (g ∷ [])) t (holding (g + 1))) same-piece
+                ∙ clone-under T (headOf T s) t g (some e3) fs;
+          }),
       rw (u .under-new2 .ensures .1),
     )
 

@@ -34,7 +34,8 @@ returns : tie.Need-returns
 returns c =
     let t = c .before in
     let a = t .before .before .before .before .before .args in
-    begun-slip (decode (a .pool .now)) (a .s .0) (a .room) (c .none .ensures) (t .before .before .before .enter .ensures .strange (entry-none (t .before .before .state-of .ensures) (t .before .held .ensures) (not-true _ (t .if1 .taken))))
+    let vacant = entry-none (t .before .before .state-of .ensures) (t .before .held .ensures) (not-true _ (t .if1 .taken)) in
+    begun-slip (decode (a .pool .now)) (a .s .0) (a .room) (c .none .ensures) (t .before .before .before .enter .ensures .strange vacant)
 
 module _ (e : tie.Else1) where
   -- where the call started, and the tables there

@@ -48,7 +48,8 @@ returns c =
 returns-2 : tie.Need-returns-2
 returns-2 c =
     let a = c .before .before .before .before .before .args in
-    (λ st. length-slip (a .pool .now) st (a .s .0) (c .before .before .before .enter .ensures .strange (entry-none (c .before .before .state-of .ensures) (c .before .held .ensures) (c .if1 .left))), tt)
+    let vacant = entry-none (c .before .before .state-of .ensures) (c .before .held .ensures) (c .if1 .left) in
+    (λ st. length-slip (a .pool .now) st (a .s .0) (c .before .before .before .enter .ensures .strange vacant), tt)
 
 pub length-spec : {M : Type 1} → statement M
 length-spec =

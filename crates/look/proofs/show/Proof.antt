@@ -42,7 +42,8 @@ returns : tie.Need-returns
 returns c =
     let t = c .before in
     let a = t .before .before .before .before .before .before .before .args in
-    show-slip (a .pool .now) (a .storage .now) (a .scratch .now) (a .s .0) (a .n) (c .unseen .ensures) (t .before .before .before .enter .ensures .strange (entry-none (t .before .before .state-of .ensures) (t .before .held .ensures) (not-true _ (t .if1 .taken))))
+    let vacant = entry-none (t .before .before .state-of .ensures) (t .before .held .ensures) (not-true _ (t .if1 .taken)) in
+    show-slip (a .pool .now) (a .storage .now) (a .scratch .now) (a .s .0) (a .n) (c .unseen .ensures) (t .before .before .before .enter .ensures .strange vacant)
 
 fits-requires : tie.Need-fits-requires
 fits-requires c κs = search needs

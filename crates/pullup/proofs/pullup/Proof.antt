@@ -45,7 +45,8 @@ same-length c = search needs
 returns : tie.Need-returns
 returns c =
     let a = c .before .before .before .before .before .before .before .args in
-    (pullup-slip (a .pool .now) (a .storage .now) (a .s .0) (a .n) (c .before .before .before .enter .ensures .strange (entry-none (c .before .before .state-of .ensures) (c .before .held .ensures) (not-true _ (c .if1 .taken)))), tt)
+    let vacant = entry-none (c .before .before .state-of .ensures) (c .before .held .ensures) (not-true _ (c .if1 .taken)) in
+    (pullup-slip (a .pool .now) (a .storage .now) (a .s .0) (a .n) (c .before .before .before .enter .ensures .strange vacant), tt)
 
 -- ---- the slip is named
 
@@ -276,7 +277,8 @@ module _ (c : tie.Else6) where
 
   -- so the bytes can go there
   pullable : let f = there (looked (asked roomy)) in
-      Pullable (tables base) (slip base) (start base .args .n) (base .before .before .before .enter .result - 1) (f .find .result) (roomy .before .before .piece-room .result .lowest) (lowest .next-free-buffer .result)
+      Pullable (tables base) (slip base) (start base .args .n) (base .before .before .before .enter .result - 1) (f .find .result)
+          (roomy .before .before .piece-room .result .lowest) (lowest .next-free-buffer .result)
   pullable =
       let w = asked roomy in
       let f = there (looked w) in
