@@ -79,13 +79,49 @@ fn morning() {
     }
 }
 
-/// The proved walk-through prints the same rows, drawn the same: its first call is named open, and it reads nothing.
+/// What the proved walk-through prints.
+const WALKED: &str = include_str!("../../crates/walkthrough/stdout");
+
+/// The proved walk-through prints the same rows, drawn the same: its first call is named open, and it shows where the morning reads.
 #[test]
 fn walkthrough() {
     let rows = MORNING.split_inclusive("\n\n");
     let rows: String = rows.filter(|row| !row.starts_with("read ")).collect();
     let rows = rows.replacen("pool ", "open ", 1);
-    assert_eq!(rows, include_str!("../../crates/walkthrough/stdout"));
+    let walked = WALKED.split_inclusive("\n\n");
+    let walked: String = walked.filter(|row| !row.starts_with("show ")).collect();
+    assert_eq!(rows, walked);
+}
+
+/// Its shows see the bytes that the interface for Rust shows after the same calls, and where: in the scratch before the pullup, in storage after it.
+#[test]
+fn walkthrough_shows() {
+    let mut calls = String::new();
+    let mut places = Vec::new();
+    for row in WALKED.split_inclusive("\n\n") {
+        let (call, _) = row.split_once(" -> ").expect("an answer");
+        let call = call.replace("open ", "pool ");
+        calls += &format!("{call}\n");
+        if !call.starts_with("show ") {
+            continue;
+        }
+        let out = answers(&calls);
+        let (_, shown) = out.rsplit_once(" in ").expect("a place");
+        let mut lines = shown.lines();
+        let place = lines.next().expect("a place");
+        let hex = lines.flat_map(|line| line[6..53].split_whitespace());
+        let bytes: Vec<u8> = hex
+            .map(|byte| u8::from_str_radix(byte, 16).expect("hexadecimal"))
+            .collect();
+        let mut words = row.lines().nth(1).expect("the bytes").split_whitespace();
+        let word = words.next().expect("a place");
+        let seen: Vec<u8> = words.map(|byte| byte.parse().expect("a byte")).collect();
+        assert_eq!(seen, bytes, "{call}");
+        assert!(place.starts_with(word), "{place}");
+        assert_eq!(seen, data(520)[500..], "{call}");
+        places.push(word);
+    }
+    assert_eq!(places, ["scratch", "storage"]);
 }
 
 /// Without the drawings there is one line a call, and the bytes under a read.

@@ -535,6 +535,37 @@ fn null_pointers_of_gather() {
     assert_eq!(output, [2, 3, 9, 9]);
 }
 
+/// The view of a done show holds the bytes that the model reads from the front of the chain, the
+/// view of a refused one none: every slip and one past them, counts to past the end.
+#[test]
+fn view_holds_what_the_model_reads() {
+    let mut seen = [0, 0, 0];
+    for (seed, list) in pools(200, 40) {
+        let tables = Tables::parse(&list.pool, &list.storage).expect("sound");
+        for slip in 0..=tables.slips.len() as u16 {
+            let held = tables.held(slip);
+            let bytes = held.map(|held| tables.read(&list.storage, &tables.chain(held)));
+            let whole = bytes.as_ref().map_or(0, |bytes| bytes.len() as u32);
+            for n in [0, 1, whole / 2, whole, whole + 1, 512, 513] {
+                let mut scratch = [0xA5; 512];
+                let shown = calls::show(&list.pool, &list.storage, slip, n, &mut scratch);
+                let view = shown.view(&list.storage, &scratch);
+                let front = bytes.as_ref().and_then(|bytes| bytes.get(..n as usize));
+                let wanted = front.filter(|_| n <= 512);
+                assert_eq!(shown.code == 0, wanted.is_some(), "seed {seed}");
+                assert_eq!(view, wanted.unwrap_or_default(), "seed {seed}");
+                let kind = if wanted.is_none() {
+                    2
+                } else {
+                    shown.in_scratch
+                };
+                seen[kind as usize] += 1;
+            }
+        }
+    }
+    assert!(seen.iter().all(|n| *n > 100), "{seen:?}");
+}
+
 /// The view that show answers holds the bytes that read gives.
 #[test]
 fn view_reads_the_same() {

@@ -56,14 +56,14 @@ pub fn append(pool: &mut [u8], shape: Shape, a: SlipNumber, b: SlipNumber) -> Ou
     ensures { λ r. ⌜ Leaves r (stateOf (slip (decode (now (pool .exit))) (a .0))) ⌝ }
 {
     let first = chain::enter(pool, shape, a);
-    if first == 0 {
+    if !kinds::state_of(first).held() {
         return Outcome::Refused(Refusal::Slip);
     }
     if a.0 == b.0 {
         return Outcome::Refused(Refusal::Same);
     }
     let second = chain::enter(pool, shape, b);
-    if second == 0 {
+    if !kinds::state_of(second).held() {
         return Outcome::Refused(Refusal::Slip);
     }
     let head = first - 1;

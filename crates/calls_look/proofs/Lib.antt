@@ -1,2 +1,3 @@
 -- The laws of calls_look.
 pub mod Laws
+pub mod Parts

@@ -5,14 +5,14 @@ use kinds::SlipNumber;
 use layout::Shape;
 use look::Place;
 ghost use mathlib.Core.Path.{_≡_};
-ghost use mathlib.Core.List.{[]};
-ghost use Prim.Native.Nat.{_<_, _^_};
+ghost use mathlib.Core.List.{List, []};
+ghost use Prim.Native.Nat.{ℕ, _<_, _^_};
 ghost use Rattle.rules.specs.Sound.{lent};
 ghost use Rattle.rules.specs.Rule.{noView};
 ghost use Rattle.rules.specs.Step.{Length, Read, Show, WireList, Do, step};
-ghost use Rattle.look.specs.Place.{viewAt};
+ghost use Rattle.look.specs.Place.{viewAt, placeOf};
 ghost use Rattle.calls.specs.Result.{resultOf};
-ghost use Rattle.calls_look.specs.Shown.{shownAs, shownOf};
+ghost use Rattle.calls_look.specs.Shown.{shownAs, viewIn, shownOf, bytesShown};
 ghost use Rattle.calls_look.specs.Begin.{Begins};
 
 // What show answers to C: the view is `number` bytes from `start` on, of the scratch if `in_scratch` is 1, else of storage.
@@ -53,6 +53,30 @@ fn shown_of(r: look::Shown) -> Shown
             start: 0,
         },
     }
+}
+
+// The place that an answer of show names.
+fn place_of(shown: Shown) -> Place
+    ensures { λ r. ⌜ r ≡ placeOf (viewIn shown) ⌝ }
+{
+    if shown.in_scratch == 0 {
+        return Place::Storage(shown.start as usize);
+    }
+    Place::Scratch
+}
+
+// The bytes that an answer of show shows, of the storage and the scratch lent to it: of a done one the first bytes of its slip, of a refused one none.
+pub fn part<'a>(storage: &'a [u8], scratch: &'a [u8], shown: Shown) -> &'a [u8]
+    ensures { λ r. ⌜ ((pool before : List ℕ) (s n : ℕ)
+        → shownOf shown pool (now (storage .entry)) (now (scratch .entry)) ≡ step (Do (Show s n before)) (lent pool (now (storage .entry)))
+        → now r ≡ bytesShown s n before (lent pool (now (storage .entry)))) ⌝ }
+{
+    let place = place_of(shown);
+    let n = shown.number as usize;
+    if look::lies(storage, scratch, place, n) {
+        return look::view(storage, scratch, place, n);
+    }
+    &storage[..0]
 }
 
 // length: the byte count of a chain.

@@ -30,7 +30,7 @@ pub fn cut(pool: &mut [u8], shape: Shape, s: SlipNumber, off: u32, n: u32) -> Ou
     ensures { λ r. ⌜ Leaves r (stateOf (slip (decode (now (pool .exit))) (numberOf r))) ⌝ }
 {
     let entry = chain::enter(pool, shape, s);
-    if entry == 0 {
+    if !kinds::state_of(entry).held() {
         return Outcome::Refused(Refusal::Slip);
     }
     let head = entry - 1;

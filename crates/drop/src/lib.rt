@@ -22,7 +22,7 @@ pub fn drop_first(pool: &mut [u8], shape: Shape, s: SlipNumber, n: u32) -> Outco
     ensures { λ r. ⌜ Leaves r (stateOf (slip (decode (now (pool .exit))) (s .0))) ⌝ }
 {
     let entry = chain::enter(pool, shape, s);
-    if entry == 0 {
+    if !kinds::state_of(entry).held() {
         return Outcome::Refused(Refusal::Slip);
     }
     let at = chain::find(pool, shape, entry - 1, n);

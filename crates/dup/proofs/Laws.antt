@@ -1,14 +1,18 @@
 -- What dup answers and leaves: the rule's result. Assumes nothing.
 use mathlib.Core.Path.{_≡_, refl, sym, ap, _∙_}
+use mathlib.Core.Logic.{_≢_, _⊎_, ⊎-elim}
 use mathlib.Core.List.{List, [], _∷_}
 use Prim.Native.Nat.{ℕ, zero, suc, _+_, _-_, _≤_, _<_}
 use native.Mathlib.Numerals.{add-one}
 use native.Mathlib.Omega.{arith}
+use denote.Enum.Declared.{tagOf}
 use lib.ListN.{length}
 use Rattle.kinds.specs.declared.SlipState.{SlipState}
 use Rattle.kinds.specs.declared.Refusal.the-variants.{Slip, Slips, Pieces}
 use Rattle.kinds.specs.declared.Outcome.{Outcome}
 use Rattle.kinds.specs.declared.Outcome.the-variants.{Done, Refused}
+use Rattle.kinds.specs.SlipState.{stateOf}
+use Rattle.kinds.proofs.SlipState.{the-type}
 use Rattle.rules.specs.Basics.{Is}
 use Rattle.rules.specs.Tables.{Tables, piece, headOf, holding, setSlip}
 use Rattle.rules.specs.Bytes.{decode}
@@ -27,6 +31,14 @@ use Rattle.layout.specs.declared.Shape.{Shape}
 use Rattle.tables.specs.Shape.{Holds}
 use Rattle.answer.specs.Result.{resultOf}
 use Rattle.answer.proofs.Perform.{perform-first, perform-slips, perform-pieces, perform-all, changed}
+
+-- ---- the state
+
+-- a held slip that no piece heads is empty: its entry is 1
+pub no-heads : (n : ℕ) {x : SlipState} → x ≡ stateOf n → n ≢ 0 → (tagOf the-type x ≡ 0) ⊎ (tagOf the-type x ≡ 1) → n ≡ 1
+no-heads zero e h k = absurd (h refl)
+no-heads (suc zero) e h k = refl
+no-heads (suc (suc d)) e h k = let two = ap (tagOf the-type) e in absurd (⊎-elim (λ z. omega arith) (λ z. omega arith) k)
 
 -- ---- the plan
 

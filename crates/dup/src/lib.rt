@@ -3,6 +3,7 @@ use kinds::Outcome;
 use kinds::PieceNumber;
 use kinds::Refusal;
 use kinds::SlipNumber;
+use kinds::SlipState;
 use layout::Shape;
 ghost use mathlib.Core.Path.{_≡_};
 ghost use mathlib.Core.List.{List, []};
@@ -23,22 +24,21 @@ pub fn dup(pool: &mut [u8], shape: Shape, s: SlipNumber) -> Outcome
     ensures { λ r. ⌜ ((st : List ℕ) → resultOf r (now (pool .exit)) st [] noView ≡ perform (Dup (s .0)) (lent (now (pool .entry)) st)) ⌝ }
     ensures { λ r. ⌜ Leaves r (stateOf (slip (decode (now (pool .exit))) (numberOf r))) ⌝ }
 {
-    let entry = chain::enter(pool, shape, s);
-    if entry == 0 {
+    let state = kinds::state_of(chain::enter(pool, shape, s));
+    if !state.held() {
         return Outcome::Refused(Refusal::Slip);
     }
     let t = room::next_vacant(pool, shape, SlipNumber(0));
     if t.0 == shape.slips {
         return Outcome::Refused(Refusal::Slips);
     }
-    let head = entry - 1;
-    if head == 0 {
+    let SlipState::Heads(head) = state else {
         return build::under_new(pool, shape, t, 0);
-    }
+    };
     let f = room::next_free_piece(pool, shape, PieceNumber(0));
     if f.0 == shape.pieces {
         return Outcome::Refused(Refusal::Pieces);
     }
-    rest::clone_rest(pool, shape, PieceNumber(head - 1), 0, f);
+    rest::clone_rest(pool, shape, head, 0, f);
     build::under_new(pool, shape, t, f.0 + 1)
 }

@@ -21,7 +21,7 @@ pub fn free(pool: &mut [u8], shape: Shape, s: SlipNumber) -> Outcome
     ensures { λ r. ⌜ ((st : List ℕ) → resultOf r (now (pool .exit)) st [] noView ≡ perform (Free (s .0)) (lent (now (pool .entry)) st)) ⌝ }
     ensures { λ r. ⌜ Leaves r (stateOf (slip (decode (now (pool .exit))) (s .0))) ⌝ }
 {
-    if chain::enter(pool, shape, s) == 0 {
+    if !kinds::state_of(chain::enter(pool, shape, s)).held() {
         return Outcome::Refused(Refusal::Slip);
     }
     release::turn(pool, shape, s, 0);

@@ -3,7 +3,7 @@ ghost use mathlib.Core.Path.{_≡_};
 ghost use Prim.Native.Nat.{_+_, _*_, min};
 ghost use lib.Dec.{ltb, leb};
 ghost use Rattle.kinds.specs.Limits.{mostBuffers, mostPieces, mostSlips, bufferSize, counted};
-ghost use Rattle.kinds.specs.SlipState.{stateOf};
+ghost use Rattle.kinds.specs.SlipState.{stateOf, isHeld};
 ghost use Rattle.kinds.specs.Refusal.{refusalCode};
 ghost use Rattle.kinds.specs.Outcome.{answerOf};
 
@@ -149,6 +149,19 @@ impl BufferNumber {
         ensures { λ r. ⌜ r ≡ leb n bufferSize ⌝ }
     {
         n <= BufferNumber::SIZE as u32
+    }
+}
+
+impl SlipState {
+    // Whether the slip holds a chain, if an empty one: a handle in use.
+    pub fn held(self) -> bool
+        ensures { λ r. ⌜ r ≡ isHeld self ⌝ }
+    {
+        match self {
+            SlipState::Vacant => false,
+            SlipState::Empty => true,
+            SlipState::Heads(_) => true,
+        }
     }
 }
 

@@ -61,7 +61,7 @@ pub fn begin(pool: &[u8], shape: Shape, s: SlipNumber, room: usize) -> Begun
     ensures { λ r. ⌜ r ≡ begun (decode (now (pool .entry))) (s .0) room ⌝ }
 {
     let entry = chain::enter(pool, shape, s);
-    if entry == 0 {
+    if !kinds::state_of(entry).held() {
         return none(Refusal::Slip);
     }
     let link = entry - 1;

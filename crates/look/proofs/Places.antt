@@ -1,11 +1,12 @@
 -- What show answers: which refusal, where the bytes are seen, and that they are there. Assumes nothing.
 use mathlib.Core.Path.{_≡_, refl, sym, ap, _∙_}
-use mathlib.Core.Bool.{_&&_}
+use mathlib.Core.Logic.{_↔_}
+use mathlib.Core.Bool.{false, _&&_}
 use mathlib.Core.List.{List, [], _∷_}
-use Prim.Native.Nat.{ℕ, _+_, _-_, _≤_, _<_}
+use Prim.Native.Nat.{ℕ, _+_, _-_, _≤_, _<_, min}
 use native.Mathlib.Decide.{ℕ-discrete}
 use native.Mathlib.Omega.{arith}
-use lib.ListN.{length, take}
+use lib.ListN.{length, take, length-take, length-drop}
 use lib.Dec.{T-not, not-T, eqb, eqb→eq, ltb, ltb→lt, lt→ltb, leb, leb→le, le→leb}
 use Rattle.kinds.specs.declared.Refusal.{Refusal}
 use Rattle.kinds.specs.declared.Refusal.the-variants.{Slip, Long, Range, Narrow}
@@ -13,29 +14,22 @@ use Rattle.kinds.specs.declared.Outcome.{Outcome}
 use Rattle.kinds.specs.declared.Outcome.the-variants.{Done, Refused}
 use Rattle.kinds.specs.Limits.{bufferSize}
 use Rattle.kinds.specs.SlipState.{stateOf}
-use Rattle.kinds.specs.Outcome.{codeOf}
-use Rattle.kinds.specs.Limits.{bufferSize}
-use Rattle.kinds.specs.SlipState.{stateOf}
-use Rattle.kinds.specs.Outcome.{codeOf}
 use Rattle.kinds.proofs.Sizes.{start-step}
 use Rattle.rules.specs.Basics.{Is, if_then_else_}
 use Rattle.rules.specs.Layout.{storageLength}
-use Rattle.rules.specs.Tables.{Tables, slip, piece, bufferTotal}
+use Rattle.rules.specs.Tables.{Tables, slip, piece}
 use Rattle.rules.specs.Bytes.{decode, encode}
 use Rattle.rules.specs.Chain.{Stretch, stretch, spans, total, firstLength, lengthOf, positionOf, reads}
-use Rattle.rules.specs.Sound.{linkOk, SoundTables, Lent, lent}
-use Rattle.rules.specs.Rule.{_⇐_, unnamed, View, noView, codeIn}
+use Rattle.rules.specs.Sound.{linkOk, SoundTables, lent}
+use Rattle.rules.specs.Rule.{_⇐_, unnamed, View, noView}
 use Rattle.rules.specs.Read.{copied}
 use Rattle.rules.specs.Show.{scattered, viewOf}
-use Rattle.rules.specs.Step.{Operation, Show, rule, Result, stateIn, done, perform}
+use Rattle.rules.specs.Step.{Show, rule, stateIn, done, perform}
 use Rattle.rules.specs.After.{seen}
 use Rattle.rules.proofs.Logic.{if-T, if-F, if-either, and-intro, and-0, and-1, eq→eqb}
 use Rattle.rules.proofs.Build.{Good}
 use Rattle.rules.proofs.Contents.{Fit}
-use Rattle.rules.proofs.Audit.{tables-now}
-use Rattle.rules.proofs.Codes.{first-yes, first-no, first-none, allowed}
-use Rattle.rules.proofs.Show.{show-seen}
-use Rattle.rules.proofs.Step.{perform-done, perform-no}
+use Rattle.rules.proofs.Codes.{first-yes, first-no, first-none}
 use Rattle.chain.specs.Length.{stretchesFrom}
 use Rattle.chain.proofs.Links.{stretches-none, stretches-on}
 use Rattle.answer.specs.Result.{resultOf}
@@ -43,7 +37,7 @@ use Rattle.answer.proofs.Perform.{perform-first, perform-none}
 use Rattle.look.specs.declared.Place.{Place}
 use Rattle.look.specs.declared.Place.the-variants.{Storage, Scratch}
 use Rattle.look.specs.declared.Shown.{Shown}
-use Rattle.look.specs.Place.{viewAt, partAt, Lies}
+use Rattle.look.specs.Place.{viewAt, placeOf, partAt, Lies}
 use Rattle.look.specs.Show.{Seen}
 
 -- ---- whether the first piece has the bytes
@@ -183,31 +177,37 @@ module _ (p st sc : List ℕ) (s n : ℕ) where
               done-seen Scratch after (λ q. omega (arith, ltb→lt (length sc) n (and-1 (scattered xs n) _ q))) (e ∙ sym (if-T (scattered xs n) _ _ (first-lacks xs n v)))
               (view-scratch (decode p .stock) xs n v k) (omega arith)
 
+-- ---- whether the bytes are there
+
+module _ (st sc : List ℕ) {place : Place} (n : ℕ) where
+  pub lies-not : {a : ℕ} → place ≡ Storage a → length st < a → Is false ↔ Lies st sc place n
+  lies-not e h = rw e ((λ t. absurd t), (λ l. absurd (omega arith)))
+
+  pub lies-storage : {a : ℕ} → place ≡ Storage a → a ≤ length st → Is (leb n (length st - a)) ↔ Lies st sc place n
+  lies-storage {a} e h = rw e ((λ t. omega (arith, leb→le n (length st - a) t)), (λ l. le→leb n (length st - a) (omega arith)))
+
+  pub lies-scratch : place ≡ Scratch → Is (leb n (length sc)) ↔ Lies st sc place n
+  lies-scratch e = rw e ((λ t. leb→le n (length sc) t), (λ l. le→leb n (length sc) l))
+
+-- so many as are asked are seen at a place, or none at the start of storage: they are there
+pub lies-whole : (st sc : List ℕ) (place : Place) (n : ℕ) → (n ≡ 0 → viewAt place ≡ noView) → length (partAt st sc place n) ≡ n → Lies st sc place n
+lies-whole st sc (Storage a) n z e =
+    let k : min n (length st - a) ≡ n = simp (length-take, length-drop) at e in
+    elim (ℕ-discrete n 0) [ yes y ↦ omega (arith, ap (λ (v : View). v .start) (z y)) | no y ↦ omega arith ]
+lies-whole st sc Scratch n z e = let k : min n (length sc) ≡ n = simp length-take at e in omega arith
+
 -- ---- the view
 
+-- a view that show answers is that of its place
+pub view-back : (Z : List ℕ) (xs : List Stretch) (n : ℕ) → viewAt (placeOf (viewOf Z xs n)) ≡ viewOf Z xs n
+unfolding viewOf if_then_else_
+view-back Z [] n = refl
+view-back Z (x ∷ xs) n =
+    if-either (λ (v : View). viewAt (placeOf v) ≡ v) (eqb n 0) _ _ (λ _. refl)
+    (λ _. if-either (λ (v : View). viewAt (placeOf v) ≡ v) (scattered (x ∷ xs) n) _ _ (λ _. refl) (λ _. refl))
+
 -- the bytes at a place are those that the rules' view shows
-part-seen : (st sc : List ℕ) (place : Place) (n : ℕ) → partAt st sc place n ≡ seen (viewAt place) n st sc
+pub part-seen : (st sc : List ℕ) (place : Place) (n : ℕ) → partAt st sc place n ≡ seen (viewAt place) n st sc
 unfolding if_then_else_
 part-seen st sc (Storage a) n = refl
 part-seen st sc Scratch n = refl
-
--- an operation that answers 0 is its rule
-done-rule : (o : Operation) (m : Lent) → perform o m .code ≡ 0 → codeIn (rule o (stateIn m)) (decode (m .pool)) ≡ 0
-done-rule o m e =
-    elim (ℕ-discrete (codeIn (rule o (stateIn m)) (decode (m .pool))) 0) [
-      | yes z ↦ z
-      | no z ↦ absurd (z (sym (ap (λ (x : Result). x .code) (perform-no o m z)) ∙ e))
-    ]
-
--- The view of a show that is done has the first n bytes of the chain.
-pub first-seen : {r : Shown} {p st sc after : List ℕ} {s n : ℕ} → SoundTables (decode p) → Fit (decode p .stock) (bufferTotal (decode p)) st → Seen r p st s n sc after → codeOf (r .outcome) ≡ 0
-    → partAt st after (r .place) n ≡ take n (reads (stateIn (lent p st)) s)
-unfolding done
-first-seen {r} {p} {st} {sc} {after} {s} {n} sound fit w e =
-    let o = Show s n sc in
-    let m = lent p st in
-    let c = done-rule o m (sym (ap (λ (x : Result). x .code) (w .is)) ∙ e) in
-    let h = tables-now (decode p) sound in
-    part-seen st after (r .place) n
-    ∙ ap (λ (x : Result). seen (x .view) n st (x .output)) (w .is ∙ perform-done o m c)
-    ∙ show-seen s n sc (stateIn m) h fit (allowed (rule o (stateIn m)) (decode p) c)

@@ -2,6 +2,8 @@
 use mathlib.Core.List.{List}
 use Prim.Native.Nat.{ℕ, _+_, _≤_}
 use lib.ListN.{length, take, drop}
+use lib.Dec.{eqb}
+use Rattle.rules.specs.Basics.{if_then_else_}
 use Rattle.rules.specs.Rule.{View}
 use Rattle.look.specs.declared.Place.{Place}
 use Rattle.look.specs.declared.Place.the-variants.{Storage, Scratch}
@@ -10,6 +12,10 @@ use Rattle.look.specs.declared.Place.the-variants.{Storage, Scratch}
 abbrev pub viewAt : Place → View
 viewAt (Storage a) = record { inScratch = 0; start = a }
 viewAt Scratch = record { inScratch = 1; start = 0 }
+
+-- the place of a view that the rules write
+abbrev pub placeOf : View → Place
+placeOf v = if eqb (v .inScratch) 0 then Storage (v .start) else Scratch
 
 -- the n bytes at a place: from a start of storage, or from the front of the scratch
 abbrev pub partAt : List ℕ → List ℕ → Place → ℕ → List ℕ

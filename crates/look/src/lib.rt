@@ -7,6 +7,7 @@ use kinds::SlipNumber;
 use layout::Shape;
 use transfer::Cursor;
 ghost use mathlib.Core.Path.{_≡_};
+ghost use mathlib.Core.Logic.{_↔_};
 ghost use mathlib.Core.List.{List, []};
 ghost use Prim.Native.Nat.{ℕ, _≤_};
 ghost use lib.ListN.{length};
@@ -39,6 +40,21 @@ pub struct Shown {
     pub place: Place,
 }
 
+// Whether there are `n` bytes at a place: a bounds test.
+pub fn lies(storage: &[u8], scratch: &[u8], place: Place, n: usize) -> bool
+    ensures { λ r. ⌜ Is r ↔ Lies (now (storage .entry)) (now (scratch .entry)) place n ⌝ }
+{
+    match place {
+        Place::Storage(start) => {
+            if storage.len() < start {
+                return false;
+            }
+            n <= storage.len() - start
+        }
+        Place::Scratch => n <= scratch.len(),
+    }
+}
+
 // The `n` bytes at a place: a part of storage or a part of the scratch.
 pub fn view<'a>(storage: &'a [u8], scratch: &'a [u8], place: Place, n: usize) -> &'a [u8]
     requires { ⌜ Lies (now storage) (now scratch) place n ⌝ }
@@ -56,7 +72,7 @@ pub fn length(pool: &[u8], shape: Shape, s: SlipNumber) -> Outcome
     ensures { λ r. ⌜ ((st : List ℕ) → resultOf r (now (pool .entry)) st [] noView ≡ perform (Length (s .0)) (lent (now (pool .entry)) st)) ⌝ }
     ensures { λ r. ⌜ Leaves r (stateOf (slip (decode (now (pool .entry))) (s .0))) ⌝ }
 {
-    if chain::enter(pool, shape, s) != 0 {
+    if kinds::state_of(chain::enter(pool, shape, s)).held() {
         return answer::done(pool, shape, s, chain::chain_length(pool, shape, s));
     }
     Outcome::Refused(Refusal::Slip)
@@ -78,7 +94,7 @@ pub fn read(
     ensures { λ r. ⌜ Leaves r (stateOf (slip (decode (now (pool .entry))) (s .0))) ⌝ }
 {
     let entry = chain::enter(pool, shape, s);
-    if entry == 0 {
+    if !kinds::state_of(entry).held() {
         return Outcome::Refused(Refusal::Slip);
     }
     let head = entry - 1;
@@ -134,7 +150,7 @@ pub fn show(
     ensures { λ r. ⌜ Seen r (now (pool .entry)) (now (storage .entry)) (s .0) n (now (scratch .entry)) (now (scratch .exit)) ⌝ }
 {
     let entry = chain::enter(pool, shape, s);
-    if entry == 0 {
+    if !kinds::state_of(entry).held() {
         return unseen(Refusal::Slip);
     }
     if !BufferNumber::fits(n) {

@@ -41,7 +41,7 @@ pub fn pack(pool: &mut [u8], shape: Shape, storage: &mut [u8], s: SlipNumber) ->
     ensures { λ r. ⌜ Leaves r (stateOf (slip (decode (now (pool .exit))) (s .0))) ⌝ }
 {
     let entry = chain::enter(pool, shape, s);
-    if entry == 0 {
+    if !kinds::state_of(entry).held() {
         return Outcome::Refused(Refusal::Slip);
     }
     let head = entry - 1;

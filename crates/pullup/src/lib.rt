@@ -78,7 +78,7 @@ pub fn pullup(pool: &mut [u8], shape: Shape, storage: &mut [u8], s: SlipNumber, 
     ensures { λ r. ⌜ Leaves r (stateOf (slip (decode (now (pool .exit))) (s .0))) ⌝ }
 {
     let entry = chain::enter(pool, shape, s);
-    if entry == 0 {
+    if !kinds::state_of(entry).held() {
         return Outcome::Refused(Refusal::Slip);
     }
     if !BufferNumber::fits(n) {

@@ -1,2 +1,3 @@
 -- The laws of walkthrough.
 mod Data
+mod Shown

@@ -1,4 +1,5 @@
 // One morning at a relay: document 01's ten marked rows, each with its call, its answer and the tables after it.
+use calls_look::Shown;
 use kinds::Answer;
 use kinds::SlipNumber;
 use libc::STDOUT_FILENO;
@@ -7,8 +8,10 @@ use reply::Reply;
 ghost use mathlib.Core.Path.{_≡_};
 ghost use lib.ListN.{length};
 ghost use Rattle.rules.specs.Morning.{byteRun};
+ghost use Rattle.rules.specs.Sound.{lent};
 ghost use Rattle.page.specs.Page.{page, Wrote};
-ghost use Rattle.walkthrough.specs.Row.{rowText};
+ghost use Rattle.calls_look.specs.Shown.{viewIn};
+ghost use Rattle.walkthrough.specs.Row.{rowText, placeText, bytesText, shownText};
 
 // Sets byte i to i mod 251: the morning's data.
 fn fill_data(input: &mut [u8])
@@ -29,6 +32,53 @@ fn put_row(out: &mut [u8], c: Cursor, kind: Reply, a: Answer, pool: &[u8]) -> Cu
     let line = page::put_text(out, answer, b"\n");
     let tables = draw::put_pool(out, line, pool);
     page::put_text(out, tables, b"\n")
+}
+
+// Writes a word for the place of a view, storage or the scratch, on a line of its own.
+fn put_place(out: &mut [u8], c: Cursor, shown: Shown) -> Cursor
+    ensures { λ r. ⌜ Wrote (page (now (out .entry)) c) (page (now (out .exit)) r) (placeText (viewIn shown)) ⌝ }
+{
+    if shown.in_scratch == 0 {
+        return page::put_text(out, c, b"\n  storage ");
+    }
+    page::put_text(out, c, b"\n  scratch ")
+}
+
+// Writes bytes in decimal, each behind a space: a dump.
+fn put_bytes(out: &mut [u8], c: Cursor, bytes: &[u8]) -> Cursor
+    ensures { λ r. ⌜ Wrote (page (now (out .entry)) c) (page (now (out .exit)) r) (bytesText (now (bytes .entry))) ⌝ }
+{
+    let mut at = c;
+    let mut i = 0;
+    while i < bytes.len() {
+        at = page::put_tagged(out, at, b" ", bytes[i] as u32);
+        i += 1;
+    }
+    at
+}
+
+// Shows the first `n` bytes of a slip and writes what stands behind the call: its answer, and the bytes seen.
+fn put_shown<'a>(
+    out: &mut [u8],
+    c: Cursor,
+    pool: &[u8],
+    storage: &'a [u8],
+    slip: u16,
+    n: u32,
+    scratch: &'a mut [u8],
+) -> Cursor
+    ensures { λ r. ⌜ Wrote (page (now (out .entry)) c) (page (now (out .exit)) r)
+        (shownText slip n (now (scratch .entry)) (lent (now (pool .entry)) (now (storage .entry)))) ⌝ }
+{
+    let shown = slp::slp_show(pool, storage, slip, n, scratch);
+    let a = Answer {
+        code: shown.code,
+        number: shown.number,
+    };
+    let answer = reply::put_answer(out, c, Reply::Number, a);
+    let place = put_place(out, answer, shown);
+    let bytes = put_bytes(out, place, calls_look::part(storage, scratch, shown));
+    page::put_text(out, bytes, b"\n\n")
 }
 
 // Prints a row whose call stands before the cursor: one write.
@@ -59,6 +109,16 @@ fn show_three(name: &[u8], l: u32, m: u32, n: u32, kind: Reply, a: Answer, pool:
     let second = page::put_tagged(&mut out, first, b" ", m);
     let c = page::put_tagged(&mut out, second, b" ", n);
     show(&mut out, c, kind, a, pool);
+}
+
+// Prints the first `n` bytes of a slip, of storage or, where they are scattered, copied to a scratch: a show.
+fn show_bytes(pool: &[u8], storage: &[u8], slip: u16, n: u32) {
+    let mut scratch = [0u8; 512];
+    let mut out = [0u8; 1024];
+    let first = page::put_tagged(&mut out, page::start(), b"show ", slip as u32);
+    let c = page::put_tagged(&mut out, first, b" ", n);
+    let end = put_shown(&mut out, c, pool, storage, slip, n, &mut scratch);
+    io::write_all(STDOUT_FILENO, page::written(&out, end));
 }
 
 // A fresh pool of 4 buffers, 6 pieces and 4 slips: the initial image.
@@ -97,12 +157,14 @@ fn trim(pool: &mut [u8], storage: &[u8]) {
     show_two(b"append ", 1, 2, append, pool);
     let keep = slp::slp_keep(pool, storage, 1, 40);
     show_two(b"keep ", 1, 40, keep, pool);
+    show_bytes(pool, storage, 1, 20);
 }
 
 // Rows 8 and 9, a chain's bytes brought together in a fresh buffer: a gather.
 fn gather(pool: &mut [u8], storage: &mut [u8]) {
     let pullup = slp::slp_pullup(pool, storage, 1, 20);
     show_two(b"pullup ", 1, 20, pullup, pool);
+    show_bytes(pool, storage, 1, 20);
     let pack = slp::slp_pack(pool, storage, 1);
     show_one(b"pack ", 1, Reply::Done, pack, pool);
 }

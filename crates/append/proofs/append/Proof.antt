@@ -1,8 +1,11 @@
 -- `append::append` meets its contract. Assumes nothing.
 use mathlib.Core.Path.{_≡_, sym, subst, _∙_}
+use mathlib.Core.Logic.{_≢_}
 use Prim.Native.Nat.{ℕ, _<_}
 use native.Mathlib.Omega.{arith}
 use borrow.Author.Needs.{needs}
+use borrow.Author.Tests.{not-true, not-false}
+use Rattle.kinds.proofs.Laws.{entry-none, entry-some}
 use Rattle.rules.specs.Basics.{Is}
 use Rattle.rules.specs.Tables.{Tables, headOf}
 use Rattle.rules.specs.Bytes.{decode}
@@ -16,25 +19,35 @@ use Rattle.append.proofs.append.Tie as tie
 enter-requires : tie.Need-enter-requires
 enter-requires c κs = search needs
 
+state-of-requires : tie.Need-state-of-requires
+state-of-requires c κs = search needs
+
+held-requires : tie.Need-held-requires
+held-requires c κs = search needs
+
 same-length : tie.Need-same-length
 same-length c = search needs
 
 returns : tie.Need-returns
 returns c =
-    let a = c .before .before .before .before .args in
+    let a = c .before .before .before .before .before .before .args in
     let p = a .pool .now in
-    (λ st. append-slip p st (a .a .0) (a .b .0) (or-left (unnamed (decode p) (a .a .0)) _ (c .before .enter .ensures .strange (c .if1 .taken))), tt)
+    let vacant = entry-none (c .before .before .state-of .ensures) (c .before .held .ensures) (not-true _ (c .if1 .taken)) in
+    (λ st. append-slip p st (a .a .0) (a .b .0) (or-left (unnamed (decode p) (a .a .0)) _ (c .before .before .before .enter .ensures .strange vacant)), tt)
 
 -- where the call started, and the tables there
 abbrev start : tie.Else1 → tie.Start
-start e = e .before .before .before .before
+start e = e .before .before .before .before .before .before
 
 abbrev tables : tie.Else1 → Tables
 tables e = decode (start e .args .pool .now)
 
--- a is named
+-- a is held, and so named
+a-held : (c : tie.Else1) → c .before .before .before .enter .result ≢ 0
+a-held c = entry-some (c .before .before .state-of .ensures) (c .before .held .ensures) (not-false _ (c .if1 .left))
+
 a-named : (c : tie.Else1) → Is (unnamed (tables c) (start c .args .a .0)) → ⊥
-a-named c = c .before .enter .ensures .named (c .if1 .left)
+a-named c = c .before .before .before .enter .ensures .named (a-held c)
 
 same-length-2 : tie.Need-same-length-2
 same-length-2 c = search needs
@@ -50,20 +63,28 @@ returns-2 c =
 enter-requires-2 : tie.Need-enter-requires-2
 enter-requires-2 c κs = search needs
 
+state-of-requires-2 : tie.Need-state-of-requires-2
+state-of-requires-2 c κs = search needs
+
+held-requires-2 : tie.Need-held-requires-2
+held-requires-2 c κs = search needs
+
 same-length-3 : tie.Need-same-length-3
 same-length-3 c = search needs
 
 returns-3 : tie.Need-returns-3
 returns-3 c =
-    let h = c .before in
+    let u = c .before .before in
+    let h = u .before in
     let a = start (h .before .before .before .before .before) .args in
     let p = a .pool .now in
-    (λ st. append-slip p st (a .a .0) (a .b .0) (or-right (unnamed (decode p) (a .a .0)) _ (h .enter2 .ensures .strange (c .if3 .taken))), tt)
+    let vacant = entry-none (u .state-of2 .ensures) (c .before .held2 .ensures) (not-true _ (c .if3 .taken)) in
+    (λ st. append-slip p st (a .a .0) (a .b .0) (or-right (unnamed (decode p) (a .a .0)) _ (h .enter2 .ensures .strange vacant)), tt)
 
 -- they are two, of the pool's
 module _ (c : tie.Else3) where
   abbrev first : tie.Else1
-  first = c .before .before .before .before .before .before
+  first = c .before .before .before .before .before .before .before .before
 
   abbrev origin : tie.Start
   origin = start first
@@ -72,29 +93,32 @@ module _ (c : tie.Else3) where
   entry = tables first
 
   apart : origin .args .a .0 ≡ origin .args .b .0 → ⊥
-  apart = c .before .before .before .if2 .left
+  apart = c .before .before .before .before .before .if2 .left
 
   -- what was looked up of the slips
-  abbrev a-entry : Enters entry (origin .args .shape) (origin .args .a .0) (first .before .enter .result)
-  a-entry = first .before .enter .ensures
+  abbrev a-entry : Enters entry (origin .args .shape) (origin .args .a .0) (first .before .before .before .enter .result)
+  a-entry = first .before .before .before .enter .ensures
 
-  abbrev b-entry : Enters entry (origin .args .shape) (origin .args .b .0) (c .before .enter2 .result)
-  b-entry = c .before .enter2 .ensures
+  abbrev b-entry : Enters entry (origin .args .shape) (origin .args .b .0) (c .before .before .before .enter2 .result)
+  b-entry = c .before .before .before .enter2 .ensures
+
+  b-held : c .before .before .before .enter2 .result ≢ 0
+  b-held = entry-some (c .before .before .state-of2 .ensures) (c .before .held2 .ensures) (not-false _ (c .if3 .left))
 
   b-named : Is (unnamed entry (origin .args .b .0)) → ⊥
-  b-named = b-entry .named (c .if3 .left)
+  b-named = b-entry .named b-held
 
   a-below : origin .args .a .0 < origin .args .shape .slips
-  a-below = a-entry .below (first .if1 .left)
+  a-below = a-entry .below (a-held first)
 
   b-below : origin .args .b .0 < origin .args .shape .slips
-  b-below = b-entry .below (c .if3 .left)
+  b-below = b-entry .below b-held
 
 sub-head : tie.Need-sub-head
-sub-head c = search needs
+sub-head c = let i = a-held (first c) in omega arith
 
 sub-tail : tie.Need-sub-tail
-sub-tail c = search needs
+sub-tail c = let i = b-held c in omega arith
 
 set-slip-requires : tie.Need-set-slip-requires
 set-slip-requires c κs = let e = c .before .before in (origin e .pre .shaped, b-below e)
@@ -185,11 +209,15 @@ append-spec =
     tie.close
     (tie.spec
     enter-requires
+    state-of-requires
+    held-requires
     same-length
     returns
     same-length-2
     returns-2
     enter-requires-2
+    state-of-requires-2
+    held-requires-2
     same-length-3
     returns-3
     sub-head

@@ -1,5 +1,6 @@
 -- `drop::drop_first` meets its contract. Assumes nothing.
 use mathlib.Core.Path.{_≡_, sym, ap, subst, _∙_}
+use mathlib.Core.Logic.{_≢_}
 use mathlib.Core.List.{List}
 use Prim.Native.Nat.{ℕ, _-_, _≤_, _<_}
 use native.Mathlib.Omega.{arith}
@@ -7,6 +8,7 @@ use lib.ListN.{length}
 use lib.Dec.{ltb}
 use borrow.Author.Needs.{needs}
 use borrow.Author.Tests.{not-true, not-false, leb-true, leb-false}
+use Rattle.kinds.proofs.Laws.{entry-none, entry-some}
 use Rattle.rules.specs.Basics.{Is, places}
 use Rattle.rules.specs.Tables.{Tables, headOf, slipTotal, pieceTotal}
 use Rattle.rules.specs.Bytes.{decode}
@@ -34,20 +36,27 @@ use Rattle.drop.proofs.drop_first.Tie as tie
 enter-requires : tie.Need-enter-requires
 enter-requires c κs = search needs
 
+state-of-requires : tie.Need-state-of-requires
+state-of-requires c κs = search needs
+
+held-requires : tie.Need-held-requires
+held-requires c κs = search needs
+
 same-length : tie.Need-same-length
 same-length c = search needs
 
 returns : tie.Need-returns
 returns c =
-    let a = c .before .before .before .before .args in
-    (λ st. drop-slip (a .pool .now) st (a .s .0) (a .n) (c .before .enter .ensures .strange (c .if1 .taken)), tt)
+    let a = c .before .before .before .before .before .before .args in
+    let vacant = entry-none (c .before .before .state-of .ensures) (c .before .held .ensures) (not-true _ (c .if1 .taken)) in
+    (λ st. drop-slip (a .pool .now) st (a .s .0) (a .n) (c .before .before .before .enter .ensures .strange vacant), tt)
 
 -- ---- the slip is named
 
 module _ (e : tie.Else1) where
   -- where the call started, the tables there, and the slip
   abbrev start : tie.Start
-  start = e .before .before .before .before
+  start = e .before .before .before .before .before .before
 
   abbrev tables : Tables
   tables = decode (start .args .pool .now)
@@ -56,17 +65,20 @@ module _ (e : tie.Else1) where
   slip = start .args .s .0
 
   -- what was looked up of it: it is not vacant, and one of the pool's
-  abbrev entry : Enters tables (start .args .shape) slip (e .before .enter .result)
-  entry = e .before .enter .ensures
+  abbrev entry : Enters tables (start .args .shape) slip (e .before .before .before .enter .result)
+  entry = e .before .before .before .enter .ensures
+
+  held-here : e .before .before .before .enter .result ≢ 0
+  held-here = entry-some (e .before .before .state-of .ensures) (e .before .held .ensures) (not-false _ (e .if1 .left))
 
   named-here : Is (unnamed tables slip) → ⊥
-  named-here = entry .named (e .if1 .left)
+  named-here = entry .named held-here
 
   below : slip < start .args .shape .slips
-  below = entry .below (e .if1 .left)
+  below = entry .below held-here
 
   inside : slip < slipTotal tables
-  inside = entry .inside (e .if1 .left)
+  inside = entry .inside held-here
 
   -- what drop leaves, and the pieces free for it
   abbrev rest : Plan
@@ -80,7 +92,7 @@ module _ (e : tie.Else1) where
   planned = dropped-planned tables slip (start .args .n) (tables-now tables (start .pre .sound))
 
 sub-find : tie.Need-sub-find
-sub-find c = search needs
+sub-find c = let i = held-here (c .before) in omega arith
 
 find-requires : tie.Need-find-requires
 find-requires c κs = let e = c .before in (start e .pre, entry e .good)
@@ -134,7 +146,7 @@ returns-3 c =
     let e = from (r .before .before) in
     let z = start e in (
       λ st. drop-nothing (z .args .pool .now) st (slip e) (z .args .n) (named-here e) (in-range r) (t .if3 .taken) (c .done .ensures)
-          (λ i. omega (arith, e .before .before .before .slice-known .given i)) (z .pre .shaped),
+          (λ i. omega (arith, e .before .before .before .before .before .slice-known .given i)) (z .pre .shaped),
       rw (c .done .ensures),
     )
 
@@ -251,6 +263,8 @@ drop-first-spec =
     tie.close
     (tie.spec
     enter-requires
+    state-of-requires
+    held-requires
     same-length
     returns
     sub-find

@@ -1,10 +1,15 @@
 -- `dup::dup` meets its contract. Assumes nothing.
-use mathlib.Core.Path.{_≡_, sym, ap, _∙_}
+use mathlib.Core.Path.{_≡_, sym, ap, subst, _∙_}
+use mathlib.Core.Logic.{_≢_}
 use mathlib.Core.List.{[], _∷_}
 use Prim.Native.Nat.{ℕ, suc, _+_, _-_, _≤_, _<_}
 use native.Mathlib.Omega.{arith}
 use lib.ListN.{length}
 use borrow.Author.Needs.{needs}
+use borrow.Author.Tests.{not-true, not-false}
+use Rattle.kinds.specs.declared.SlipState.{SlipState}
+use Rattle.kinds.specs.SlipState.{stateOf}
+use Rattle.kinds.proofs.Laws.{entry-none, entry-some, heads-raw}
 use Rattle.rules.specs.Basics.{Is}
 use Rattle.rules.specs.Tables.{Tables, piece, headOf, slipTotal, pieceTotal, setSlip, holding}
 use Rattle.rules.specs.Bytes.{decode}
@@ -17,20 +22,27 @@ use Rattle.chain.specs.Enter.{Enters}
 use Rattle.chain.proofs.Links.{InUse, link-leads}
 use Rattle.room.proofs.Free.{first-lies, new-slip, no-slip, piece-first, no-piece}
 use Rattle.build.proofs.Laws.{opened-copyable, opened-sharable}
-use Rattle.dup.proofs.Laws.{plan-none, plan-one, empty-under, cloned-made, clone-under, dup-slip, dup-slips, dup-pieces, dup-done}
+use Rattle.dup.proofs.Laws.{no-heads, plan-none, plan-one, empty-under, cloned-made, clone-under, dup-slip, dup-slips, dup-pieces, dup-done}
 use Rattle.dup.proofs.dup.Statement.{statement}
 use Rattle.dup.proofs.dup.Tie as tie
 
 enter-requires : tie.Need-enter-requires
 enter-requires c κs = search needs
 
+state-of-requires : tie.Need-state-of-requires
+state-of-requires c κs = search needs
+
+held-requires : tie.Need-held-requires
+held-requires c κs = search needs
+
 same-length : tie.Need-same-length
 same-length c = search needs
 
 returns : tie.Need-returns
 returns c =
-    let a = c .before .before .before .before .args in
-    (λ st. dup-slip (a .pool .now) st (a .s .0) (c .before .enter .ensures .strange (c .if1 .taken)), tt)
+    let a = c .before .before .before .before .before .before .args in
+    let vacant = entry-none (c .before .before .state-of .ensures) (c .before .held .ensures) (not-true _ (c .if1 .taken)) in
+    (λ st. dup-slip (a .pool .now) st (a .s .0) (c .before .before .before .enter .ensures .strange vacant), tt)
 
 next-vacant-requires : tie.Need-next-vacant-requires
 next-vacant-requires c κs = search needs
@@ -38,20 +50,33 @@ next-vacant-requires c κs = search needs
 module _ (e : tie.Else1) where
   -- where the call started, and the tables there
   abbrev start : tie.Start
-  start = e .before .before .before .before
+  start = e .before .before .before .before .before .before
 
   abbrev tables : Tables
   tables = decode (start .args .pool .now)
 
   -- what was looked up of the slip: it is named
-  abbrev head : ℕ
-  head = e .before .enter .result - 1
+  abbrev raw : ℕ
+  raw = e .before .before .before .enter .result
 
-  abbrev entry : Enters tables (start .args .shape) (start .args .s .0) (e .before .enter .result)
-  entry = e .before .enter .ensures
+  abbrev head : ℕ
+  head = raw - 1
+
+  abbrev entry : Enters tables (start .args .shape) (start .args .s .0) raw
+  entry = e .before .before .before .enter .ensures
+
+  -- its state, which is read from the entry
+  abbrev state : SlipState
+  state = e .before .before .state-of .result
+
+  read-from : state ≡ stateOf raw
+  read-from = e .before .before .state-of .ensures
+
+  held-here : raw ≢ 0
+  held-here = entry-some read-from (e .before .held .ensures) (not-false _ (e .if1 .left))
 
   named-here : Is (unnamed tables (start .args .s .0)) → ⊥
-  named-here = entry .named (e .if1 .left)
+  named-here = entry .named held-here
 
 same-length-2 : tie.Need-same-length-2
 same-length-2 c = search needs
@@ -76,29 +101,47 @@ found c =
     let new = new-slip T (v .next-vacant .ensures) below in
     (below, new .0, new .1)
 
--- the tables, the head link and the new slip are good where the chain has a piece
-module _ (c : tie.Else3) where
+enum-known-state : tie.Need-enum-known-state
+enum-known-state c = search needs
+
+-- the chain is empty
+abbrev hollow : tie.At-match-keys2 → tie.Else1
+hollow c = c .before .before .before .before .before .before
+
+none-here : (c : tie.At-match-keys2) → headOf (tables (hollow c)) (start (hollow c) .args .s .0) ≡ 0
+none-here c =
+    let e = hollow c in
+    let one : raw e ≡ 1 = no-heads (raw e) (read-from e) (held-here e) (c .match .keys2) in
+    omega (arith, entry e .link-is)
+
+-- or a piece heads it
+module _ (c : tie.After-known-told) where
   abbrev at : tie.Else2
-  at = c .before
+  at = c .before .before .before
 
   abbrev from : tie.Else1
   from = at .before .before .before .before .before
 
+  abbrev piece-here : ℕ
+  piece-here = c .before .state .given .0 .0 .0
+
+  raw-here : raw from ≡ suc (suc piece-here)
+  raw-here = heads-raw (sym (read-from from) ∙ c .before .state .given .1)
+
   some : headOf (tables from) (start from .args .s .0) ≡ 0 → ⊥
-  some z = c .if3 .left (entry from .link-is ∙ z)
+  some z = let k = raw-here in omega (arith, entry from .link-is)
 
   -- the head is a piece in use
-  leads : InUse (tables from) (head from - 1)
-  leads = link-leads (tables from) (head from) (start from .pre .sound) (entry from .good) (c .if3 .left)
-
-sub-head : tie.Need-sub-head
-sub-head c = search needs
+  leads : InUse (tables from) piece-here
+  leads =
+      let k : head from - 1 ≡ piece-here = omega (arith, raw-here) in
+      subst (InUse (tables from)) k (link-leads (tables from) (head from) (start from .pre .sound) (entry from .good) (λ z. omega (arith, raw-here)))
 
 under-new-requires : tie.Need-under-new-requires
 under-new-requires c κs =
-    let e2 = c .before .before in
-    let z = start (e2 .before .before .before .before .before) in
-    (z .pre .shaped, omega (arith, found e2 .0, total-slips (whole (z .pre .shaped))), omega arith)
+    let m = c .before in
+    let z = start (hollow m) in
+    (z .pre .shaped, omega (arith, found (m .before) .0, total-slips (whole (z .pre .shaped))), omega arith)
 
 same-length-3 : tie.Need-same-length-3
 same-length-3 c = search needs
@@ -106,13 +149,13 @@ same-length-3 c = search needs
 returns-3 : tie.Need-returns-3
 returns-3 c =
     let u = c .before .before in
-    let t = u .before .before in
-    let e2 = t .before in
-    let e = e2 .before .before .before .before .before in
+    let m = u .before .before in
+    let e2 = m .before in
+    let e = hollow m in
     let z = start e in
     let T = tables e in
     let s = z .args .s .0 in
-    let none : headOf T s ≡ 0 = sym (entry e .link-is) ∙ t .if3 .taken in
+    let none = none-here m in
     let is = u .under-new .ensures .0 in (
       λ st. dup-done (z .args .pool .now) st s (named-here e) (found e2 .2) (omega (arith, plan-none T (headOf T s) none)) (found e2 .1) (u .under-new .ensures .1)
           (λ i. omega (arith, c .slice-known2 .given i)) (record { shaped = is .shaped; is = is .is ∙ empty-under T (headOf T s) _ (freePieces T) none }),
@@ -132,27 +175,24 @@ returns-4 c =
     let e = from e3 in
     let z = start e in
     let T = tables e in
-    let all : f .next-free-piece .result .0 ≡ pieceTotal T = omega (arith, c .if4 .taken, total-pieces (whole (z .pre .shaped))) in
+    let all : f .next-free-piece .result .0 ≡ pieceTotal T = omega (arith, c .if3 .taken, total-pieces (whole (z .pre .shaped))) in
     let none = ap length (no-piece T (f .next-free-piece .ensures) all) in
     (λ st. dup-pieces (z .args .pool .now) st (z .args .s .0) (named-here e) (found (at e3) .2) (omega (arith, none, plan-one T (headOf T (z .args .s .0)) (some e3))), tt)
 
 -- the new piece: the lowest free one
-taken-here : (c : tie.Else4) → let f = c .before .before .before in f .next-free-piece .result .0 < pieceTotal (tables (from (f .before .before)))
+taken-here : (c : tie.Else3) → let f = c .before .before .before in f .next-free-piece .result .0 < pieceTotal (tables (from (f .before .before)))
 taken-here c =
     let f = c .before .before .before in
     let e = from (f .before .before) in
     let T = tables e in
-    omega (arith, c .if4 .left, total-pieces (whole (start e .pre .shaped)), f .next-free-piece .ensures, first-lies (isFree T) 0 (pieceTotal T) .0)
-
-sub-under-new : tie.Need-sub-under-new
-sub-under-new c = search needs
+    omega (arith, c .if3 .left, total-pieces (whole (start e .pre .shaped)), f .next-free-piece .ensures, first-lies (isFree T) 0 (pieceTotal T) .0)
 
 clone-rest-requires : tie.Need-clone-rest-requires
 clone-rest-requires c κs =
     let e4 = c .before in
     let e3 = e4 .before .before .before .before .before in
     let z = start (from e3) in
-    let d = head (from e3) - 1 in (
+    let d = piece-here e3 in (
       z .pre .shaped,
       omega (arith, taken-here e4, total-pieces (whole (z .pre .shaped))),
       opened-copyable (z .pre) d 0 (leads e3) (omega (arith, leads e3 .some-bytes)),
@@ -192,11 +232,17 @@ returns-5 c =
     let s = z .args .s .0 in
     let t = at e3 .before .before .before .next-vacant .result .0 in
     let g = f .next-free-piece .result .0 in
+    let same-piece : piece-here e3 ≡ headOf T s - 1 = omega (arith, raw-here e3, entry e .link-is) in
     let fs = piece-first T (f .next-free-piece .ensures) (taken-here e4) in
     let now = onward (w .clone-rest .ensures) (λ (U : Tables). setSlip U t (holding (g + 1))) (u .under-new2 .ensures .0) in (
       λ st. dup-done (z .args .pool .now) st s (named-here e) (found (at e3) .2) (omega (arith, ap length fs, plan-one T (headOf T s) (some e3))) (found (at e3) .1) (u .under-new2 .ensures .1)
           (λ i. omega (arith, c .slice-known4 .given i))
-          (record { shaped = now .shaped; is = now .is ∙ ap (λ (U : Tables). setSlip U t (holding (g + 1))) (cloned-made T (head e - 1) g) ∙ ap (λ (n : ℕ). setSlip (made (dupPlan T (suc (n - 1))) (g ∷ [])) t (holding (g + 1))) (entry e .link-is) ∙ clone-under T (headOf T s) t g (some e3) fs }),
+          (record {
+            shaped = now .shaped;
+            is = now .is ∙ ap (λ (U : Tables). setSlip U t (holding (g + 1))) (cloned-made T (piece-here e3) g)
+                ∙ ap (λ (d : ℕ). setSlip (made (dupPlan T (suc d)) (g ∷ [])) t (holding (g + 1))) same-piece
+                ∙ clone-under T (headOf T s) t g (some e3) fs;
+          }),
       rw (u .under-new2 .ensures .1),
     )
 
@@ -205,19 +251,20 @@ dup-spec =
     tie.close
     (tie.spec
     enter-requires
+    state-of-requires
+    held-requires
     same-length
     returns
     next-vacant-requires
     same-length-2
     returns-2
-    sub-head
+    enum-known-state
     under-new-requires
     same-length-3
     returns-3
     next-free-piece-requires
     same-length-4
     returns-4
-    sub-under-new
     clone-rest-requires
     add-under-new
     under-new-requires-2

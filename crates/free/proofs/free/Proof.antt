@@ -1,7 +1,10 @@
 -- `free::free` meets its contract. Assumes nothing.
+use mathlib.Core.Logic.{_≢_}
 use Prim.Native.Nat.{_<_}
 use native.Mathlib.Omega.{arith}
 use borrow.Author.Needs.{needs}
+use borrow.Author.Tests.{not-true, not-false}
+use Rattle.kinds.proofs.Laws.{entry-none, entry-some}
 use Rattle.rules.specs.Bytes.{decode}
 use Rattle.rules.proofs.Audit.{tables-now}
 use Rattle.chain.specs.Enter.{Enters}
@@ -13,25 +16,35 @@ use Rattle.free.proofs.free.Tie as tie
 enter-requires : tie.Need-enter-requires
 enter-requires c κs = search needs
 
+state-of-requires : tie.Need-state-of-requires
+state-of-requires c κs = search needs
+
+held-requires : tie.Need-held-requires
+held-requires c κs = search needs
+
 same-length : tie.Need-same-length
 same-length c = search needs
 
 returns : tie.Need-returns
 returns c =
-    let a = c .before .before .before .before .args in
-    (λ st. free-slip (a .pool .now) st (a .s .0) (c .before .enter .ensures .strange (c .if1 .taken)), tt)
+    let a = c .before .before .before .before .before .before .args in
+    let vacant = entry-none (c .before .before .state-of .ensures) (c .before .held .ensures) (not-true _ (c .if1 .taken)) in
+    (λ st. free-slip (a .pool .now) st (a .s .0) (c .before .before .before .enter .ensures .strange vacant), tt)
 
 module _ (e : tie.Else1) where
   -- where the call started
   abbrev start : tie.Start
-  start = e .before .before .before .before
+  start = e .before .before .before .before .before .before
 
   -- what was looked up of the slip: it is named, and one of the pool's
-  abbrev entry : Enters (decode (start .args .pool .now)) (start .args .shape) (start .args .s .0) (e .before .enter .result)
-  entry = e .before .enter .ensures
+  abbrev entry : Enters (decode (start .args .pool .now)) (start .args .shape) (start .args .s .0) (e .before .before .before .enter .result)
+  entry = e .before .before .before .enter .ensures
+
+  held-here : e .before .before .before .enter .result ≢ 0
+  held-here = entry-some (e .before .before .state-of .ensures) (e .before .held .ensures) (not-false _ (e .if1 .left))
 
   below : start .args .s .0 < start .args .shape .slips
-  below = entry .below (e .if1 .left)
+  below = entry .below held-here
 
 turn-requires : tie.Need-turn-requires
 turn-requires c κs =
@@ -53,10 +66,10 @@ returns-2 c =
     let t = k .before .before in
     let e = t .before .before in
     let z = start e in
-    let named = entry e .named (e .if1 .left) in (
+    let named = entry e .named (held-here e) in (
       λ st. free-done (z .args .pool .now) st (z .args .s .0) named (c .done .ensures) (λ i. omega (arith, k .slice-known2 .given i)) (t .turn .ensures),
       rw (c .done .ensures),
     )
 
 pub free-spec : {M : Type 1} → statement M
-free-spec = tie.close (tie.spec enter-requires same-length returns turn-requires done-requires same-length-2 returns-2)
+free-spec = tie.close (tie.spec enter-requires state-of-requires held-requires same-length returns turn-requires done-requires same-length-2 returns-2)

@@ -1,9 +1,12 @@
 -- `list::begin` meets its contract. Assumes nothing.
 use mathlib.Core.Path.{_≡_, ap, _∙_}
+use mathlib.Core.Logic.{_≢_}
 use Prim.Native.Nat.{ℕ}
 use native.Mathlib.Omega.{arith}
 use lib.ListN.{length}
 use borrow.Author.Needs.{needs}
+use borrow.Author.Tests.{not-true, not-false}
+use Rattle.kinds.proofs.Laws.{entry-none, entry-some}
 use Rattle.rules.specs.Basics.{Is}
 use Rattle.rules.specs.Tables.{Tables}
 use Rattle.rules.specs.Bytes.{decode}
@@ -18,32 +21,42 @@ use Rattle.list.proofs.begin.Tie as tie
 enter-requires : tie.Need-enter-requires
 enter-requires c κs = search needs
 
+state-of-requires : tie.Need-state-of-requires
+state-of-requires c κs = search needs
+
+held-requires : tie.Need-held-requires
+held-requires c κs = search needs
+
 none-requires : tie.Need-none-requires
 none-requires c κs = search needs
 
 returns : tie.Need-returns
 returns c =
     let t = c .before in
-    let a = t .before .before .before .args in
-    begun-slip (decode (a .pool .now)) (a .s .0) (a .room) (c .none .ensures) (t .before .enter .ensures .strange (t .if1 .taken))
+    let a = t .before .before .before .before .before .args in
+    let vacant = entry-none (t .before .before .state-of .ensures) (t .before .held .ensures) (not-true _ (t .if1 .taken)) in
+    begun-slip (decode (a .pool .now)) (a .s .0) (a .room) (c .none .ensures) (t .before .before .before .enter .ensures .strange vacant)
 
 module _ (e : tie.Else1) where
   -- where the call started, and the tables there
   abbrev start : tie.Start
-  start = e .before .before .before
+  start = e .before .before .before .before .before
 
   abbrev tables : Tables
   tables = decode (start .args .pool .now)
 
   -- what was looked up of the slip: it is named
-  abbrev entry : Enters tables (start .args .shape) (start .args .s .0) (e .before .enter .result)
-  entry = e .before .enter .ensures
+  abbrev entry : Enters tables (start .args .shape) (start .args .s .0) (e .before .before .before .enter .result)
+  entry = e .before .before .before .enter .ensures
+
+  held-here : e .before .before .before .enter .result ≢ 0
+  held-here = entry-some (e .before .before .state-of .ensures) (e .before .held .ensures) (not-false _ (e .if1 .left))
 
   named-here : Is (unnamed tables (start .args .s .0)) → ⊥
-  named-here = entry .named (e .if1 .left)
+  named-here = entry .named held-here
 
 sub-link : tie.Need-sub-link
-sub-link c = search needs
+sub-link c = let i = held-here c in omega arith
 
 pieces-from-requires : tie.Need-pieces-from-requires
 pieces-from-requires c κs = (start c .pre, entry c .good)
@@ -69,7 +82,7 @@ cast-done : tie.Need-cast-done
 cast-done c = search needs
 
 done-requires : tie.Need-done-requires
-done-requires c κs = let e = c .before .before in (start e .pre .shaped, entry e .below (e .if1 .left))
+done-requires c κs = let e = c .before .before in (start e .pre .shaped, entry e .below (held-here e))
 
 returns-3 : tie.Need-returns-3
 returns-3 c =
@@ -82,6 +95,8 @@ begin-spec =
     tie.close
     (tie.spec
     enter-requires
+    state-of-requires
+    held-requires
     none-requires
     returns
     sub-link

@@ -1,11 +1,13 @@
 -- `look::read` meets its contract: the range is there where the chain from the place found has it, and its bytes are those from there on. Assumes nothing.
 use mathlib.Core.Path.{ap, subst, _∙_}
+use mathlib.Core.Logic.{_≢_}
 use mathlib.Core.List.{List}
 use Prim.Native.Nat.{ℕ, _+_, _≤_, _<_}
 use native.Mathlib.Omega.{arith}
 use lib.ListN.{take}
 use borrow.Author.Needs.{needs}
 use borrow.Author.Tests.{not-true, not-false}
+use Rattle.kinds.proofs.Laws.{entry-none, entry-some}
 use Rattle.rules.specs.Basics.{Is}
 use Rattle.rules.specs.Tables.{Tables, headOf, slipTotal}
 use Rattle.rules.specs.Bytes.{decode}
@@ -24,31 +26,41 @@ use Rattle.look.proofs.read.Tie as tie
 enter-requires : tie.Need-enter-requires
 enter-requires c κs = search needs
 
+state-of-requires : tie.Need-state-of-requires
+state-of-requires c κs = search needs
+
+held-requires : tie.Need-held-requires
+held-requires c κs = search needs
+
 returns : tie.Need-returns
 returns c =
-    let a = c .before .before .before .before .before .args in
-    (read-slip (a .pool .now) (a .storage .now) (a .output .now) (a .s .0) (a .off) (a .n) (c .before .enter .ensures .strange (c .if1 .taken)), tt)
+    let a = c .before .before .before .before .before .before .before .args in
+    let vacant = entry-none (c .before .before .state-of .ensures) (c .before .held .ensures) (not-true _ (c .if1 .taken)) in
+    (read-slip (a .pool .now) (a .storage .now) (a .output .now) (a .s .0) (a .off) (a .n) (c .before .before .before .enter .ensures .strange vacant), tt)
 
 module _ (e : tie.Else1) where
   -- where the call started, and the tables there
   abbrev start : tie.Start
-  start = e .before .before .before .before .before
+  start = e .before .before .before .before .before .before .before
 
   abbrev tables : Tables
   tables = decode (start .args .pool .now)
 
   -- what was looked up of the slip: it is named, and one of the pool's
-  abbrev entry : Enters tables (start .args .shape) (start .args .s .0) (e .before .enter .result)
-  entry = e .before .enter .ensures
+  abbrev entry : Enters tables (start .args .shape) (start .args .s .0) (e .before .before .before .enter .result)
+  entry = e .before .before .before .enter .ensures
+
+  held-here : e .before .before .before .enter .result ≢ 0
+  held-here = entry-some (e .before .before .state-of .ensures) (e .before .held .ensures) (not-false _ (e .if1 .left))
 
   named-here : Is (unnamed tables (start .args .s .0)) → ⊥
-  named-here = entry .named (e .if1 .left)
+  named-here = entry .named held-here
 
   below : start .args .s .0 < slipTotal tables
-  below = entry .inside (e .if1 .left)
+  below = entry .inside held-here
 
 sub-head : tie.Need-sub-head
-sub-head c = search needs
+sub-head c = let i = held-here c in omega arith
 
 find-requires : tie.Need-find-requires
 find-requires c κs = (start c .pre .0, entry c .good)
@@ -112,7 +124,7 @@ copy-out-requires c κs =
 done-requires : tie.Need-done-requires
 done-requires c κs =
     let e = from (counted (c .before .before .before .before .before) .before) in
-    (start e .pre .0 .shaped, entry e .below (e .if1 .left))
+    (start e .pre .0 .shaped, entry e .below (held-here e))
 
 same-length : tie.Need-same-length
 same-length c = search needs
@@ -123,7 +135,7 @@ returns-4 c =
     let r = g .before .before in
     let f = counted (r .before) .before in
     let e = from f in
-    let y = e .before .before .before .before in
+    let y = e .before .before .before .before .before .before in
     let z = y .before in
     let a = z .args in
     let p = a .pool .now in
@@ -143,6 +155,8 @@ read-spec =
     tie.close
     (tie.spec
     enter-requires
+    state-of-requires
+    held-requires
     returns
     sub-head
     find-requires

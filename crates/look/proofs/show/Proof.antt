@@ -1,11 +1,13 @@
 -- `look::show` meets its contract. Assumes nothing.
 use mathlib.Core.Path.{_≡_, sym, ap, _∙_}
+use mathlib.Core.Logic.{_≢_}
 use Prim.Native.Nat.{ℕ, _-_, _≤_, _<_}
 use native.Mathlib.Omega.{arith}
 use lib.ListN.{take}
 use borrow.Author.Needs.{needs}
 use borrow.Author.Tests.{leb-true, leb-false, not-true, not-false}
 use Rattle.kinds.specs.Limits.{bufferSize}
+use Rattle.kinds.proofs.Laws.{entry-none, entry-some}
 use Rattle.rules.specs.Basics.{Is}
 use Rattle.rules.specs.Tables.{Tables, bufferTotal}
 use Rattle.rules.specs.Bytes.{decode, encode}
@@ -27,14 +29,21 @@ use Rattle.look.proofs.show.Tie as tie
 enter-requires : tie.Need-enter-requires
 enter-requires c κs = search needs
 
+state-of-requires : tie.Need-state-of-requires
+state-of-requires c κs = search needs
+
+held-requires : tie.Need-held-requires
+held-requires c κs = search needs
+
 unseen-requires : tie.Need-unseen-requires
 unseen-requires c κs = search needs
 
 returns : tie.Need-returns
 returns c =
     let t = c .before in
-    let a = t .before .before .before .before .before .args in
-    show-slip (a .pool .now) (a .storage .now) (a .scratch .now) (a .s .0) (a .n) (c .unseen .ensures) (t .before .enter .ensures .strange (t .if1 .taken))
+    let a = t .before .before .before .before .before .before .before .args in
+    let vacant = entry-none (t .before .before .state-of .ensures) (t .before .held .ensures) (not-true _ (t .if1 .taken)) in
+    show-slip (a .pool .now) (a .storage .now) (a .scratch .now) (a .s .0) (a .n) (c .unseen .ensures) (t .before .before .before .enter .ensures .strange vacant)
 
 fits-requires : tie.Need-fits-requires
 fits-requires c κs = search needs
@@ -45,23 +54,26 @@ unseen-requires-2 c κs = search needs
 module _ (e : tie.Else1) where
   -- where the call started, and the tables there
   abbrev start : tie.Start
-  start = e .before .before .before .before .before
+  start = e .before .before .before .before .before .before .before
 
   abbrev tables : Tables
   tables = decode (start .args .pool .now)
 
   -- what was looked up of the slip: it is named, and one of the pool's
   abbrev head : ℕ
-  head = e .before .enter .result - 1
+  head = e .before .before .before .enter .result - 1
 
-  abbrev entry : Enters tables (start .args .shape) (start .args .s .0) (e .before .enter .result)
-  entry = e .before .enter .ensures
+  abbrev entry : Enters tables (start .args .shape) (start .args .s .0) (e .before .before .before .enter .result)
+  entry = e .before .before .before .enter .ensures
+
+  held-here : e .before .before .before .enter .result ≢ 0
+  held-here = entry-some (e .before .before .state-of .ensures) (e .before .held .ensures) (not-false _ (e .if1 .left))
 
   named-here : Is (unnamed tables (start .args .s .0)) → ⊥
-  named-here = entry .named (e .if1 .left)
+  named-here = entry .named held-here
 
   below : start .args .s .0 < start .args .shape .slips
-  below = entry .below (e .if1 .left)
+  below = entry .below held-here
 
 returns-2 : tie.Need-returns-2
 returns-2 c =
@@ -78,7 +90,7 @@ short : (c : tie.Else2) → start (entered c) .args .n ≤ bufferSize
 short c = leb-true (start (entered c) .args .n) bufferSize (sym (c .before .fits2 .ensures) ∙ not-false _ (c .if2 .left))
 
 sub-link : tie.Need-sub-link
-sub-link c = search needs
+sub-link c = let i = held-here (entered c) in omega arith
 
 in-first-requires : tie.Need-in-first-requires
 in-first-requires c κs = let e = entered c in (start e .pre .0, entry e .good)
@@ -104,7 +116,7 @@ start-of-requires c κs =
 -- the pool is the bytes of its tables
 whole-pool : (e : tie.Else1) → encode (tables e) ≡ start e .args .pool .now
 whole-pool e =
-    let y = e .before .before .before .before in
+    let y = e .before .before .before .before .before .before in
     fits-decode (y .before .args .pool .now) (λ i. omega (arith, y .shared-slice-known .given i)) (y .before .pre .0 .shaped .fits)
 
 returns-3 : tie.Need-returns-3
@@ -211,6 +223,8 @@ show-spec =
     tie.close
     (tie.spec
     enter-requires
+    state-of-requires
+    held-requires
     unseen-requires
     returns
     fits-requires

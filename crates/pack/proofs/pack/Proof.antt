@@ -1,5 +1,6 @@
 -- `pack::pack` meets its contract. Assumes nothing.
 use mathlib.Core.Path.{_≡_, sym, ap, _∙_}
+use mathlib.Core.Logic.{_≢_}
 use Prim.Native.Nat.{ℕ, _-_, _≤_, _<_}
 use native.Mathlib.Omega.{arith}
 use lib.ListN.{length}
@@ -7,6 +8,7 @@ use lib.Dec.{leb}
 use borrow.Author.Needs.{needs}
 use borrow.Author.Tests.{not-true, not-false, leb-true, leb-false}
 use Rattle.kinds.specs.Limits.{mostBuffers}
+use Rattle.kinds.proofs.Laws.{entry-none, entry-some}
 use Rattle.rules.specs.Basics.{Is}
 use Rattle.rules.specs.Tables.{Tables, pieceTotal, bufferTotal}
 use Rattle.rules.specs.Bytes.{decode}
@@ -26,41 +28,51 @@ use Rattle.pack.proofs.pack.Tie as tie
 enter-requires : tie.Need-enter-requires
 enter-requires c κs = search needs
 
+state-of-requires : tie.Need-state-of-requires
+state-of-requires c κs = search needs
+
+held-requires : tie.Need-held-requires
+held-requires c κs = search needs
+
 same-length : tie.Need-same-length
 same-length c = search needs
 
 returns : tie.Need-returns
 returns c =
-    let a = c .before .before .before .before .before .args in
-    (pack-slip (a .pool .now) (a .storage .now) (a .s .0) (c .before .enter .ensures .strange (c .if1 .taken)), tt)
+    let a = c .before .before .before .before .before .before .before .args in
+    let vacant = entry-none (c .before .before .state-of .ensures) (c .before .held .ensures) (not-true _ (c .if1 .taken)) in
+    (pack-slip (a .pool .now) (a .storage .now) (a .s .0) (c .before .before .before .enter .ensures .strange vacant), tt)
 
 module _ (e : tie.Else1) where
   -- where the call started, and the tables there
   abbrev start : tie.Start
-  start = e .before .before .before .before .before
+  start = e .before .before .before .before .before .before .before
 
   abbrev tables : Tables
   tables = decode (start .args .pool .now)
 
   -- what was looked up of the slip: it is named, and one of the pool's
   abbrev head : ℕ
-  head = e .before .enter .result - 1
+  head = e .before .before .before .enter .result - 1
 
-  abbrev entry : Enters tables (start .args .shape) (start .args .s .0) (e .before .enter .result)
-  entry = e .before .enter .ensures
+  abbrev entry : Enters tables (start .args .shape) (start .args .s .0) (e .before .before .before .enter .result)
+  entry = e .before .before .before .enter .ensures
+
+  held-here : e .before .before .before .enter .result ≢ 0
+  held-here = entry-some (e .before .before .state-of .ensures) (e .before .held .ensures) (not-false _ (e .if1 .left))
 
   named-here : Is (unnamed tables (start .args .s .0)) → ⊥
-  named-here = entry .named (e .if1 .left)
+  named-here = entry .named held-here
 
   below : start .args .s .0 < start .args .shape .slips
-  below = entry .below (e .if1 .left)
+  below = entry .below held-here
 
   -- the chain from the head is the slip's
   same-chain : length (walk (pieceTotal tables) tables head) ≡ length (chain tables (start .args .s .0))
   same-chain = ap (λ (x : ℕ). length (walk (pieceTotal tables) tables x)) (entry .link-is)
 
 sub-head : tie.Need-sub-head
-sub-head c = search needs
+sub-head c = let i = held-here c in omega arith
 
 scattered-requires : tie.Need-scattered-requires
 scattered-requires c κs = let e = c .before in (start e .pre .0, entry e .good)
@@ -81,7 +93,7 @@ returns-2 c =
     let a = t .before in
     let e = from a in
     let z = start e in
-    let k = e .before .before .before .before in
+    let k = e .before .before .before .before .before .before in
     let T = tables e in
     let few = leb-true (length (walk (pieceTotal T) T (head e))) 1 (not-false _ (sym (a .scattered .ensures) ∙ not-true _ (t .if2 .taken))) in (
       pack-whole (z .args .pool .now) (z .args .storage .now) (z .args .s .0) (named-here e) (omega (arith, few, same-chain e)) (c .done .ensures) (λ i. omega (arith, k .slice-known .given i)) (whole (z .pre .0 .shaped)),
@@ -276,6 +288,8 @@ pack-spec =
     tie.close
     (tie.spec
     enter-requires
+    state-of-requires
+    held-requires
     same-length
     returns
     sub-head

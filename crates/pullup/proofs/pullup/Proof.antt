@@ -1,5 +1,6 @@
 -- `pullup::pullup` meets its contract. Assumes nothing.
 use mathlib.Core.Path.{_≡_, sym, ap, subst, _∙_}
+use mathlib.Core.Logic.{_≢_}
 use Prim.Native.Nat.{ℕ, _+_, _-_, _≤_, _<_}
 use native.Mathlib.Omega.{arith}
 use lib.ListN.{length}
@@ -7,6 +8,7 @@ use lib.Dec.{ltb, leb}
 use borrow.Author.Needs.{needs}
 use borrow.Author.Tests.{not-true, not-false, leb-true, leb-false}
 use Rattle.kinds.specs.Limits.{bufferSize}
+use Rattle.kinds.proofs.Laws.{entry-none, entry-some}
 use Rattle.rules.specs.Basics.{Is}
 use Rattle.rules.specs.Tables.{Tables, slipTotal, pieceTotal, bufferTotal}
 use Rattle.rules.specs.Bytes.{decode}
@@ -31,20 +33,27 @@ use Rattle.pullup.proofs.pullup.Tie as tie
 enter-requires : tie.Need-enter-requires
 enter-requires c κs = search needs
 
+state-of-requires : tie.Need-state-of-requires
+state-of-requires c κs = search needs
+
+held-requires : tie.Need-held-requires
+held-requires c κs = search needs
+
 same-length : tie.Need-same-length
 same-length c = search needs
 
 returns : tie.Need-returns
 returns c =
-    let a = c .before .before .before .before .before .args in
-    (pullup-slip (a .pool .now) (a .storage .now) (a .s .0) (a .n) (c .before .enter .ensures .strange (c .if1 .taken)), tt)
+    let a = c .before .before .before .before .before .before .before .args in
+    let vacant = entry-none (c .before .before .state-of .ensures) (c .before .held .ensures) (not-true _ (c .if1 .taken)) in
+    (pullup-slip (a .pool .now) (a .storage .now) (a .s .0) (a .n) (c .before .before .before .enter .ensures .strange vacant), tt)
 
 -- ---- the slip is named
 
 module _ (e : tie.Else1) where
   -- where the call started, the tables there, and the slip
   abbrev start : tie.Start
-  start = e .before .before .before .before .before
+  start = e .before .before .before .before .before .before .before
 
   abbrev tables : Tables
   tables = decode (start .args .pool .now)
@@ -53,17 +62,20 @@ module _ (e : tie.Else1) where
   slip = start .args .s .0
 
   -- what was looked up of it: it is not vacant, and one of the pool's
-  abbrev entry : Enters tables (start .args .shape) slip (e .before .enter .result)
-  entry = e .before .enter .ensures
+  abbrev entry : Enters tables (start .args .shape) slip (e .before .before .before .enter .result)
+  entry = e .before .before .before .enter .ensures
+
+  held-here : e .before .before .before .enter .result ≢ 0
+  held-here = entry-some (e .before .before .state-of .ensures) (e .before .held .ensures) (not-false _ (e .if1 .left))
 
   named-here : Is (unnamed tables slip) → ⊥
-  named-here = entry .named (e .if1 .left)
+  named-here = entry .named held-here
 
   below : slip < start .args .shape .slips
-  below = entry .below (e .if1 .left)
+  below = entry .below held-here
 
   inside : slip < slipTotal tables
-  inside = entry .inside (e .if1 .left)
+  inside = entry .inside held-here
 
 fits-requires : tie.Need-fits-requires
 fits-requires c κs = search needs
@@ -85,7 +97,7 @@ fits-here : (c : tie.Else2) → start (c .before .before) .args .n ≤ bufferSiz
 fits-here c = leb-true (start (c .before .before) .args .n) bufferSize (sym (c .before .fits2 .ensures) ∙ not-false _ (c .if2 .left))
 
 sub-head : tie.Need-sub-head
-sub-head c = search needs
+sub-head c = let i = held-here (c .before .before) in omega arith
 
 find-requires : tie.Need-find-requires
 find-requires c κs = let e = c .before .before .before in (start e .pre .0, entry e .good)
@@ -154,7 +166,7 @@ returns-4 c =
     let z = start e in
     let a = z .args in (
       pullup-nothing (a .pool .now) (a .storage .now) (slip e) (a .n) (named-here e) (fits-here (fitting (there k))) (in-range (ranged k)) (subst Is (sym (t .if4 .taken) ∙ first-has k) tt)
-          (c .done .ensures) (λ i. omega (arith, e .before .before .before .before .slice-known .given i)) (z .pre .0 .shaped),
+          (c .done .ensures) (λ i. omega (arith, e .before .before .before .before .before .before .slice-known .given i)) (z .pre .0 .shaped),
       rw (c .done .ensures),
     )
 
@@ -262,7 +274,8 @@ module _ (c : tie.Else6) where
 
   -- so the bytes can go there
   pullable : let f = there (looked (asked roomy)) in
-      Pullable (tables base) (slip base) (start base .args .n) (base .before .enter .result - 1) (f .find .result) (roomy .before .before .piece-room .result .lowest .0) (lowest .next-free-buffer .result .0)
+      Pullable (tables base) (slip base) (start base .args .n) (base .before .before .before .enter .result - 1) (f .find .result)
+      (roomy .before .before .piece-room .result .lowest .0) (lowest .next-free-buffer .result .0)
   pullable =
       let w = asked roomy in
       let f = there (looked w) in
@@ -312,6 +325,8 @@ pullup-spec =
     tie.close
     (tie.spec
     enter-requires
+    state-of-requires
+    held-requires
     same-length
     returns
     fits-requires
