@@ -1,7 +1,7 @@
 -- The bytes that an answer of show shows. Assumes nothing.
 use mathlib.Core.Path.{_≡_, sym, ap, subst, _∙_}
 use mathlib.Core.Logic.{_≢_}
-use mathlib.Core.List.{List, []}
+use mathlib.Core.List.{List}
 use Prim.Native.Nat.{ℕ}
 use native.Mathlib.Decide.{ℕ-discrete}
 use native.Mathlib.Omega.{arith}
@@ -20,7 +20,6 @@ use Rattle.rules.proofs.Audit.{sound-now}
 use Rattle.rules.proofs.Codes.{allowed}
 use Rattle.rules.proofs.Show.{show-exact, show-seen}
 use Rattle.rules.proofs.Step.{alters-nothing, did, sound-within}
-use Rattle.look.specs.declared.Place.{Place}
 use Rattle.look.specs.Place.{viewAt, placeOf, partAt, Lies}
 use Rattle.look.proofs.Places.{view-none, view-back, part-seen, lies-whole}
 use Rattle.calls_look.specs.declared.Shown.{Shown}

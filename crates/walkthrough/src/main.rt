@@ -1,4 +1,4 @@
-// One morning at a relay: document 01's ten marked rows, each with its call, its answer and the tables after it.
+// One morning at a relay: document 01's ten marked rows, each with its call, its answer and the tables after it, and two shows, each with the bytes seen.
 use calls_look::Shown;
 use kinds::Answer;
 use kinds::SlipNumber;
