@@ -24,7 +24,8 @@ use Rattle.rules.specs.Drop.{dropHere, dropPlan, dropAfter}
 use Rattle.rules.specs.Keep.{shortened, keptBy, keepAfter}
 use Rattle.rules.specs.Pullup.{pullupAfter, pullupWants}
 use Rattle.rules.specs.Pack.{packAfter, packWants}
-use Rattle.rules.specs.Step.{Put, Free, Dup, Cut, Append, Drop, Keep, Pullup, Pack, Open, Do, rule, done, perform, step, stateIn, leftBy, next, afterCalls}
+use Rattle.rules.specs.Step.{Put, Free, Dup, Cut, Append, Drop, Keep, Pullup, Pack}
+use Rattle.rules.specs.Step.{Open, Do, rule, done, perform, step, stateIn, leftBy, next, afterCalls}
 use Rattle.rules.specs.Morning.{Row, byteRun, rows, fresh4, given, Edge, edge, edges, tried}
 
 -- unfolding this unfolds every rule
