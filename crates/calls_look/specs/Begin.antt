@@ -21,4 +21,5 @@ pub record Begins (p st : List ℕ) (s room : ℕ) (b : Begun) : Type 0 where
   pub good : Is (linkOk (decode p) (b .link))
   pub fits : length (stretchesFrom (decode p) (b .link)) ≤ room
   pub answers : (list : List ℕ) → length list ≡ 2 * room
-      → resultOf (b .answer) p st (copied (records (decode p .stock) (stretchesFrom (decode p) (b .link))) list) noView ≡ step (Do (WireList s list)) (lent p st)
+      → resultOf (b .answer) p st (copied (records (decode p .stock) (stretchesFrom (decode p) (b .link))) list) noView
+      ≡ step (Do (WireList s list)) (lent p st)

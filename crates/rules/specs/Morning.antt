@@ -56,8 +56,8 @@ rows =
     storage1 0 (byteRun 0 600)
     ∷ row (Cut 0 500 50) 1 (state (2 ∷ 4 ∷ 0 ∷ 0 ∷ []) (p 1 0 0 512 2 ∷ p 1 1 0 88 0 ∷ p 1 0 500 12 4 ∷ p 1 1 0 38 0 ∷ blank ∷ blank ∷ []) (2 ∷ 2 ∷ 0 ∷ 0 ∷ []))
     storage1 1 (byteRun 500 50)
-    ∷ row (Dup 0) 2 (state (2 ∷ 4 ∷ 6 ∷ 0 ∷ []) (p 1 0 0 512 2 ∷ p 2 1 0 88 0 ∷ p 1 0 500 12 4 ∷ p 1 1 0 38 0 ∷ p 1 0 0 512 2 ∷ blank ∷ []) (3 ∷ 2 ∷ 0 ∷ 0 ∷ []))
-    storage1 2 (byteRun 0 600)
+    ∷ row (Dup 0) 2 (state (2 ∷ 4 ∷ 6 ∷ 0 ∷ []) (p 1 0 0 512 2 ∷ p 2 1 0 88 0 ∷ p 1 0 500 12 4 ∷ p 1 1 0 38 0 ∷ p 1 0 0 512 2 ∷ blank ∷ [])
+    (3 ∷ 2 ∷ 0 ∷ 0 ∷ [])) storage1 2 (byteRun 0 600)
     ∷ row (Free 0) 0 (state (0 ∷ 4 ∷ 6 ∷ 0 ∷ []) (blank ∷ p 1 1 0 88 0 ∷ p 1 0 500 12 4 ∷ p 1 1 0 38 0 ∷ p 1 0 0 512 2 ∷ blank ∷ []) (2 ∷ 2 ∷ 0 ∷ 0 ∷ []))
     storage1 0 []
     ∷ row (Drop 2 520) 0 (state (0 ∷ 4 ∷ 3 ∷ 0 ∷ []) (blank ∷ p 1 1 8 80 0 ∷ p 1 0 500 12 4 ∷ p 1 1 0 38 0 ∷ blank ∷ blank ∷ []) (1 ∷ 2 ∷ 0 ∷ 0 ∷ []))
