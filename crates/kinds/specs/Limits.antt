@@ -5,15 +5,15 @@ use lib.Dec.{leb}
 
 -- the most buffers of a pool: the limit on fixed-size clusters
 abbrev pub mostBuffers : ℕ
-mostBuffers = 128
+mostBuffers = 1024
 
 -- the most pieces of a pool: the limit on segment descriptors
 abbrev pub mostPieces : ℕ
-mostPieces = 256
+mostPieces = 2048
 
 -- the most slips of a pool: the limit on handles
 abbrev pub mostSlips : ℕ
-mostSlips = 64
+mostSlips = 256
 
 -- the bytes of a buffer: the cluster size
 abbrev pub bufferSize : ℕ

@@ -73,7 +73,7 @@ fn within(n: u16, most: u16) -> bool
 
 impl SlipNumber {
     // The most slips of a pool: the limit on handles.
-    pub const MOST: u16 = 64;
+    pub const MOST: u16 = 256;
 
     // Whether a pool may have `n` slips: a range test.
     pub fn counted(n: u16) -> bool
@@ -92,7 +92,7 @@ impl SlipNumber {
 
 impl PieceNumber {
     // The most pieces of a pool: the limit on segment descriptors.
-    pub const MOST: u16 = 256;
+    pub const MOST: u16 = 2048;
 
     // Whether a pool may have `n` pieces: a range test.
     pub fn counted(n: u16) -> bool
@@ -111,7 +111,7 @@ impl PieceNumber {
 
 impl BufferNumber {
     // The most buffers of a pool: the limit on clusters.
-    pub const MOST: u16 = 128;
+    pub const MOST: u16 = 1024;
 
     // The bytes of a buffer: the cluster size.
     pub const SIZE: u16 = 512;

@@ -8,11 +8,11 @@ use Rattle.word.specs.Word.{get16}
 -- the counts that a pool of n bytes beside k bytes of storage may have
 pub record CountsAt (B P S n k : ℕ) : Type 0 where
   pub some-buffers : 1 ≤ B
-  pub most-buffers : B ≤ 128
+  pub most-buffers : B ≤ 1024
   pub some-pieces : 1 ≤ P
-  pub most-pieces : P ≤ 256
+  pub most-pieces : P ≤ 2048
   pub some-slips : 1 ≤ S
-  pub most-slips : S ≤ 64
+  pub most-slips : S ≤ 256
   pub pool-long : n ≡ 11 + 2 * S + 10 * P + 2 * B
   pub storage-long : k ≡ 512 * B
 
