@@ -2,15 +2,31 @@
 use mathlib.Core.Path.{_≡_}
 use mathlib.Core.Bool.{Bool, true, false}
 use mathlib.Core.List.{List}
-use Prim.Native.Nat.{ℕ, suc, _+_, _≤_, _<_}
+use Prim.Native.Nat.{ℕ, suc, _+_, _-_, _/_, _≤_, _<_}
 use lib.ListN.{length, getD}
 use lib.Dec.{ltb}
-use Rattle.kinds.specs.Limits.{mostPieces}
+use Rattle.kinds.specs.Limits.{mostBuffers, mostPieces, mostCount}
 use Rattle.rules.specs.Basics.{bit, sumTo}
 use Rattle.rules.specs.Tables.{Tables, piece, pieceTotal}
 use Rattle.rules.specs.Chain.{follow}
 use Rattle.rules.specs.Sound.{acyclic}
 use Rattle.audit.specs.Follows.{followsOf}
+
+-- the most pieces and buffers of a small pool
+abbrev pub fewPieces : ℕ
+fewPieces = mostPieces / 8
+
+abbrev pub fewBuffers : ℕ
+fewBuffers = mostBuffers / 8
+
+-- the colours in counters c: what is above every count; a count itself is none, 0
+unfoldable pub coloursIn : List ℕ → List ℕ
+coloursIn c = map (λ n. n - mostCount) c
+
+-- counters for n pieces that hold counts alone, and no colour
+pub record Plain (n : ℕ) (c : List ℕ) : Type 0 where
+  pub long : n ≤ length c
+  pub each : (d : ℕ) → d < n → getD c d 0 ≤ mostCount
 
 -- how many of the first n pieces have a colour
 unfoldable pub coloured : List ℕ → ℕ → ℕ
@@ -24,8 +40,7 @@ Covered c n = (e : ℕ) → n ≡ suc e → 0 < getD c e 0
 -- colour, no colour is above d, and from each piece with a colour following next ends within n follows. A colour
 -- says from which piece its piece was met, and next leads from a piece with a colour to none without.
 pub record Scanned (T : Tables) (c : List ℕ) (n d : ℕ) : Type 0 where
-  pub long : length c ≡ mostPieces
-  pub few : pieceTotal T ≤ mostPieces
+  pub long : pieceTotal T ≤ length c
   pub linked : (e : ℕ) → e < pieceTotal T → piece T e .next ≤ pieceTotal T
   pub within : d ≤ pieceTotal T
   pub follows : n ≡ coloured c (pieceTotal T)

@@ -1,12 +1,13 @@
 -- How often the audit follows next: once for each piece that its walks meet, so at most P times.
+use mathlib.Core.Path.{_≡_}
 use mathlib.Core.Bool.{Bool, _&&_}
-use Prim.Native.Nat.{ℕ, suc}
+use Prim.Native.Nat.{ℕ, suc, _≤_}
 use lib.Dec.{eqb}
 use Rattle.rules.specs.Basics.{if_then_else_, bit, sumTo, allTo, anyTo}
 use Rattle.rules.specs.Tables.{Tables, pieceTotal}
 use Rattle.rules.specs.Bytes.{decode}
 use Rattle.rules.specs.Chain.{follow}
-use Rattle.rules.specs.Sound.{Lent, headerOk}
+use Rattle.rules.specs.Sound.{Lent, headerOk, soundTables}
 use Rattle.counts.specs.Ranges.{referencesOk}
 
 -- following next from piece d ends
@@ -32,6 +33,12 @@ followsOf T = sumTo (pieceTotal T) (λ e. bit (isMet T e))
 -- the follows of the test of the tables: none where an entry or a count is wrong, since there nothing is walked
 unfoldable pub tablesFollows : Tables → ℕ
 tablesFollows T = if referencesOk T then followsOf T else 0
+
+-- what the test of the tables answers: whether they are sound, and n follows, at most P
+pub record Tested (T : Tables) (r : Bool) (n : ℕ) : Type 0 where
+  pub exact : r ≡ soundTables T
+  pub follows : n ≡ tablesFollows T
+  pub bounded : n ≤ pieceTotal T
 
 -- the follows of the audit: none where the header does not fit
 unfoldable pub auditFollows : Lent → ℕ

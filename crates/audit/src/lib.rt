@@ -10,15 +10,22 @@ ghost use lib.ListN.{length};
 ghost use Rattle.rules.specs.Layout.{headerLength};
 ghost use Rattle.rules.specs.Tables.{pieceTotal};
 ghost use Rattle.rules.specs.Bytes.{decode};
-ghost use Rattle.rules.specs.Sound.{acyclic, headed, soundTables};
+ghost use Rattle.rules.specs.Sound.{acyclic, headed};
 ghost use Rattle.counts.specs.Ranges.{piecesInRange};
-ghost use Rattle.counts.specs.Counters.{Limited};
-ghost use Rattle.audit.specs.Follows.{followsOf, tablesFollows};
-ghost use Rattle.audit.specs.Colours.{Scanned, Walked};
+ghost use Rattle.counts.specs.Counters.{Limited, Cleared};
+ghost use Rattle.audit.specs.Follows.{followsOf, Tested};
+ghost use Rattle.audit.specs.Colours.{fewPieces, fewBuffers, coloursIn, Plain, Scanned, Walked};
 ghost use Rattle.audit.specs.Verdict.{tornAnswer, Verdict};
 
-// One colour for each piece that a pool may have.
+// One counter for each piece and each buffer that a pool may have.
 const PIECES: usize = PieceNumber::MOST as usize;
+
+const BUFFERS: usize = BufferNumber::MOST as usize;
+
+// The same for a small pool, whose audit then zeroes an eighth.
+const FEW_PIECES: usize = PIECES / 8;
+
+const FEW_BUFFERS: usize = BUFFERS / 8;
 
 // What following next comes to: whether it ends, and how often it was followed.
 struct Followed {
@@ -33,25 +40,20 @@ pub struct Audited {
     pub shape: Shape,
 }
 
-// Follows next from piece `d`, giving each piece met the walk's colour, up to a piece that has one: its own is a cycle.
-fn walk(
-    pool: &[u8],
-    shape: Shape,
-    colours: &mut [u16; PIECES],
-    d: PieceNumber,
-    follows: u16,
-) -> Followed
-    requires { ⌜ Limited (now pool) shape × Scanned (decode (now pool)) (now colours) follows (d .0) × (d .0 < shape .pieces) ⌝ }
-    ensures { λ r. ⌜ Walked (decode (now (pool .entry))) (now (colours .exit)) (d .0) (r .follows) (r .ends) ⌝ }
+// Follows next from piece `d`, giving each piece met the walk's colour, up to a piece that has one: its own is a cycle. A colour is above
+// every count, so the counters of the pieces serve for the colours as they stand.
+fn walk(pool: &[u8], shape: Shape, colours: &mut [u16], d: PieceNumber, follows: u16) -> Followed
+    requires { ⌜ Limited (now pool) shape × Scanned (decode (now pool)) (coloursIn (now colours)) follows (d .0) × (d .0 < shape .pieces) ⌝ }
+    ensures { λ r. ⌜ Walked (decode (now (pool .entry))) (coloursIn (now (colours .exit))) (d .0) (r .follows) (r .ends) ⌝ }
 {
-    let colour = d.0 + 1;
-    let mut link = colour;
+    let colour = kinds::MOST_COUNT + d.0 + 1;
+    let mut link = d.0 + 1;
     let mut n = follows;
     while link != 0 {
         let at = link - 1;
         let i = at as usize;
         let seen = colours[i];
-        if seen != 0 {
+        if seen > kinds::MOST_COUNT {
             return Followed {
                 ends: seen != colour,
                 follows: n,
@@ -69,16 +71,15 @@ fn walk(
 }
 
 // Whether following next ends from every piece, with the follows that this took: one for each piece met, at most P.
-fn ends(pool: &[u8], shape: Shape) -> Followed
-    requires { ⌜ Limited (now pool) shape × (piecesInRange (decode (now pool)) ≡ true) ⌝ }
+fn ends(pool: &[u8], shape: Shape, colours: &mut [u16]) -> Followed
+    requires { ⌜ Limited (now pool) shape × (piecesInRange (decode (now pool)) ≡ true) × Plain (shape .pieces) (now colours) ⌝ }
     ensures { λ r. ⌜ (r .ends ≡ acyclic (decode (now (pool .entry))))
         × (r .follows ≡ followsOf (decode (now (pool .entry)))) × (r .follows ≤ pieceTotal (decode (now (pool .entry)))) ⌝ }
 {
-    let mut colours = [0u16; PIECES];
     let mut n: u16 = 0;
     let mut d: u16 = 0;
     while d < shape.pieces {
-        let r = walk(pool, shape, &mut colours, PieceNumber(d), n);
+        let r = walk(pool, shape, colours, PieceNumber(d), n);
         n = r.follows;
         if !r.ends {
             return r;
@@ -91,19 +92,52 @@ fn ends(pool: &[u8], shape: Shape) -> Followed
     }
 }
 
-// Whether the tables are sound, with how often next was followed.
-fn tables_ok(pool: &[u8], shape: Shape) -> Followed
-    requires { ⌜ Limited (now pool) shape ⌝ }
-    ensures { λ r. ⌜ (r .ends ≡ soundTables (decode (now (pool .entry))))
-        × (r .follows ≡ tablesFollows (decode (now (pool .entry)))) × (r .follows ≤ pieceTotal (decode (now (pool .entry)))) ⌝ }
+// Whether the tables are sound, with how often next was followed: lent counters for the pieces, then their colours, and for the buffers.
+fn tables_ok_in(pool: &[u8], shape: Shape, refs: &mut [u16], lies: &mut [u16]) -> Followed
+    requires { ⌜ Limited (now pool) shape × Cleared (shape .pieces) (now refs) × Cleared (shape .buffers) (now lies) ⌝ }
+    ensures { λ r. ⌜ Tested (decode (now (pool .entry))) (r .ends) (r .follows) ⌝ }
 {
-    if !counts::references_ok(pool, shape) {
+    if !counts::references_ok(pool, shape, refs, lies) {
         return Followed {
             ends: false,
             follows: 0,
         };
     }
-    ends(pool, shape)
+    ends(pool, shape, refs)
+}
+
+// The same of a small pool, with as few counters.
+fn small_ok(pool: &[u8], shape: Shape) -> Followed
+    requires { ⌜ Limited (now pool) shape × (shape .pieces ≤ fewPieces) × (shape .buffers ≤ fewBuffers) ⌝ }
+    ensures { λ r. ⌜ Tested (decode (now (pool .entry))) (r .ends) (r .follows) ⌝ }
+{
+    let mut refs = [0u16; FEW_PIECES];
+    let mut lies = [0u16; FEW_BUFFERS];
+    tables_ok_in(pool, shape, &mut refs, &mut lies)
+}
+
+// The same of any pool.
+fn large_ok(pool: &[u8], shape: Shape) -> Followed
+    requires { ⌜ Limited (now pool) shape ⌝ }
+    ensures { λ r. ⌜ Tested (decode (now (pool .entry))) (r .ends) (r .follows) ⌝ }
+{
+    let mut refs = [0u16; PIECES];
+    let mut lies = [0u16; BUFFERS];
+    tables_ok_in(pool, shape, &mut refs, &mut lies)
+}
+
+// Whether the tables are sound, with how often next was followed.
+fn tables_ok(pool: &[u8], shape: Shape) -> Followed
+    requires { ⌜ Limited (now pool) shape ⌝ }
+    ensures { λ r. ⌜ Tested (decode (now (pool .entry))) (r .ends) (r .follows) ⌝ }
+{
+    if shape.pieces as usize > FEW_PIECES {
+        return large_ok(pool, shape);
+    }
+    if shape.buffers as usize > FEW_BUFFERS {
+        return large_ok(pool, shape);
+    }
+    small_ok(pool, shape)
 }
 
 // Whether mark, version, counts and both lengths fit.

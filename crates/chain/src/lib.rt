@@ -16,7 +16,7 @@ ghost use Rattle.rules.specs.Rule.{unnamed};
 ghost use Rattle.tables.specs.Shape.{Shaped};
 ghost use Rattle.chain.specs.Opened.{Opened};
 ghost use Rattle.chain.specs.Enter.{Enters};
-ghost use Rattle.chain.specs.Length.{stretchesFrom, LengthIs};
+ghost use Rattle.chain.specs.Length.{stretchesFrom, LegIs, LengthIs};
 ghost use Rattle.chain.specs.Find.{spotOf, pastEnd};
 ghost use Rattle.chain.specs.Part.{partOf};
 
@@ -26,6 +26,15 @@ pub struct Spot {
     pub into: u32,
     pub own: bool,
 }
+
+// A part of a walk over next, the bytes of the pieces passed and the link behind them: a bounded step of a traversal.
+pub struct Leg {
+    pub bytes: u32,
+    pub link: u16,
+}
+
+// The most pieces of a leg: the longest chain takes 64 legs.
+const LEG: u16 = 32;
 
 // What the first bytes of a chain take: how many pieces, and whether it has them (an extent).
 pub struct Part {
@@ -64,22 +73,47 @@ pub fn piece_bytes(pool: &[u8], shape: Shape, d: PieceNumber) -> u32
     tables::piece_length(pool, shape, d) as u32
 }
 
-// The length of the first piece and the length of the rest, or zero; at most `allowed` pieces.
+// The bytes of the first pieces from `link` on, at most `most` of them, and the link behind them: a bounded loop.
+fn leg(pool: &[u8], shape: Shape, link: u16, most: u16) -> Leg
+    requires { ⌜ Opened (now pool) shape × Is (linkOk (decode (now pool)) link) ⌝ }
+    ensures { λ r. ⌜ LegIs (decode (now (pool .entry))) link most r ⌝ }
+{
+    let mut bytes = 0;
+    let mut at = link;
+    let mut left = most;
+    while 0 < left {
+        if at == 0 {
+            return Leg {
+                bytes: bytes,
+                link: 0,
+            };
+        }
+        let d = PieceNumber(at - 1);
+        bytes += piece_bytes(pool, shape, d);
+        at = tables::piece_next(pool, shape, d);
+        left -= 1;
+    }
+    Leg {
+        bytes: bytes,
+        link: at,
+    }
+}
+
+// The length of the first pieces and the length of the rest, or zero; at most `allowed` pieces. Each level takes a leg, so that the stack stays small.
 pub fn length_from(pool: &[u8], shape: Shape, link: u16, allowed: u16) -> u32
     requires { ⌜ Opened (now pool) shape × Is (linkOk (decode (now pool)) link) ⌝ }
     ensures { λ r. ⌜ LengthIs (decode (now (pool .entry))) link allowed r ⌝ }
 {
-    if allowed == 0 {
-        return 0;
+    if allowed <= LEG {
+        return leg(pool, shape, link, allowed).bytes;
     }
-    if link == 0 {
-        return 0;
+    let first = leg(pool, shape, link, LEG);
+    let next = first.link;
+    if next == 0 {
+        return first.bytes;
     }
-    let d = PieceNumber(link - 1);
-    let first = piece_bytes(pool, shape, d);
-    let next = tables::piece_next(pool, shape, d);
-    let rest = length_from(pool, shape, next, allowed - 1);
-    first + rest
+    let rest = length_from(pool, shape, next, allowed - LEG);
+    first.bytes + rest
 }
 
 // The length of the chain of slip `s`, in bytes: a walk from its head.

@@ -5,24 +5,18 @@ use kinds::SlipNumber;
 use layout::Shape;
 use tables::Entry;
 ghost use mathlib.Core.Path.{_≡_};
-ghost use Prim.Native.Nat.{_+_, _<_, _≤_};
-ghost use Rattle.kinds.specs.Limits.{mostPieces, mostBuffers};
+ghost use Prim.Native.Nat.{_<_, _≤_};
+ghost use lib.ListN.{length};
 ghost use Rattle.rules.specs.Tables.{isBlank};
 ghost use Rattle.rules.specs.Bytes.{decode};
-ghost use Rattle.rules.specs.Sound.{heads, nexts, lying};
+ghost use Rattle.rules.specs.Sound.{heads, lying};
 ghost use Rattle.tables.specs.Entry.{pieceOf};
-ghost use Rattle.counts.specs.Ranges.{usedInRange, pieceInRange, countsAgree, buffersAgree, referencesOk};
-ghost use Rattle.counts.specs.Counters.{Limited, zeros, tallied, lieOf, Countable, Hold, SlipsCounted, PiecesCounted};
-
-// One counter for each piece that a pool may have.
-const PIECES: usize = PieceNumber::MOST as usize;
-
-// One counter for each buffer that a pool may have.
-const BUFFERS: usize = BufferNumber::MOST as usize;
+ghost use Rattle.counts.specs.Ranges.{usedInRange, pieceInRange, countsAgree, buffersAgree};
+ghost use Rattle.counts.specs.Counters.{Limited, tallied, lieOf, Countable, Hold, Cleared, references, SlipsCounted, PiecesCounted, ReferencesCounted};
 
 // Counts one reference more to the piece that the link `n` leads to.
-fn count_link(refs: &mut [u16; PIECES], n: u16)
-    requires { ⌜ (n ≤ mostPieces) × Countable (now refs) ⌝ }
+fn count_link(refs: &mut [u16], n: u16)
+    requires { ⌜ (n ≤ length (now refs)) × Countable (now refs) ⌝ }
     ensures { λ _. ⌜ now (refs .exit) ≡ tallied (now (refs .entry)) n ⌝ }
 {
     if n == 0 {
@@ -33,8 +27,8 @@ fn count_link(refs: &mut [u16; PIECES], n: u16)
 }
 
 // Whether each slip's link is in range, with the pieces that they head counted.
-fn count_slips(pool: &[u8], shape: Shape, refs: &mut [u16; PIECES]) -> bool
-    requires { ⌜ Limited (now pool) shape × (now refs ≡ zeros mostPieces) ⌝ }
+fn count_slips(pool: &[u8], shape: Shape, refs: &mut [u16]) -> bool
+    requires { ⌜ Limited (now pool) shape × Cleared (shape .pieces) (now refs) ⌝ }
     ensures { λ r. ⌜ SlipsCounted (decode (now (pool .entry))) r (now (refs .exit)) ⌝ }
 {
     let mut s: u16 = 0;
@@ -95,8 +89,8 @@ fn entry_ok(e: Entry, shape: Shape) -> bool
 }
 
 // Counts what a piece in use refers to: its next and its buffer.
-fn count_entry(e: Entry, refs: &mut [u16; PIECES], lies: &mut [u16; BUFFERS])
-    requires { ⌜ (e .next ≤ mostPieces) × (lieOf (pieceOf e) ≤ mostBuffers) × Countable (now refs) × Countable (now lies) ⌝ }
+fn count_entry(e: Entry, refs: &mut [u16], lies: &mut [u16])
+    requires { ⌜ (e .next ≤ length (now refs)) × (lieOf (pieceOf e) ≤ length (now lies)) × Countable (now refs) × Countable (now lies) ⌝ }
     ensures { λ _. ⌜ (now (refs .exit) ≡ tallied (now (refs .entry)) (e .next)) × (now (lies .exit) ≡ tallied (now (lies .entry)) (lieOf (pieceOf e))) ⌝ }
 {
     count_link(refs, e.next);
@@ -108,13 +102,8 @@ fn count_entry(e: Entry, refs: &mut [u16; PIECES], lies: &mut [u16; BUFFERS])
 }
 
 // Whether each piece is all zero or in range, with what the pieces in use refer to counted.
-fn count_pieces(
-    pool: &[u8],
-    shape: Shape,
-    refs: &mut [u16; PIECES],
-    lies: &mut [u16; BUFFERS],
-) -> bool
-    requires { ⌜ Limited (now pool) shape × Hold mostPieces (now refs) (heads (decode (now pool))) × (now lies ≡ zeros mostBuffers) ⌝ }
+fn count_pieces(pool: &[u8], shape: Shape, refs: &mut [u16], lies: &mut [u16]) -> bool
+    requires { ⌜ Limited (now pool) shape × Hold (shape .pieces) (now refs) (heads (decode (now pool))) × Cleared (shape .buffers) (now lies) ⌝ }
     ensures { λ r. ⌜ PiecesCounted (decode (now (pool .entry))) r (now (refs .exit)) (now (lies .exit)) ⌝ }
 {
     let mut d: u16 = 0;
@@ -130,8 +119,8 @@ fn count_pieces(
 }
 
 // Whether each piece's count is the number of references counted.
-fn counts_agree(pool: &[u8], shape: Shape, refs: &[u16; PIECES]) -> bool
-    requires { ⌜ Limited (now pool) shape × Hold mostPieces (now refs) (λ d. heads (decode (now pool)) d + nexts (decode (now pool)) d) ⌝ }
+fn counts_agree(pool: &[u8], shape: Shape, refs: &[u16]) -> bool
+    requires { ⌜ Limited (now pool) shape × Hold (shape .pieces) (now refs) (references (decode (now pool))) ⌝ }
     ensures { λ r. ⌜ r ≡ countsAgree (decode (now (pool .entry))) ⌝ }
 {
     let mut d: u16 = 0;
@@ -147,8 +136,8 @@ fn counts_agree(pool: &[u8], shape: Shape, refs: &[u16; PIECES]) -> bool
 }
 
 // Whether each buffer's count is the number of pieces counted on it.
-fn buffers_agree(pool: &[u8], shape: Shape, lies: &[u16; BUFFERS]) -> bool
-    requires { ⌜ Limited (now pool) shape × Hold mostBuffers (now lies) (lying (decode (now pool))) ⌝ }
+fn buffers_agree(pool: &[u8], shape: Shape, lies: &[u16]) -> bool
+    requires { ⌜ Limited (now pool) shape × Hold (shape .buffers) (now lies) (lying (decode (now pool))) ⌝ }
     ensures { λ r. ⌜ r ≡ buffersAgree (decode (now (pool .entry))) ⌝ }
 {
     let mut b: u16 = 0;
@@ -163,21 +152,19 @@ fn buffers_agree(pool: &[u8], shape: Shape, lies: &[u16; BUFFERS]) -> bool
     true
 }
 
-// Whether links and entries are in range and every count is the number of its references.
-pub fn references_ok(pool: &[u8], shape: Shape) -> bool
-    requires { ⌜ Limited (now pool) shape ⌝ }
-    ensures { λ r. ⌜ r ≡ referencesOk (decode (now (pool .entry))) ⌝ }
+// Whether links and entries are in range and every count is the number of its references, which lent counters then hold.
+pub fn references_ok(pool: &[u8], shape: Shape, refs: &mut [u16], lies: &mut [u16]) -> bool
+    requires { ⌜ Limited (now pool) shape × Cleared (shape .pieces) (now refs) × Cleared (shape .buffers) (now lies) ⌝ }
+    ensures { λ r. ⌜ ReferencesCounted (decode (now (pool .entry))) r (now (refs .exit)) ⌝ }
 {
-    let mut refs = [0u16; PIECES];
-    let mut lies = [0u16; BUFFERS];
-    if !count_slips(pool, shape, &mut refs) {
+    if !count_slips(pool, shape, refs) {
         return false;
     }
-    if !count_pieces(pool, shape, &mut refs, &mut lies) {
+    if !count_pieces(pool, shape, refs, lies) {
         return false;
     }
-    if !counts_agree(pool, shape, &refs) {
+    if !counts_agree(pool, shape, refs) {
         return false;
     }
-    buffers_agree(pool, shape, &lies)
+    buffers_agree(pool, shape, lies)
 }

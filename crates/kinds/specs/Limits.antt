@@ -1,5 +1,5 @@
 -- How many buffers, pieces and slips a pool may have, and the bytes of a buffer.
-use Prim.Native.Nat.{ℕ}
+use Prim.Native.Nat.{ℕ, _+_}
 use mathlib.Core.Bool.{Bool, _&&_}
 use lib.Dec.{leb}
 
@@ -14,6 +14,10 @@ mostPieces = 2048
 -- the most slips of a pool: the limit on handles
 abbrev pub mostSlips : ℕ
 mostSlips = 256
+
+-- the most references that a count can come to, one for each piece and each slip: the limit on reference counts
+abbrev pub mostCount : ℕ
+mostCount = mostPieces + mostSlips
 
 -- the bytes of a buffer: the cluster size
 abbrev pub bufferSize : ℕ

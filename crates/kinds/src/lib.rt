@@ -57,6 +57,9 @@ pub struct Answer {
     pub number: u32,
 }
 
+// The most references that a count can come to, one for each piece and each slip: the limit on reference counts.
+pub const MOST_COUNT: u16 = PieceNumber::MOST + SlipNumber::MOST;
+
 // The lesser of two numbers: a minimum.
 pub fn lesser(a: u32, b: u32) -> u32
     ensures { λ r. ⌜ r ≡ min a b ⌝ }

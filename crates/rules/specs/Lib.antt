@@ -28,6 +28,7 @@ pub mod Gather
 pub mod Step
 pub mod Recount
 pub mod Places
+pub mod Most
 pub mod Causes
 pub mod Demand
 pub mod After
