@@ -81,6 +81,16 @@ follow-good T (suc j) (suc d) S t =
     let b : suc d - 1 ≡ d = omega arith in
     follow-good T j (piece T d .next) S (subst (λ (x : ℕ). Is (linkOk T (piece T x .next))) b (link-leads T (suc d) S t (omega arith) .onward))
 
+-- following next past the first piece
+pub follow-first : (T : Tables) (k n : ℕ) → (k ≡ 0 → ⊥) → (n ≡ 0 → ⊥) → follow T k n ≡ follow T (k - 1) (piece T (n - 1) .next)
+unfolding follow
+follow-first T zero n h i = absurd (h refl)
+follow-first T (suc k) zero h i = absurd (i refl)
+follow-first T (suc k) (suc d) h i =
+    let a : suc k - 1 ≡ k = omega arith in
+    let b : suc d - 1 ≡ d = omega arith in
+    rw (a, b)
+
 -- ---- the pieces met from a link
 
 -- no piece is met from the link 0
@@ -175,3 +185,16 @@ pub length-first : (k n : ℕ) (T : Tables) → (k ≡ 0 → ⊥) → (n ≡ 0 �
     → total (stretches T (walk k T n)) ≡ piece T (n - 1) .len + total (stretches T (walk (k - 1) T (piece T (n - 1) .next)))
 unfolding stretches total
 length-first k n T h i = rw (walk-first k n T h i)
+
+-- of the first k pieces, and of the others of the m allowed
+pub length-split : (k m n : ℕ) (T : Tables) → k ≤ m
+    → total (stretches T (walk m T n)) ≡ total (stretches T (walk k T n)) + total (stretches T (walk (m - k) T (follow T k n)))
+unfolding follow walk stretches total
+length-split zero m n T h =
+    let a : m - 0 ≡ m = omega arith in
+    rw a (omega arith)
+length-split (suc k) zero n T h = absurd (omega arith)
+length-split (suc k) (suc m) zero T h = omega (arith, length-empty (suc m - suc k) 0 T refl)
+length-split (suc k) (suc m) (suc d) T h =
+    let a : suc m - suc k ≡ m - k = omega arith in
+    rw a (omega (arith, length-split k m (piece T d .next) T (omega arith)))

@@ -74,14 +74,14 @@ pub fn piece_bytes(pool: &[u8], shape: Shape, d: PieceNumber) -> u32
 }
 
 // The bytes of the first pieces from `link` on, at most `most` of them, and the link behind them: a bounded loop.
-fn leg(pool: &[u8], shape: Shape, link: u16, most: u16) -> Leg
+fn leg_from(pool: &[u8], shape: Shape, link: u16, most: u16) -> Leg
     requires { ⌜ Opened (now pool) shape × Is (linkOk (decode (now pool)) link) ⌝ }
     ensures { λ r. ⌜ LegIs (decode (now (pool .entry))) link most r ⌝ }
 {
     let mut bytes = 0;
     let mut at = link;
-    let mut left = most;
-    while 0 < left {
+    let mut allowed = most;
+    while 0 < allowed {
         if at == 0 {
             return Leg {
                 bytes: bytes,
@@ -91,7 +91,7 @@ fn leg(pool: &[u8], shape: Shape, link: u16, most: u16) -> Leg
         let d = PieceNumber(at - 1);
         bytes += piece_bytes(pool, shape, d);
         at = tables::piece_next(pool, shape, d);
-        left -= 1;
+        allowed -= 1;
     }
     Leg {
         bytes: bytes,
@@ -105,9 +105,9 @@ pub fn length_from(pool: &[u8], shape: Shape, link: u16, allowed: u16) -> u32
     ensures { λ r. ⌜ LengthIs (decode (now (pool .entry))) link allowed r ⌝ }
 {
     if allowed <= LEG {
-        return leg(pool, shape, link, allowed).bytes;
+        return leg_from(pool, shape, link, allowed).bytes;
     }
-    let first = leg(pool, shape, link, LEG);
+    let first = leg_from(pool, shape, link, LEG);
     let next = first.link;
     if next == 0 {
         return first.bytes;

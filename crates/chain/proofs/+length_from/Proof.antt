@@ -1,6 +1,6 @@
 -- `chain::length_from` meets its contract: the pieces still allowed fall with each call. Assumes nothing.
-use Prim.Native.Nat.{ℕ, _-_, _<_}
-use mathlib.Core.Path.{sym, ap, subst, _∙_}
+use Prim.Native.Nat.{ℕ, _+_, _-_, _<_}
+use mathlib.Core.Path.{_≡_, sym, ap, subst}
 use native.Mathlib.Omega.{arith}
 use borrow.Fn.Kinds.{In}
 use borrow.Fn.PlainCycle.{Measures, is, falls, and}
@@ -8,13 +8,11 @@ use Rattle.rules.specs.Basics.{Is}
 use Rattle.rules.specs.Bytes.{decode}
 use Rattle.rules.specs.Chain.{walk, stretches, total}
 use Rattle.rules.specs.Sound.{linkOk}
-use Rattle.tables.proofs.Laws.{whole, total-pieces}
-use Rattle.chain.proofs.Links.{InUse, link-leads, length-none, length-empty, length-first}
+use Rattle.chain.proofs.Links.{follow-good, length-empty, length-split}
 use Rattle.chain.proofs.length_from.Reads as length-from
 use Rattle.chain.proofs.length_from.Kinds as length-from-kinds
 use Rattle.chain.proofs.+length_from.Lts-length_from as lts
-use Rattle.chain.proofs.piece_bytes.Reads as piece-bytes-reads
-use Rattle.tables.proofs.piece_next.Reads as piece-next-reads
+use Rattle.chain.proofs.leg_from.Reads as leg-from-reads
 use Rattle.chain.proofs.+length_from.{statement}
 use Rattle.chain.proofs.+length_from.Tie.{close}
 
@@ -31,68 +29,60 @@ length-from-below t =
 
 -- what is asked and learnt at each call
 abbrev calls : ℕ → lts.Claims
-calls t = (
-  piece-bytes-reads.Asked,
-  piece-bytes-reads.Learnt,
-  piece-next-reads.Asked,
-  piece-next-reads.Learnt,
-  length-from-below t,
-  length-from.Post,
-)
+calls t = (leg-from-reads.Asked, leg-from-reads.Learnt, length-from-below t, length-from.Post)
 
 module _ (t : ℕ) where
+  leg-from-requires : lts.Need-leg-from-requires (calls t) (length-from-at t) length-from.Post
+  leg-from-requires c κs = c .before .before .pre .1
+
   returns : lts.Need-returns (calls t) (length-from-at t) length-from.Post
-  returns c =
-      let a = c .before .before .args in
-      record { is = sym (length-none (a .allowed) (a .link) (decode (a .pool .now)) (c .if1 .taken)); most = omega arith }
+  returns c = let e = c .leg-from .ensures in record { is = e .is; most = e .most }
+
+  -- the first leg and what is met behind it are all that is met
+  both : (c : lts.After-leg-from2 (calls t) (length-from-at t) length-from.Post) → let a = c .before .before .before .args in let T = decode (a .pool .now) in
+      total (stretches T (walk (a .allowed) T (a .link)))
+      ≡ c .leg-from2 .result .bytes + total (stretches T (walk (a .allowed - 32) T (c .leg-from2 .result .link)))
+  both c =
+      let a = c .before .before .before .args in
+      let T = decode (a .pool .now) in
+      let e = c .leg-from2 .ensures in
+      omega (
+        arith,
+        e .is,
+        length-split 32 (a .allowed) (a .link) T (omega arith),
+        ap (λ (n : ℕ). total (stretches T (walk (a .allowed - 32) T n))) (e .behind),
+      )
+
+  leg-from-requires-2 : lts.Need-leg-from-requires-2 (calls t) (length-from-at t) length-from.Post
+  leg-from-requires-2 c κs = c .before .before .pre .1
 
   returns-2 : lts.Need-returns-2 (calls t) (length-from-at t) length-from.Post
   returns-2 c =
-      let a = c .before .before .before .args in
-      record { is = sym (length-empty (a .allowed) (a .link) (decode (a .pool .now)) (c .if2 .taken)); most = omega arith }
+      let a = c .before .before .before .before .args in
+      let none = length-empty (a .allowed - 32) (c .before .leg-from2 .result .link) (decode (a .pool .now)) (c .if2 .taken) in
+      record { is = omega (arith, both (c .before), none); most = omega (arith, c .before .leg-from2 .ensures .most) }
 
   sub-length-from : lts.Need-sub-length-from (calls t) (length-from-at t) length-from.Post
   sub-length-from c = omega arith
 
-  -- the link leads to a piece in use
-  leads : (c : lts.Else2 (calls t) (length-from-at t) length-from.Post)
-      → InUse (decode (c .before .before .before .args .pool .now)) (c .before .before .before .args .link - 1)
-  leads c =
-      let z = c .before .before .before in
-      link-leads (decode (z .args .pool .now)) (z .args .link) (z .pre .1 .0 .sound) (z .pre .1 .1) (c .if2 .left)
-
-  piece-bytes-requires : lts.Need-piece-bytes-requires (calls t) (length-from-at t) length-from.Post
-  piece-bytes-requires c κs =
-      let o = c .before .before .before .pre .1 .0 .shaped in
-      (o, omega (arith, leads c .below, total-pieces (whole o)))
-
-  piece-next-requires : lts.Need-piece-next-requires (calls t) (length-from-at t) length-from.Post
-  piece-next-requires c κs = piece-bytes-requires (c .before) κs
-
-  sub-length-from-2 : lts.Need-sub-length-from-2 (calls t) (length-from-at t) length-from.Post
-  sub-length-from-2 c = omega arith
-
   length-from-requires : lts.Need-length-from-requires (calls t) (length-from-at t) length-from.Post
   length-from-requires c κs =
-      let z = c .before .before .before .before .before in
-      let on = leads (c .before .before) .onward in
-      (omega arith, (z .pre .1 .0, subst (λ (n : ℕ). Is (linkOk (decode (z .args .pool .now)) n)) (sym (c .piece-next .ensures)) on))
+      let z = c .before .before .before .before in
+      let T = decode (z .args .pool .now) in
+      let o = z .pre .1 .0 in
+      let good = follow-good T 32 (z .args .link) (o .sound) (z .pre .1 .1) in
+      (omega arith, (o, subst (λ (n : ℕ). Is (linkOk T n)) (sym (c .before .leg-from2 .ensures .behind)) good))
 
   add-result : lts.Need-add-result (calls t) (length-from-at t) length-from.Post
   add-result c =
-      let z = c .before .before .before .before .before .before in
-      let u = leads (c .before .before .before) in
-      omega (arith, u .inside, c .before .before .piece-bytes .ensures, c .length-from .ensures .most, z .fits .allowed)
+      let first = c .before .before .before in
+      omega (arith, first .leg-from2 .ensures .most, c .before .length-from .ensures .most, first .before .before .before .fits .allowed)
 
   returns-3 : lts.Need-returns-3 (calls t) (length-from-at t) length-from.Post
   returns-3 c =
-      let z = c .before .before .before .before .before .before in
-      let T = decode (z .args .pool .now) in
-      let u = leads (c .before .before .before) in
-      let e = c .before .before .piece-bytes .ensures in
-      let rest = c .length-from .ensures .is ∙ ap (λ (n : ℕ). total (stretches T (walk (z .args .allowed - 1) T n))) (c .before .piece-next .ensures) in
-      let both = length-first (z .args .allowed) (z .args .link) T (c .before .before .before .before .if1 .left) (c .before .before .before .if2 .left) in
-      record { is = omega (arith, e, rest, both); most = omega (arith, u .inside, e, c .length-from .ensures .most) }
+      let first = c .before .before .before in
+      let rest = c .before .length-from .ensures in
+      record { is = omega (arith, both first, rest .is); most = omega (arith, first .leg-from2 .ensures .most, rest .most) }
 
 pub +length-from-spec : {M : Type 1} → statement M
 +length-from-spec =
@@ -100,12 +90,11 @@ pub +length-from-spec : {M : Type 1} → statement M
     (calls t)
     (length-from-at t)
     length-from.Post
+    (leg-from-requires t)
     (returns t)
+    (leg-from-requires-2 t)
     (returns-2 t)
     (sub-length-from t)
-    (piece-bytes-requires t)
-    (piece-next-requires t)
-    (sub-length-from-2 t)
     (length-from-requires t)
     (add-result t)
     (returns-3 t)
