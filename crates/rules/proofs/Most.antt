@@ -40,7 +40,7 @@ most m t =
       links = λ d. omega (arith, k .nexts-small d);
     }
 
--- nor does any list of calls on one lead past them
+-- nor does one after any list of calls
 pub most-after : (cs : List Call) (m : Lent) → Is (sound m) → Most (decode (afterCalls cs m .pool))
 most-after cs m t = most (afterCalls cs m) (calls-sound cs m t)
 
