@@ -58,8 +58,9 @@ pub mod Answers
 pub mod Still
 pub mod Fills
 pub mod Own
--- demand 3, lists of calls, the ten rows
+-- demand 3, the most of a pool, lists of calls, the ten rows
 pub mod Demand
+pub mod Most
 pub mod Lists
 pub mod Settles
 pub mod Morning
