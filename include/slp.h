@@ -37,9 +37,9 @@ extern "C" {
 #endif
 
 /* The limits of a pool's counts, each at least 1, and the bytes of a buffer. */
-#define SLP_MOST_BUFFERS 128
-#define SLP_MOST_PIECES 256
-#define SLP_MOST_SLIPS 64
+#define SLP_MOST_BUFFERS 1024
+#define SLP_MOST_PIECES 2048
+#define SLP_MOST_SLIPS 256
 #define SLP_BUFFER_SIZE 512
 
 /* The exact length of the pool for B buffers, P pieces and S slips, and of the storage for B buffers. */

@@ -6,20 +6,20 @@ pub const BUFFER_LENGTH: usize = 512;
 /// How many buffers, pieces and slips a pool has; they stay as they are until another open.
 #[derive(Clone, Copy, Debug, PartialEq, Eq, Hash)]
 pub struct Shape {
-    /// Buffers of 512 bytes, 1 to 128: how much can be stored.
+    /// Buffers of 512 bytes, 1 to 1,024: how much can be stored.
     pub buffers: u16,
-    /// Pieces, 1 to 256: into how many stretches it can be cut.
+    /// Pieces, 1 to 2,048: into how many stretches it can be cut.
     pub pieces: u16,
-    /// Slips, 1 to 64: how many chains can be held at once.
+    /// Slips, 1 to 256: how many chains can be held at once.
     pub slips: u16,
 }
 
 impl Shape {
     /// The largest pool.
     pub const MOST: Shape = Shape {
-        buffers: 128,
-        pieces: 256,
-        slips: 64,
+        buffers: 1_024,
+        pieces: 2_048,
+        slips: 256,
     };
 
     /// Whether every count is at least 1 and at most its limit.
@@ -28,7 +28,7 @@ impl Shape {
     /// use fulcrumnest::Shape;
     ///
     /// assert!(Shape::MOST.in_range());
-    /// assert!(!Shape { buffers: 4, pieces: 6, slips: 65 }.in_range());
+    /// assert!(!Shape { buffers: 4, pieces: 6, slips: 257 }.in_range());
     /// ```
     pub const fn in_range(self) -> bool {
         1 <= self.buffers

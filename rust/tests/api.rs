@@ -75,8 +75,15 @@ fn open() {
 
 #[test]
 fn open_refused() {
-    let shapes = [(0, 6, 4), (4, 0, 4), (4, 6, 0), (129, 6, 4), (4, 257, 4)];
-    for (buffers, pieces, slips) in shapes.into_iter().chain([(4, 6, 65)]) {
+    let most = Shape::MOST;
+    for (buffers, pieces, slips) in [
+        (0, 6, 4),
+        (4, 0, 4),
+        (4, 6, 0),
+        (most.buffers + 1, 6, 4),
+        (4, most.pieces + 1, 4),
+        (4, 6, most.slips + 1),
+    ] {
         let shape = Shape {
             buffers,
             pieces,
@@ -107,8 +114,8 @@ fn lengths() {
         });
     }
     assert_eq!(pool_length(SHAPE), 87);
-    assert_eq!(pool_length(Shape::MOST), 11 + 128 + 2560 + 256);
-    assert_eq!(storage_length(128), 65_536);
+    assert_eq!(pool_length(Shape::MOST), 11 + 512 + 20_480 + 2_048);
+    assert_eq!(storage_length(Shape::MOST.buffers), 524_288);
 }
 
 #[test]

@@ -11,9 +11,9 @@ use common::compare;
 use common::damage;
 use common::library;
 use common::model::{Call, TORN, TRUE};
-use common::random::{Random, SHAPES};
+use common::random::{Mood, Random, SHAPES};
 use common::recount::recount;
-use common::sequence::{run_lists, setting, List};
+use common::sequence::{largest, run_lists, run_on, setting, List, Tally};
 use fulcrumnest::ffi;
 
 paper_cases!(library::step);
@@ -39,6 +39,29 @@ fn random_lists() {
             assert_eq!(*times == 0, code == 2, "code {code} came {times} times");
         }
     }
+}
+
+/// Random lists on the largest pools, sparse, full and scattered, each with another mood: compared as the others are.
+#[test]
+fn largest_pools() {
+    let calls = 1_000 * setting("FULCRUMNEST_TIMES", 1).max(1);
+    let begun = Instant::now();
+    let mut tally = Tally::default();
+    for (what, mut list) in largest() {
+        for _ in 0..3 {
+            list.mood = Mood::new(&mut list.random, list.shape);
+            run_on(Some(library::step), what, &mut list, calls, &mut tally);
+        }
+    }
+    println!(
+        "{} calls in {} lists, {:.1} s, by code {:?}",
+        tally.calls,
+        tally.lists,
+        begun.elapsed().as_secs_f64(),
+        tally.codes
+    );
+    let full = &tally.codes[8..];
+    assert!(full.iter().all(|times| *times > 0), "{:?}", tally.codes);
 }
 
 /// On a damaged pool every changing call does as the model does: code 2 and nothing changed where

@@ -163,7 +163,7 @@ pullup 0 513
 append 0 0
 append 1 1
 pool 0 6 4
-pool 4 257 4
+pool 4 2049 4
 length 0
 ";
     let wanted = "\
@@ -184,7 +184,7 @@ pullup 0 513 -> 5 LONG
 append 0 0 -> 4 SAME
 append 1 1 -> 3 SLIP
 pool 0 6 4 -> 1 COUNTS
-pool 4 257 4 -> 1 COUNTS
+pool 4 2049 4 -> 1 COUNTS
 length 0 -> 10
 ";
     assert_eq!(answers(calls), wanted);

@@ -7,7 +7,7 @@ mod common;
 use std::fs;
 
 use common::damage;
-use common::model::{Call, Piece, Slip, Tables, TRUE};
+use common::model::{Call, Piece, Slip, Tables, MOST, TRUE};
 use common::nexts::{self, figure, worst_cases, Nexts};
 use common::random::Random;
 use common::sequence::{pools, setting};
@@ -51,10 +51,11 @@ fn follows(what: &str, nexts: &Nexts) -> usize {
     follows
 }
 
-/// Worst cases of every size; those of the figure are printed beside the bound.
+/// Worst cases of many sizes, also around those at which the audit takes more counters; those of the figure are printed beside the bound.
 #[test]
 fn worst_cases_of_every_size() {
-    for p in 1..=256 {
+    let most = MOST.1 as usize;
+    for p in (1..=264).chain((264..most).step_by(251)).chain([most - 1, most]) {
         for (what, nexts) in worst_cases(p) {
             follows(what, &nexts);
         }
@@ -113,7 +114,8 @@ fn random_tables() {
     let mut random = Random::new(setting("FULCRUMNEST_SEED", 20_000));
     let mut most = [0.0f64; 2];
     for i in 0..times {
-        let p = random.between(1, 256) as usize;
+        let large = random.once_in(100);
+        let p = random.between(1, if large { MOST.1 } else { 264 }) as usize;
         let mut below = |n: usize| random.below(n as u64) as usize;
         let nexts = nexts::random(p, i % 2 == 1, &mut below);
         let part = follows("random", &nexts) as f64 / p as f64;

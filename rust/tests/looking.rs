@@ -11,8 +11,8 @@ use common::compare;
 use common::damage;
 use common::library;
 use common::model::{Call, Slip, Tables, TRUE};
-use common::random::{self, Random, Shape, SHAPES};
-use common::sequence::{pools, setting, List};
+use common::random::{self, Random, Shape, LARGEST, SHAPES};
+use common::sequence::{largest, pools, setting, List};
 use fulcrumnest::{calls, ffi};
 
 /// Makes calls of library and model on the same bytes and counts them.
@@ -280,6 +280,31 @@ fn lengths_and_counts() {
     assert!(pair.sound > 100 && pair.torn > 1_000);
 }
 
+/// The largest pools, sparse, full and scattered: every kind of look at some of the slips, and damage at the borders.
+#[test]
+fn largest_pools() {
+    let mut pair = Pair::new();
+    for (what, mut list) in largest() {
+        let tables = Tables::parse(&list.pool, &list.storage).expect("sound");
+        let last = LARGEST.2 - 1;
+        for slip in [0, 1, 2, last / 2, last - 1, last, last + 1] {
+            pair.compare(what, &list.pool, &list.storage, &Call::Length { slip });
+            for call in looks(&mut list.random, &tables, slip) {
+                pair.compare(what, &list.pool, &list.storage, &call);
+            }
+        }
+        let mut visit = |damage: &str, pool: &[u8], storage: &[u8]| {
+            let from = format!("{what}, {damage}");
+            pair.compare(&from, pool, storage, &Call::Audit);
+            pair.compare(&from, pool, storage, &Call::Length { slip: last });
+        };
+        visit("whole", &list.pool, &list.storage);
+        damage::borders(&list.pool, &list.storage, &mut visit);
+    }
+    pair.print("largest pools");
+    assert!(pair.sound > 10 && pair.torn > 300);
+}
+
 /// Random bits, words and bytes.
 #[test]
 fn random_bytes() {
@@ -398,7 +423,7 @@ fn open_of_every_shape() {
             (b.wrapping_sub(5), p + 1, s),
             (s, p, b),
             (0, p, s),
-            (129, 257, 65),
+            (LARGEST.0 + 1, LARGEST.1 + 1, LARGEST.2 + 1),
             (u16::MAX, u16::MAX, u16::MAX),
         ] {
             let call = Call::Open {

@@ -8,7 +8,7 @@ use common::desk::data;
 use common::library;
 use common::model::Tables;
 use common::morning;
-use common::random::{Random, SHAPES};
+use common::random::{Random, LARGEST, SHAPES};
 use common::sequence::{setting, List};
 use common::xml::{self, Element};
 use fulcrumnest::{calls, Picture, Pool, Shape, Slip};
@@ -184,7 +184,7 @@ fn torn_pools() {
     }
     println!("{sound} sound, {torn} torn, the longest drawing {longest} bytes");
     assert!(sound > 1_000 && torn > 10_000);
-    assert!(longest < 64 * 256 * 32);
+    assert!(longest < Shape::MOST.slips as usize * Shape::MOST.pieces as usize * 32);
 }
 
 /// Where every piece is next of the one before and the last comes back to the first, each chain is
@@ -192,34 +192,30 @@ fn torn_pools() {
 #[test]
 fn a_ring_of_all_pieces() {
     let words = |words: &[u16]| -> Vec<u8> { words.iter().flat_map(|w| w.to_le_bytes()).collect() };
-    let mut pool = [b"SLP".to_vec(), words(&[1, 128, 256, 64])].concat();
-    for slip in 0..64 {
+    let (b, p, s) = LARGEST;
+    let mut pool = [b"SLP".to_vec(), words(&[1, b, p, s])].concat();
+    for slip in 0..s {
         pool.extend(words(&[2 + slip]));
     }
-    for d in 0..256 {
-        pool.extend(words(&[
-            u16::MAX,
-            200,
-            u16::MAX,
-            u16::MAX,
-            1 + (d + 1) % 256,
-        ]));
+    for d in 0..p {
+        let next = 1 + (d + 1) % p;
+        pool.extend(words(&[u16::MAX, 2_000, u16::MAX, u16::MAX, next]));
     }
-    pool.resize(pool.len() + 256, 0xFF);
-    let storage = vec![0; 65_536];
+    pool.resize(pool.len() + 2 * b as usize, 0xFF);
+    let storage = vec![0; 512 * b as usize];
     let picture = Picture::new(&pool, &storage);
     let text = picture.to_string();
-    assert_eq!(text.lines().count(), 64 + 3);
+    assert_eq!(text.lines().count(), s as usize + 3);
     let first = text.lines().next().expect("a line");
-    assert!(first.starts_with("slip 0   16776960 bytes  p0[b200 65535+65535]x65535 > p1["));
-    assert!(first.ends_with("p255[b200 65535+65535]x65535 > p0 (again)"));
+    assert!(first.starts_with("slip 0    134215680 bytes  p0[b2000 65535+65535]x65535 > p1["));
+    assert!(first.ends_with("p2047[b2000 65535+65535]x65535 > p0 (again)"));
     assert_eq!(
         text.lines().last(),
-        Some("torn     piece 0 lies on buffer 200, which is none")
+        Some("torn     piece 0 lies on buffer 2000, which is none")
     );
     let svg = picture.svg().to_string();
     let boxes = boxes(&svg);
-    assert_eq!(boxes.len(), 256);
+    assert_eq!(boxes.len(), p as usize);
     apart(&boxes, &svg);
 }
 
@@ -227,7 +223,7 @@ fn a_ring_of_all_pieces() {
 #[test]
 fn any_bytes() {
     let mut random = Random::new(setting("FULCRUMNEST_SEED", 5));
-    for length in (0..400).chain([2_955, 10_000]) {
+    for length in (0..400).chain([2_955, 23_051, 100_000]) {
         let pool = random.bytes(length);
         let storage = random.bytes(length % 7 * 512);
         let picture = Picture::new(&pool, &storage);
@@ -255,8 +251,8 @@ fn faults_in_words() {
         (3, 2, "the version is 2, not 1"),
         (
             9,
-            65,
-            "a count is outside its range: 2 buffers, 4 pieces, 65 slips",
+            257,
+            "a count is outside its range: 2 buffers, 4 pieces, 257 slips",
         ),
         (9, 3, "the pool has 59 bytes, its counts ask 61"),
         (entry(3, 2), 9, "piece 3 has count 0 and is not all zero"),

@@ -1,6 +1,6 @@
 //! Pools damaged in every way, from a sound one.
 
-use super::model::{pool_length, Piece, Slip, Tables};
+use super::model::{pool_length, Piece, Slip, Tables, MOST};
 use super::random::Random;
 
 /// What a damaged pool is handed to: a word on the damage, the pool, the storage.
@@ -323,6 +323,28 @@ pub fn counts_shifted(pool: &[u8], storage: &[u8], visit: Visit) {
     }
 }
 
+/// The header's counts and all words of the last slip, the last piece and the last buffer: off by one, and at each of the
+/// pool's borders and one past it.
+pub fn borders(pool: &[u8], storage: &[u8], visit: Visit) {
+    let word = |at: usize| u16::from_le_bytes([pool[at], pool[at + 1]]) as u64;
+    let [b, p, s] = [5, 7, 9].map(word);
+    let piece = (11 + 2 * s + 10 * (p - 1)) as usize;
+    let slip = (11 + 2 * (s - 1)) as usize;
+    let places = [5, 7, 9, slip].into_iter();
+    let places = places.chain((piece..piece + 10).step_by(2));
+    for at in places.chain([pool.len() - 2]) {
+        let around = [word(at).wrapping_sub(1), word(at) + 1];
+        let borders = [b, p, s, p + s].into_iter();
+        let borders = borders.flat_map(|border| [border - 1, border, border + 1, border + 2]);
+        for other in around.into_iter().chain(borders).chain([65_535]) {
+            let mut damaged = pool.to_vec();
+            set(&mut damaged, at, other);
+            let what = format!("{} at {at} is {}", word(at), other as u16);
+            visit(&what, &damaged, storage);
+        }
+    }
+}
+
 /// Fresh pools whose header counts are out of range although both lengths agree with them.
 pub fn counts_out_of_range(visit: Visit) {
     for (b, p, s) in [
@@ -330,18 +352,21 @@ pub fn counts_out_of_range(visit: Visit) {
         (1, 0, 1),
         (1, 1, 0),
         (0, 0, 0),
-        (129, 1, 1),
-        (1, 257, 1),
-        (1, 1, 65),
-        (129, 257, 65),
-        (128, 256, 65),
-        (128, 257, 64),
-        (129, 256, 64),
+        (MOST.0 + 1, 1, 1),
+        (1, MOST.1 + 1, 1),
+        (1, 1, MOST.2 + 1),
+        (MOST.0 + 1, MOST.1 + 1, MOST.2 + 1),
+        (MOST.0, MOST.1, MOST.2 + 1),
+        (MOST.0, MOST.1 + 1, MOST.2),
+        (MOST.0 + 1, MOST.1, MOST.2),
         (1, 65_535, 1),
         (1, 1, 65_535),
-        (256, 1, 1),
-        (1, 256, 64),
-        (128, 256, 64),
+        (65_535, 1, 1),
+        (2 * MOST.0, 1, 1),
+        (MOST.0, 1, 1),
+        (1, MOST.1, 1),
+        (1, 1, MOST.2),
+        MOST,
     ] {
         let mut pool = vec![0; pool_length(b, p, s) as usize];
         pool[..3].copy_from_slice(b"SLP");

@@ -9,7 +9,7 @@ use std::mem;
 /// Bytes of one buffer.
 pub const SIZE: u64 = 512;
 /// The most buffers, pieces and slips of a pool.
-pub const MOST: (u64, u64, u64) = (128, 256, 64);
+pub const MOST: (u64, u64, u64) = (1_024, 2_048, 256);
 
 pub const DONE: u16 = 0;
 pub const COUNTS: u16 = 1;
@@ -585,13 +585,12 @@ pub trait Rules {
     // A pool is sound when mark, version, counts and both lengths fit, and:
 
     fn is_sound(&self, t: &Tables) -> bool {
-        let mut pieces = 0..t.pieces.len();
-        let mut used = pieces.clone().filter(|d| t.is_used(*d));
+        let mut used = (0..t.pieces.len()).filter(|d| t.is_used(*d));
         t.pieces.iter().all(|piece| self.is_well_formed(t, piece))
             && t.slips.iter().all(|slip| self.has_good_head(t, *slip))
-            && pieces.all(|d| self.is_counted(t, d))
+            && self.are_counted(t, &self.references(t))
             && used.all(|d| self.never_comes_back(t, d))
-            && (0..t.buffers.len()).all(|b| t.buffers[b] == self.holders(t, b))
+            && t.buffers == self.holders(t)
     }
 
     /// Count 0: all zero. Any other: buffer below B, length at least 1, end at most 512, good next.
@@ -620,30 +619,43 @@ pub trait Rules {
         slip.head().map_or(true, |d| t.is_used(d))
     }
 
-    /// A piece's count is the number of slips heading it plus pieces in use whose next it is.
-    fn is_counted(&self, t: &Tables, d: usize) -> bool {
-        let heading = t.slips.iter().filter(|slip| slip.head() == Some(d));
-        let before = t.used().filter(|piece| piece.next == Some(d));
-        t.pieces[d].count == (heading.count() + before.count()) as u64
+    /// For each piece the number of slips heading it plus pieces in use whose next it is.
+    fn references(&self, t: &Tables) -> Vec<u64> {
+        let mut references = vec![0; t.pieces.len()];
+        let heads = t.slips.iter().filter_map(|slip| slip.head());
+        for d in heads.chain(t.used().filter_map(|piece| piece.next)) {
+            references[d] += 1;
+        }
+        references
     }
 
-    /// Following next never comes back to a piece already met, reached from a slip or not.
+    /// A piece's count is the number of its references.
+    fn are_counted(&self, t: &Tables, references: &[u64]) -> bool {
+        let counts = t.pieces.iter().map(|piece| piece.count);
+        counts.eq(references.iter().copied())
+    }
+
+    /// Following next never comes back to a piece already met, reached from a slip or not: P pieces are all that can be met.
     fn never_comes_back(&self, t: &Tables, first: usize) -> bool {
-        let mut met = vec![false; t.pieces.len()];
         let mut at = Some(first);
+        let mut met = 0;
         while let Some(d) = at {
-            if met[d] {
+            if met == t.pieces.len() {
                 return false;
             }
-            met[d] = true;
+            met += 1;
             at = t.pieces[d].next;
         }
         true
     }
 
-    /// A buffer's count is the number of pieces in use lying on it.
-    fn holders(&self, t: &Tables, b: usize) -> u64 {
-        t.used().filter(|piece| piece.buffer == b).count() as u64
+    /// For each buffer the number of pieces in use lying on it.
+    fn holders(&self, t: &Tables) -> Vec<u64> {
+        let mut holders = vec![0; t.buffers.len()];
+        for piece in t.used() {
+            holders[piece.buffer] += 1;
+        }
+        holders
     }
 
     // Room is counted at entry; new numbers are the lowest free at entry.

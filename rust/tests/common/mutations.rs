@@ -1,5 +1,7 @@
 //! Wrong programs, each the rules with one of them read or done wrong, as an apprentice might.
 
+use std::collections::HashSet;
+
 use super::model::{
     pairs, pool_length, refuse_if, Call, Done, Holder, Judged, Left, Outcome, Piece, Place, Room,
     Rules, Slip, Tables, DONE, LIST, NARROW, PIECES, RANGE, SAME, SIZE, SLIP, TRUE, ZERO,
@@ -119,9 +121,14 @@ impl Rules for BufferHeldBySlips {
 struct AuditCountsSlips;
 
 impl Rules for AuditCountsSlips {
-    fn holders(&self, t: &Tables, b: usize) -> u64 {
-        let lies = |slip: &&Slip| t.places(&t.chain(**slip)).iter().any(|q| q.buffer == b);
-        t.slips.iter().filter(lies).count() as u64
+    fn holders(&self, t: &Tables) -> Vec<u64> {
+        let mut holders = vec![0; t.buffers.len()];
+        for slip in &t.slips {
+            let places = t.places(&t.chain(*slip));
+            let buffers: HashSet<usize> = places.iter().map(|q| q.buffer).collect();
+            buffers.iter().for_each(|b| holders[*b] += 1);
+        }
+        holders
     }
 }
 
@@ -427,8 +434,9 @@ impl Rules for NextToFreePassed {
         next.map_or(true, |d| d < t.pieces.len())
     }
 
-    fn is_counted(&self, t: &Tables, d: usize) -> bool {
-        t.pieces[d].count == 0 || TRUE.is_counted(t, d)
+    fn are_counted(&self, t: &Tables, references: &[u64]) -> bool {
+        let mut both = t.pieces.iter().zip(references);
+        both.all(|(piece, found)| piece.count == 0 || piece.count == *found)
     }
 }
 

@@ -3,8 +3,10 @@
 
 use std::collections::HashSet;
 
+use super::model::MOST;
+
 /// Slips of every such pool.
-const SLIPS: usize = 64;
+const SLIPS: usize = MOST.2 as usize;
 
 /// For each piece its next, and for each held slip the piece that it heads.
 #[derive(Clone, Debug)]
@@ -155,7 +157,7 @@ fn shuffled(p: usize, below: &mut dyn FnMut(usize) -> usize) -> Vec<usize> {
     order
 }
 
-/// Nexts in no order, of which at most 64 are nobody's: each piece leads to one of a lower place in some order, so that none
+/// Nexts in no order, of which no more are nobody's than there are slips: each piece leads to one of a lower place in some order, so that none
 /// comes back, but the piece of the lowest place, which leads anywhere if `ring` says so. `below(n)` is any number below n.
 pub fn random(p: usize, ring: bool, below: &mut dyn FnMut(usize) -> usize) -> Nexts {
     let order = shuffled(p, below);
@@ -205,7 +207,7 @@ pub fn worst_cases(p: usize) -> Vec<(&'static str, Nexts)> {
             chain(p).numbered(scattered),
         ),
         ("chains of one, one for each slip, the rest free", single(p)),
-        ("64 chains, dealt out in turn", dealt(p)),
+        ("a chain for each slip, dealt out in turn", dealt(p)),
         ("comb, spine before teeth", comb.clone()),
         ("comb, teeth before spine", comb.numbered(against)),
         ("comb, numbered at random", comb.numbered(scattered)),
@@ -231,7 +233,7 @@ pub fn worst_cases(p: usize) -> Vec<(&'static str, Nexts)> {
 
 /// The pools of the figure: the worst cases of the most pieces, and chains of one that leave no piece free.
 pub fn figure() -> Vec<(&'static str, Nexts)> {
-    let mut cases = worst_cases(256);
+    let mut cases = worst_cases(MOST.1 as usize);
     cases.insert(4, ("chains of one, no piece free", single(SLIPS)));
     cases
 }

@@ -1,6 +1,6 @@
 //! Seeded numbers, pool shapes, and random calls with arguments at the borders.
 
-use super::model::{pool_length, Call, Slip, Tables};
+use super::model::{pool_length, Call, Slip, Tables, MOST};
 
 /// Splitmix64: the same seed gives the same numbers everywhere.
 pub struct Random {
@@ -56,7 +56,10 @@ impl Random {
 /// Buffers, pieces and slips of a pool.
 pub type Shape = (u16, u16, u16);
 
-/// Shapes that are always tried, from the smallest to the largest.
+/// The shape of the largest pool.
+pub const LARGEST: Shape = (MOST.0 as u16, MOST.1 as u16, MOST.2 as u16);
+
+/// Shapes that are always tried; the last ones are around the sizes at which the audit takes more counters.
 pub const SHAPES: &[Shape] = &[
     (1, 1, 1),
     (1, 1, 2),
@@ -74,12 +77,22 @@ pub const SHAPES: &[Shape] = &[
     (3, 256, 64),
     (128, 130, 9),
     (128, 256, 64),
+    (129, 256, 9),
+    (128, 257, 9),
+];
+
+/// Shapes at the limits, where each call is dear.
+pub const LARGE: &[Shape] = &[
+    (3, LARGEST.1, LARGEST.2),
+    (LARGEST.0, 1_030, 9),
+    (1, LARGEST.1, 2),
+    LARGEST,
 ];
 
 /// A shape: mostly small, now and then a large one, where lists are longer and each call dearer.
 pub fn shape(random: &mut Random) -> Shape {
     match random.below(1_000) {
-        0..=1 => (128, 256, 64),
+        0..=1 => random.pick(LARGE),
         2..=4 => random.pick(&SHAPES[11..]),
         5..=399 => random.pick(&SHAPES[..11]),
         400..=449 => (
@@ -234,7 +247,7 @@ fn slip(random: &mut Random, tables: &Tables, wild: u64) -> u16 {
     let s = tables.slips.len() as u64;
     if random.once_in(wild) {
         let any = random.below(s);
-        return random.pick(&[any, any, s, s + 1, 64, 65_535]) as u16;
+        return random.pick(&[any, any, s, s + 1, MOST.2, 65_535]) as u16;
     }
     let held: Vec<u64> = (0..s)
         .filter(|i| tables.slips[*i as usize] != Slip::Vacant)
@@ -253,7 +266,7 @@ fn slip(random: &mut Random, tables: &Tables, wild: u64) -> u16 {
 
 /// Lent bytes for a copy of n: exact, one short, longer, none, or enough in any case.
 pub fn lent_bytes(random: &mut Random, n: u64) -> Vec<u8> {
-    let n = n.min(140_000);
+    let n = n.min(512 * MOST.1 + 9_000);
     let length = match random.below(8) {
         0 => n.saturating_sub(1),
         1 => n + 1,
@@ -544,7 +557,7 @@ fn data(random: &mut Random, tables: &Tables, mood: &Mood) -> Vec<u8> {
         4 if random.once_in(3) => 512 * free_buffers + 1,
         5 if random.once_in(3) => 512 * free_pieces,
         6 if random.once_in(3) => 512 * free_pieces + 1,
-        7 if random.once_in(20) => 512 * 129,
+        7 if random.once_in(20) => 512 * (MOST.0 + 1),
         8 => 1,
         _ => random.between(1, mood.put_up_to),
     };

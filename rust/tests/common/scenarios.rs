@@ -3,7 +3,7 @@
 
 use super::desk::{cut, data, gather, list, read, show, stretches, Desk, Engine, OLD};
 use super::model::{
-    Call, View, BUFFERS, COUNTS, LIST, LONG, NARROW, NO_VIEW, PIECES, RANGE, SAME, SLIP, SLIPS,
+    Call, View, BUFFERS, COUNTS, LIST, LONG, MOST, NARROW, NO_VIEW, PIECES, RANGE, SAME, SLIP, SLIPS,
     TORN,
 };
 use super::morning::{self, MORNING, Z};
@@ -57,58 +57,71 @@ pub fn fresh_pool(engine: Engine) {
     desk.done_unchanged(Call::Audit, 0);
 }
 
-/// The longest chain is 512·P bytes: 256 pieces, here all on one buffer.
-pub fn longest_chain(engine: Engine) {
-    let mut desk = Desk::open(engine, 1, 256, 2);
+/// The most pieces and slips of a pool.
+const P: u16 = MOST.1 as u16;
+const S: u16 = MOST.2 as u16;
+
+/// A pool of one buffer and P pieces, all of them in the chain of slip 0: the first is doubled until no piece is free.
+fn doubled(engine: Engine) -> Desk {
+    let mut desk = Desk::open(engine, 1, P, 2);
     desk.put(512, 0);
-    for doubling in 0..8 {
+    for doubling in 0..P.trailing_zeros() {
         let whole = 512 << doubling;
         desk.cut(0, 0, whole, 1);
         desk.append(0, 1);
         desk.length(0, 2 * whole as u64);
     }
-    let pieces: Vec<[u16; 5]> = (0..256)
-        .map(|d| [1, 0, 0, 512, if d == 255 { 0 } else { 2 + d }])
-        .collect();
-    desk.tables(&[2, 0], &pieces, &[256]);
-    let bytes: Vec<u8> = (0..256).flat_map(|_| data(512)).collect();
-    assert_eq!(bytes.len(), 131_072);
-    desk.reads(0, &bytes);
-    desk.refused(read(0, 131_072, 1, 1), RANGE);
-    desk.refused(cut(0, 0, 131_073), RANGE);
-    desk.refused(cut(0, 131_071, 1), PIECES);
-    desk.refused(Call::Dup { slip: 0 }, PIECES);
-    desk.refused(Call::Pack { slip: 0 }, PIECES);
-    desk.drop(0, 131_071);
-    desk.reads(0, &data(512)[511..]);
-    desk.free(0);
-    desk.tables(&[0, 0], &[Z; 256], &[0]);
+    desk
 }
 
-/// 64 chains share a tail: its count goes up to 64 and down again, and it stays to the last.
+/// The longest chain is 2,048 pieces and 1,048,576 bytes, here all on one buffer.
+pub fn longest_chain(engine: Engine) {
+    let mut desk = doubled(engine);
+    let pieces: Vec<[u16; 5]> = (1..=P)
+        .map(|link| [1, 0, 0, 512, if link == P { 0 } else { 1 + link }])
+        .collect();
+    assert_eq!(pieces.len(), 2_048);
+    desk.tables(&[2, 0], &pieces, &[P]);
+    let bytes = data(512).repeat(pieces.len());
+    let whole = bytes.len() as u32;
+    assert_eq!(whole, 1_048_576);
+    desk.reads(0, &bytes);
+    desk.refused(read(0, whole, 1, 1), RANGE);
+    desk.refused(cut(0, 0, whole + 1), RANGE);
+    desk.refused(cut(0, whole - 1, 1), PIECES);
+    desk.refused(Call::Dup { slip: 0 }, PIECES);
+    desk.refused(Call::Pack { slip: 0 }, PIECES);
+    desk.drop(0, whole - 1);
+    desk.reads(0, &data(512)[511..]);
+    desk.free(0);
+    desk.tables(&[0, 0], &vec![Z; pieces.len()], &[0]);
+}
+
+/// A chain for each slip, all with one tail: its count goes up to S and down again, and it stays to the last.
 pub fn most_holders(engine: Engine) {
-    let mut desk = Desk::open(engine, 2, 66, 64);
+    let mut desk = Desk::open(engine, 2, S + 2, S);
     desk.put(600, 0);
-    for new in 1..64 {
-        desk.dup(0, new);
+    for new in 1..S {
+        desk.dup(0, new as u64);
     }
+    let (last, total) = (S as usize - 1, S as usize + 2);
     let head = [1, 0, 0, 512, 2];
-    let mut pieces = vec![head; 66];
-    pieces[1] = [64, 1, 0, 88, 0];
-    pieces[65] = Z;
-    let slips: Vec<u16> = (0..64).map(|i| if i == 0 { 2 } else { 3 + i }).collect();
-    desk.tables(&slips, &pieces, &[64, 1]);
-    desk.refused(Call::Dup { slip: 63 }, SLIPS);
-    for slip in 0..63 {
+    let mut pieces = vec![head; total];
+    pieces[1] = [S, 1, 0, 88, 0];
+    pieces[total - 1] = Z;
+    let slips: Vec<u16> = (0..S).map(|i| if i == 0 { 2 } else { 3 + i }).collect();
+    desk.tables(&slips, &pieces, &[S, 1]);
+    desk.refused(Call::Dup { slip: S - 1 }, SLIPS);
+    for slip in 0..S - 1 {
         desk.free(slip);
     }
-    let mut pieces = vec![Z; 66];
+    let mut pieces = vec![Z; total];
     pieces[1] = [1, 1, 0, 88, 0];
-    pieces[64] = head;
-    let mut slips = [0; 64];
-    slips[63] = 66;
+    pieces[total - 2] = head;
+    let mut slips = vec![0; S as usize];
+    slips[last] = S + 2;
     desk.tables(&slips, &pieces, &[1, 1]);
-    desk.reads(63, &data(600));
+    desk.reads(S - 1, &data(600));
 }
 
 /// Free stops at a piece that another slip still reaches.
@@ -909,9 +922,9 @@ pub fn reading_17_exact_lengths(engine: Engine) {
         (0, 6, 4),
         (4, 0, 4),
         (4, 6, 0),
-        (129, 6, 4),
-        (4, 257, 4),
-        (4, 6, 65),
+        (MOST.0 as usize + 1, 6, 4),
+        (4, MOST.1 as usize + 1, 4),
+        (4, 6, MOST.2 as usize + 1),
         (0, 0, 0),
         (65_535, 1, 1),
     ] {
@@ -1047,22 +1060,20 @@ pub fn reading_20_empty_slices(engine: Engine) {
 
 /// The longest list, all on one buffer, and the last byte of the largest storage.
 pub fn list_of_the_largest(engine: Engine) {
-    let mut desk = Desk::open(engine, 1, 256, 2);
-    desk.put(512, 0);
-    for doubling in 0..8 {
-        desk.cut(0, 0, 512 << doubling, 1);
-        desk.append(0, 1);
-    }
-    desk.lists(0, &[0, 512].repeat(256));
-    desk.refused(list(0, 511), NARROW);
-    desk.refused(stretches(0, 255), NARROW);
+    let mut desk = doubled(engine);
+    let records = P as usize;
+    desk.lists(0, &[0, 512].repeat(records));
+    desk.refused(list(0, 2 * records - 1), NARROW);
+    desk.refused(stretches(0, records - 1), NARROW);
 
-    let mut desk = Desk::open(engine, 128, 256, 2);
-    desk.put(65_536, 0);
-    let whole: Vec<u32> = (0..128).flat_map(|b| [512 * b, 512]).collect();
+    let buffers = MOST.0 as u32;
+    let mut desk = Desk::open(engine, MOST.0 as u16, P, 2);
+    desk.put(512 * MOST.0 as usize, 0);
+    let whole: Vec<u32> = (0..buffers).flat_map(|b| [512 * b, 512]).collect();
     desk.lists(0, &whole);
-    desk.drop(0, 65_535);
-    desk.lists(0, &[65_535, 1]);
+    let last = 512 * buffers - 1;
+    desk.drop(0, last);
+    desk.lists(0, &[last, 1]);
 }
 
 /// A list too short for all records is left alone; a lone last number is no record, and stays.

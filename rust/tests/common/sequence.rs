@@ -1,9 +1,9 @@
 //! Long random lists of calls on the model, and on another engine beside it.
 
 use super::compare;
-use super::desk::Engine;
+use super::desk::{cut, Engine};
 use super::model::{Call, Outcome, TORN, TRUE};
-use super::random::{self, Mood, Random, Shape, SHAPES};
+use super::random::{self, Mood, Random, Shape, LARGEST, SHAPES};
 use super::recount::{recount, Recount};
 
 /// A list under way: the pool that a done open has written, and what came after.
@@ -66,9 +66,46 @@ pub fn pools(count: u64, calls: u64) -> impl Iterator<Item = (u64, List)> {
     (0..count * times).map(move |i| {
         let shape = SHAPES.get(i as usize).copied();
         let mut list = List::start(first + i, shape);
-        list.run(calls + 3 * list.shape.1 as u64);
+        list.run(calls + 3 * list.shape.1.min(FILLED) as u64);
         (first + i, list)
     })
+}
+
+/// Calls enough to fill a pool of so many pieces fill a larger one too, since puts grow with it.
+const FILLED: u16 = 256;
+
+/// Pools of the largest shape that the model leaves: one with little in it, one with no slip, piece or buffer free, and one
+/// whose free slips, pieces and buffers lie scattered.
+pub fn largest() -> Vec<(&'static str, List)> {
+    let (b, p, s) = LARGEST;
+    let half = s / 2;
+    let each = 512 * (b / half) as u32;
+    let put = |n: u32| Call::Put {
+        data: vec![n as u8; n as usize],
+    };
+    let sparse = [0, 1, 512, 513, 1_536].map(put).to_vec();
+    let mut full = vec![put(each); half as usize];
+    full.extend((0..half).map(|slip| cut(slip, 0, each)));
+    let mut scattered = full.clone();
+    scattered.extend((0..s).map(|slip| match slip % 3 {
+        0 => Call::Free { slip },
+        1 => Call::Drop { slip, n: 700 },
+        _ => Call::Keep { slip, n: 1_000 },
+    }));
+    let after = |calls: Vec<Call>| {
+        let mut list = List::start(u64::from(p), Some(LARGEST));
+        for call in calls {
+            let outcome = TRUE.step(&list.pool, &list.storage, &call);
+            assert_eq!(outcome.code, 0, "{}", call.brief());
+            list.take(outcome);
+        }
+        list
+    };
+    vec![
+        ("sparse", after(sparse)),
+        ("full", after(full)),
+        ("scattered", after(scattered)),
+    ]
 }
 
 /// How many calls and lists were made, and how often each code came.
@@ -93,41 +130,46 @@ pub fn demand_three(before: &Recount, call: &Call, after: &Outcome) -> Result<Re
 }
 
 /// Makes calls on the model, and on an engine beside it, with comparison and recount after each.
+pub fn run_on(beside: Option<Engine>, what: &str, list: &mut List, calls: u64, tally: &mut Tally) {
+    let mut found = recount(&list.pool).expect("a pool that calls have left");
+    for position in 0..calls {
+        let call = list.call();
+        let wanted = TRUE.step(&list.pool, &list.storage, &call);
+        let differs = beside.and_then(|engine| {
+            let got = engine(&list.pool, &list.storage, &call);
+            compare::outcomes(&wanted, &got)
+        });
+        let failed = match (differs, demand_three(&found, &call, &wanted)) {
+            (Some(text), _) | (None, Err(text)) => text,
+            (None, Ok(after)) => {
+                found = after;
+                tally.codes[wanted.code as usize] += 1;
+                list.take(wanted);
+                continue;
+            }
+        };
+        panic!(
+            "{what}, shape {:?}, call {position}: {}\n{failed}\n{}",
+            list.shape,
+            call.brief(),
+            compare::dump("pool before", &list.pool)
+        );
+    }
+    tally.calls += calls;
+    tally.lists += 1;
+}
+
+/// The same in lists that start from an open, of these shapes first and then of random ones.
 pub fn run_lists(beside: Option<Engine>, first_seed: u64, calls: u64, shapes: &[Shape]) -> Tally {
     let mut tally = Tally::default();
     let mut seed = first_seed;
     while tally.calls < calls {
         let shape = shapes.get(tally.lists as usize).copied();
         let mut list = List::start(seed, shape);
-        let mut found = recount(&list.pool).expect("a pool just opened");
         // Large pools need long lists to fill.
-        let pieces = list.shape.1 as u64;
+        let pieces = list.shape.1.min(FILLED) as u64;
         let length = (40 + 4 * pieces).min(calls - tally.calls);
-        for position in 0..length {
-            let call = list.call();
-            let wanted = TRUE.step(&list.pool, &list.storage, &call);
-            let differs = beside.and_then(|engine| {
-                let got = engine(&list.pool, &list.storage, &call);
-                compare::outcomes(&wanted, &got)
-            });
-            let failed = match (differs, demand_three(&found, &call, &wanted)) {
-                (Some(text), _) | (None, Err(text)) => text,
-                (None, Ok(after)) => {
-                    found = after;
-                    tally.codes[wanted.code as usize] += 1;
-                    list.take(wanted);
-                    continue;
-                }
-            };
-            panic!(
-                "seed {seed}, shape {:?}, call {position}: {}\n{failed}\n{}",
-                list.shape,
-                call.brief(),
-                compare::dump("pool before", &list.pool)
-            );
-        }
-        tally.calls += length;
-        tally.lists += 1;
+        run_on(beside, &format!("seed {seed}"), &mut list, length, &mut tally);
         seed += 1;
     }
     tally

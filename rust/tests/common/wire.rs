@@ -2,12 +2,12 @@
 
 use super::compare;
 use super::desk::{list, stretches, Engine};
-use super::model::{Call, Outcome, TRUE};
+use super::model::{Call, Outcome, MOST, TRUE};
 use super::random::{self, Random};
 use super::sequence::List;
 
 /// More numbers than any chain has in its list.
-const NUMBERS: usize = 2 * 256 + 3;
+const NUMBERS: usize = 2 * MOST.1 as usize + 3;
 
 /// What gather gives of just the records that a list call writes.
 fn by_list(engine: Engine, pool: &[u8], storage: &[u8], listing: &Call, output: &[u8]) -> Outcome {
