@@ -21,7 +21,8 @@ use Rattle.rules.proofs.Moves.{hit, hit-same, hit-other, lies-used}
 use Rattle.rules.proofs.Bytes.{decode-slips, decode-pieces, decode-counts}
 use Rattle.layout.specs.declared.Shape.{Shape}
 use Rattle.counts.specs.Ranges.{linkInRange, pieceInRange, slipsInRange, piecesInRange, referencesOk}
-use Rattle.counts.specs.Counters.{Limited, zeros, tallied, lieOf, Countable, Hold, Cleared, references, headsTo, nextsTo, lyingTo, SlipsCounted, PiecesCounted, ReferencesCounted}
+use Rattle.counts.specs.Counters.{Limited, zeros, tallied, lieOf, Countable, Hold, Cleared, references, headsTo, nextsTo, lyingTo}
+use Rattle.counts.specs.Counters.{SlipsCounted, PiecesCounted, ReferencesCounted}
 use Rattle.counts.proofs.Ranges.{free-next, next-in-range, buffer-in-range}
 
 -- ---- the tables of a pool within the limits

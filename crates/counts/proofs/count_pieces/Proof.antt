@@ -43,26 +43,28 @@ count-entry-requires c κs =
     let x = c .before .before in
     let y = x .before .before in
     let w = y .before .before .before in
-    pieces-fit _ (totals (w .before .before .before .before .pre .0)) (y .before .if1 .taken) (y .entry-of .ensures) (x .before .entry-ok .ensures) (not-false _ (x .if2 .left)) (w .loop .inv .1)
+    let k = totals (w .before .before .before .before .pre .0) in
+    pieces-fit _ k (y .before .if1 .taken) (y .entry-of .ensures) (x .before .entry-ok .ensures) (not-false _ (x .if2 .left)) (w .loop .inv .1)
 
 -- where the entry has been counted
-abbrev turn : tie.After-slice-known4 Inv-loop μ-loop → tie.After-count-entry Inv-loop μ-loop
-turn c = c .before .before .before .before
+abbrev counted : tie.After-slice-known4 Inv-loop μ-loop → tie.After-count-entry Inv-loop μ-loop
+counted c = c .before .before .before .before
 
 add-d : tie.Need-add-d Inv-loop μ-loop
-add-d c = let w = turn c .before .before .before .before .before .before .before .before in omega (arith, w .before .before .before .before .pre .0 .few-pieces)
+add-d c = let w = counted c .before .before .before .before .before .before .before .before in omega (arith, w .before .before .before .before .pre .0 .few-pieces)
 
 loop-less : tie.Need-loop-less Inv-loop μ-loop
 loop-less c = omega arith
 
 loop-again : tie.Need-loop-again Inv-loop μ-loop
 loop-again c =
-    let v = turn c in
+    let v = counted c in
     let x = v .before .before .before in
     let y = x .before .before in
-    let w = y .before .before .before in (
+    let w = y .before .before .before in
+    let k = totals (w .before .before .before .before .pre .0) in (
       omega arith,
-      pieces-on _ (totals (w .before .before .before .before .pre .0)) (y .before .if1 .taken) (y .entry-of .ensures) (x .before .entry-ok .ensures) (not-false _ (x .if2 .left)) (w .loop .inv .1)
+      pieces-on _ k (y .before .if1 .taken) (y .entry-of .ensures) (x .before .entry-ok .ensures) (not-false _ (x .if2 .left)) (w .loop .inv .1)
           (v .count-entry .ensures .0) (v .count-entry .ensures .1),
       v .count-entry .kept .1 .0 ∙ w .loop .inv .2,
       v .count-entry .kept .1 .1 .0 ∙ w .loop .inv .3,

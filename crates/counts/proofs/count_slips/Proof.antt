@@ -40,15 +40,19 @@ count-link-requires c κs =
     let k = totals (w .before .before .before .pre .0) in
     (omega (arith, c .before .if2 .left, w .loop .inv .1 .held .long), slips-room _ (w .loop .inv .1) (omega arith))
 
+-- where the link has been counted
+abbrev counted : tie.After-slice-known2 Inv-loop μ-loop → tie.After-count-link Inv-loop μ-loop
+counted c = c .before .before
+
 add-s : tie.Need-add-s Inv-loop μ-loop
-add-s c = let w = c .before .before .before .before .before .before .before .before .before .before in omega (arith, w .before .before .before .pre .0 .few-slips)
+add-s c = let w = counted c .before .before .before .before .before .before .before .before in omega (arith, w .before .before .before .pre .0 .few-slips)
 
 loop-less : tie.Need-loop-less Inv-loop μ-loop
 loop-less c = omega arith
 
 loop-again : tie.Need-loop-again Inv-loop μ-loop
 loop-again c =
-    let v = c .before .before in
+    let v = counted c in
     let x = v .before .before in
     let y = x .before .before in
     let w = y .before .before .before .before in
