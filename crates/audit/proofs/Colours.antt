@@ -52,12 +52,12 @@ descent P down k = go (suc k) k (le-refl (suc k))
 
 -- ---- colours
 
-pub coloured-most : (c : List ℕ) (n : ℕ) → coloured c n ≤ n
+coloured-most : (c : List ℕ) (n : ℕ) → coloured c n ≤ n
 unfolding coloured
 coloured-most c n = sumTo-ones n (λ d. bit (ltb 0 (getD c d 0))) (λ d. bit-one (ltb 0 (getD c d 0)))
 
 -- one more piece has a colour
-pub coloured-more : (c : List ℕ) (n d w : ℕ) → d < n → d < length c → getD c d 0 ≡ 0 → 0 < w → coloured (set c d w) n ≡ coloured c n + 1
+coloured-more : (c : List ℕ) (n d w : ℕ) → d < n → d < length c → getD c d 0 ≡ 0 → 0 < w → coloured (set c d w) n ≡ coloured c n + 1
 unfolding coloured
 coloured-more c n d w l m z pos =
     let f : ℕ → ℕ = λ e. bit (ltb 0 (getD c e 0)) in

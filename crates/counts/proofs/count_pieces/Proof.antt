@@ -51,7 +51,9 @@ abbrev counted : tie.After-slice-known4 Inv-loop μ-loop → tie.After-count-ent
 counted c = c .before .before .before .before
 
 add-d : tie.Need-add-d Inv-loop μ-loop
-add-d c = let w = counted c .before .before .before .before .before .before .before .before in omega (arith, w .before .before .before .before .pre .0 .few-pieces)
+add-d c =
+    let w = counted c .before .before .before .before .before .before .before .before in
+    omega (arith, w .before .before .before .before .pre .0 .few-pieces)
 
 loop-less : tie.Need-loop-less Inv-loop μ-loop
 loop-less c = omega arith
