@@ -2,16 +2,16 @@
 use mathlib.Core.Path.{_≡_, refl, sym, ap, _∙_}
 use mathlib.Core.Logic.{_≢_, _⊎_, inl, inr, ⊎-elim}
 use mathlib.Core.Bool.{true, false, not, true≢false, false≢true}
-use mathlib.Core.List.{List}
+use mathlib.Core.List.{List, [], _∷_}
 use Prim.Native.Nat.{ℕ, zero, suc, _+_, _-_, _≤_, _<_}
 use native.Mathlib.Nat.{le-refl, not-suc-le-zero}
 use native.Mathlib.Decide.{ℕ-discrete, decLt}
 use native.Mathlib.Omega.{arith}
-use lib.ListN.{length, getD, set, length-set, length-replicate, getD-replicate}
+use lib.ListN.{length, getD, set, length-set, length-map, List·getD-map}
 use lib.Seq.{getD-set-same, getD-set-other}
 use lib.Dec.{ltb, ltb→lt, lt→ltb, eqb, eqb→eq}
 use borrow.Author.Tests.{eq-eqb, ne-eqb}
-use Rattle.kinds.specs.Limits.{mostPieces}
+use Rattle.kinds.specs.Limits.{mostCount}
 use Rattle.rules.specs.Basics.{Is, bit}
 use Rattle.rules.specs.Tables.{Tables, piece, pieceTotal}
 use Rattle.rules.specs.Chain.{follow}
@@ -19,9 +19,11 @@ use Rattle.rules.specs.Sound.{acyclic}
 use Rattle.rules.proofs.Logic.{bit-T, bit-F, bit-one, is-true, is-false, same-test, eq→eqb, all-intro, all-at}
 use Rattle.rules.proofs.Sums.{sumTo-same, sumTo-one, sumTo-change, sumTo-none, sumTo-ones}
 use Rattle.rules.proofs.Audit.{follow-more}
-use Rattle.counts.specs.Counters.{zeros}
+use Rattle.layout.specs.declared.Shape.{Shape}
+use Rattle.counts.specs.Counters.{Hold, references}
+use Rattle.counts.proofs.Counters.{Totals, references-most}
 use Rattle.audit.specs.Follows.{endsFrom, isMet, followsOf}
-use Rattle.audit.specs.Colours.{coloured, Covered, Scanned, Walked}
+use Rattle.audit.specs.Colours.{coloursIn, Plain, coloured, Covered, Scanned, Walked}
 use Rattle.audit.proofs.Follows.{follow-last, met-by, met-from, follows-all}
 
 -- ---- following next
@@ -50,12 +52,12 @@ descent P down k = go (suc k) k (le-refl (suc k))
 
 -- ---- colours
 
-pub coloured-most : (c : List ℕ) (n : ℕ) → coloured c n ≤ n
+coloured-most : (c : List ℕ) (n : ℕ) → coloured c n ≤ n
 unfolding coloured
 coloured-most c n = sumTo-ones n (λ d. bit (ltb 0 (getD c d 0))) (λ d. bit-one (ltb 0 (getD c d 0)))
 
 -- one more piece has a colour
-pub coloured-more : (c : List ℕ) (n d w : ℕ) → d < n → d < length c → getD c d 0 ≡ 0 → 0 < w → coloured (set c d w) n ≡ coloured c n + 1
+coloured-more : (c : List ℕ) (n d w : ℕ) → d < n → d < length c → getD c d 0 ≡ 0 → 0 < w → coloured (set c d w) n ≡ coloured c n + 1
 unfolding coloured
 coloured-more c n d w l m z pos =
     let f : ℕ → ℕ = λ e. bit (ltb 0 (getD c e 0)) in
@@ -78,6 +80,29 @@ coloured-all c n h =
 cover : (c : List ℕ) {n d : ℕ} → n ≡ suc d → 0 < getD c d 0 → Covered c n
 cover c {n} {d} to p e q = (let i : e ≡ d = omega arith in omega (arith, ap (λ x. getD c x 0) i))
 
+-- ---- counters read as colours
+
+pub colours-long : (c : List ℕ) → length (coloursIn c) ≡ length c
+unfolding coloursIn
+colours-long c = length-map c (λ n. n - mostCount)
+
+colour-at : (c : List ℕ) (d : ℕ) → getD (coloursIn c) d 0 ≡ getD c d 0 - mostCount
+unfolding coloursIn
+colour-at c d = List·getD-map (λ n. n - mostCount) c d 0
+
+colours-set : (c : List ℕ) (d w : ℕ) → coloursIn (set c d w) ≡ set (coloursIn c) d (w - mostCount)
+unfolding coloursIn
+colours-set [] d w = refl
+colours-set (x ∷ xs) zero w = refl
+colours-set (x ∷ xs) (suc d) w = ap (λ l. (x - mostCount) ∷ l) (colours-set xs d w)
+
+-- where counters hold what refers to each piece, they hold counts alone
+pub plain-held : {T : Tables} {h : Shape} {c : List ℕ} → Totals T h → Hold (pieceTotal T) c (references T) → Plain (h .pieces) c
+plain-held {T} k v = record {
+  long = omega (arith, v .long);
+  each = λ d l. omega (arith, v .each d (omega (arith, v .long)), references-most T d);
+}
+
 -- ---- one walk
 
 -- What holds at each step of the walk from piece a, which began with the colours c₀ and n₀ follows. Its colour is a + 1.
@@ -85,7 +110,7 @@ cover c {n} {d} to p e q = (let i : e ≡ d = omega arith in omega (arith, ap (�
 -- own follows. `backward`: where it ends from a piece of this walk, it ends from here in fewer. `closed`: next leads from a
 -- piece with a colour to here, or to none without.
 pub record InWalk (T : Tables) (c₀ : List ℕ) (n₀ a : ℕ) (c : List ℕ) (link n : ℕ) : Type 0 where
-  pub long : length c ≡ mostPieces
+  pub long : pieceTotal T ≤ length c
   pub in-range : link ≤ pieceTotal T
   pub follows : n ≡ coloured c (pieceTotal T)
   pub later : n₀ ≤ n
@@ -119,9 +144,9 @@ module _ {T : Tables} {c₀ : List ℕ} {n₀ a : ℕ} (r : Scanned T c₀ n₀ 
     inside = omega (arith, v .in-range)
 
     -- a piece without a colour gets this walk's, and its next is followed
-    pub walk-on : getD c d 0 ≡ 0 → InWalk T c₀ n₀ a (set c d (a + 1)) (piece T d .next) (n + 1)
+    walk-on : getD c d 0 ≡ 0 → InWalk T c₀ n₀ a (set c d (a + 1)) (piece T d .next) (n + 1)
     walk-on z = record {
-      long = length-set c d (a + 1) ∙ v .long;
+      long = omega (arith, length-set c d (a + 1), v .long);
       in-range = r .linked d inside;
       follows = omega (arith, coloured-more c (pieceTotal T) d (a + 1) inside short z (omega arith), v .follows);
       later = omega (arith, v .later);
@@ -157,7 +182,7 @@ module _ {T : Tables} {c₀ : List ℕ} {n₀ a : ℕ} (r : Scanned T c₀ n₀ 
     }
       where
         short : d < length c
-        short = omega (arith, v .long, r .few, inside)
+        short = omega (arith, v .long, inside)
 
         at : (e : ℕ) → e ≡ d → getD (set c d (a + 1)) e 0 ≡ a + 1
         at e s = ap (λ x. getD (set c d (a + 1)) x 0) s ∙ getD-set-same c d (a + 1) 0 short
@@ -178,7 +203,6 @@ module _ {T : Tables} {c₀ : List ℕ} {n₀ a : ℕ} (r : Scanned T c₀ n₀ 
       bounded = walk-most;
       good = λ _. record {
         long = v .long;
-        few = r .few;
         linked = r .linked;
         within = omega arith;
         follows = v .follows;
@@ -280,24 +304,40 @@ module _ {T : Tables} {c₀ : List ℕ} {n₀ a : ℕ} (r : Scanned T c₀ n₀ 
         }
 
       -- it comes to a piece that has a colour
-      pub walk-seen : getD c d 0 ≢ 0 → Walked T c a n (not (eqb (getD c d 0) (a + 1)))
+      walk-seen : getD c d 0 ≢ 0 → Walked T c a n (not (eqb (getD c d 0) (a + 1)))
       walk-seen p =
           elim (ℕ-discrete (getD c d 0) (a + 1)) [
             | yes q ↦ rw (eq-eqb (getD c d 0) (a + 1) q) (walk-back q)
             | no q ↦ rw (ne-eqb (getD c d 0) (a + 1) q) (walk-met (omega arith) q)
           ]
 
+  -- the same of the counters that hold the colours: what is above every count is a colour
+  module _ (c : List ℕ) {link n : ℕ} (v : InWalk T c₀ n₀ a (coloursIn c) link n) (d : ℕ) (to : link ≡ suc d) where
+    pub counter-on : getD c d 0 ≤ mostCount → InWalk T c₀ n₀ a (coloursIn (set c d (mostCount + a + 1))) (piece T d .next) (n + 1)
+    counter-on s =
+        let e : mostCount + a + 1 - mostCount ≡ a + 1 = omega arith in
+        rw (colours-set, e) (walk-on v d to (omega (arith, colour-at c d)))
+
+    pub counter-seen : mostCount < getD c d 0 → Walked T (coloursIn c) a n (not (eqb (getD c d 0) (mostCount + a + 1)))
+    counter-seen s =
+        let x = getD (coloursIn c) d 0 in
+        let y = getD c d 0 in
+        let e : eqb x (a + 1) ≡ eqb y (mostCount + a + 1) = same-test _ _
+        (λ t. eq→eqb y (mostCount + a + 1) (omega (arith, colour-at c d, eqb→eq x (a + 1) t)))
+        (λ t. eq→eqb x (a + 1) (omega (arith, colour-at c d, eqb→eq y (mostCount + a + 1) t))) in
+        rw e at (walk-seen v d to (omega (arith, colour-at c d)))
+
 -- ---- the walks from every piece
 
-pub scan-start : (T : Tables) → pieceTotal T ≤ mostPieces → ((e : ℕ) → e < pieceTotal T → piece T e .next ≤ pieceTotal T) → Scanned T (zeros mostPieces) 0 0
-scan-start T few linked =
-    let zero-at : (e : ℕ) → e < pieceTotal T → getD (zeros mostPieces) e 0 ≡ 0 = λ e l. getD-replicate mostPieces e 0 0 (omega arith) in
+pub scan-start : (T : Tables) {h : Shape} {c : List ℕ} → Totals T h → ((e : ℕ) → e < pieceTotal T → piece T e .next ≤ pieceTotal T) → Plain (h .pieces) c →
+    Scanned T (coloursIn c) 0 0
+scan-start T {h} {c} k linked v =
+    let zero-at : (e : ℕ) → e < pieceTotal T → getD (coloursIn c) e 0 ≡ 0 = λ e l. omega (arith, colour-at c e, v .each e (omega arith)) in
     record {
-      long = length-replicate {A = ℕ} mostPieces 0;
-      few = few;
+      long = omega (arith, colours-long c, v .long);
       linked = linked;
       within = omega arith;
-      follows = sym (coloured-none (zeros mostPieces) (pieceTotal T) zero-at);
+      follows = sym (coloured-none (coloursIn c) (pieceTotal T) zero-at);
       older = λ e l. omega (arith, zero-at e l);
       passed = λ e l. absurd (not-suc-le-zero l);
       ended = λ e l p. absurd (omega (arith, zero-at e l));

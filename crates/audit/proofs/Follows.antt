@@ -1,7 +1,7 @@
 -- How often next is followed: never more than P times, and exactly P times where no chain meets itself. Assumes nothing.
-use mathlib.Core.Path.{_≡_, refl, _∙_}
+use mathlib.Core.Path.{_≡_, refl, sym, _∙_}
 use mathlib.Core.Logic.{⊎-elim}
-use mathlib.Core.Bool.{true, false, _&&_}
+use mathlib.Core.Bool.{Bool, true, false, _&&_}
 use Prim.Native.Nat.{ℕ, zero, suc, _≤_, _<_}
 use native.Mathlib.Omega.{arith}
 use lib.Dec.{eqb, eqb→eq}
@@ -15,7 +15,7 @@ use Rattle.rules.proofs.Sums.{sumTo-same, sumTo-one, sumTo-ones}
 use Rattle.rules.proofs.Bytes.{decode-pieces}
 use Rattle.counts.specs.Ranges.{referencesOk}
 use Rattle.counts.proofs.Ranges.{references-torn, references-held}
-use Rattle.audit.specs.Follows.{endsFrom, meets, walkedFrom, isMet, followsOf, tablesFollows, auditFollows}
+use Rattle.audit.specs.Follows.{endsFrom, meets, walkedFrom, isMet, followsOf, tablesFollows, Tested, auditFollows}
 
 -- one follow more
 pub follow-last : (T : Tables) (k n d : ℕ) → follow T k n ≡ suc d → follow T (suc k) n ≡ piece T d .next
@@ -56,13 +56,20 @@ module _ (T : Tables) where
       ∙ sumTo-one (pieceTotal T)
 
   -- the tables' test follows next only where every entry and count is right
-  pub tables-none : referencesOk T ≡ false → tablesFollows T ≡ 0
+  tables-none : referencesOk T ≡ false → tablesFollows T ≡ 0
   unfolding tablesFollows
   tables-none q = if-F (referencesOk T) (followsOf T) 0 (λ t. rw q at t)
 
-  pub tables-all : referencesOk T ≡ true → tablesFollows T ≡ followsOf T
+  tables-all : referencesOk T ≡ true → tablesFollows T ≡ followsOf T
   unfolding tablesFollows
   tables-all q = if-T (referencesOk T) (followsOf T) 0 (rw q tt)
+
+  -- what the tables' test answers, where an entry or a count is wrong and where all are right
+  pub tested-torn : referencesOk T ≡ false → Tested T false 0
+  tested-torn q = record { exact = references-torn T q; follows = sym (tables-none q); bounded = omega arith }
+
+  pub tested-held : referencesOk T ≡ true → {r : Bool} {n : ℕ} → r ≡ acyclic T → n ≡ followsOf T → n ≤ pieceTotal T → Tested T r n
+  tested-held q e f l = record { exact = e ∙ references-held T q; follows = f ∙ sym (tables-all q); bounded = l }
 
 -- the audit follows next at most P times, whatever the pool
 pub audit-most : (m : Lent) → auditFollows m ≤ piecesIn (m .pool)

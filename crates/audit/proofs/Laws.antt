@@ -6,8 +6,7 @@ use Prim.Native.Nat.{ℕ}
 use native.Mathlib.Omega.{arith}
 use lib.ListN.{length, length-replicate}
 use Rattle.rules.specs.Basics.{Is}
-use Rattle.rules.specs.Bytes.{decode}
-use Rattle.rules.specs.Sound.{sound, Sound, SoundTables, lent}
+use Rattle.rules.specs.Sound.{sound, Sound, lent}
 use Rattle.rules.proofs.Audit.{sound-is}
 use Rattle.rules.proofs.Bytes.{Header, header-facts}
 use Rattle.tables.specs.Shape.{Shaped}
@@ -22,7 +21,7 @@ module _ {p : List ℕ} {n : ℕ} {r : Audited} (v : Verdict p n r) where
 
   module _ (q : r .sound ≡ true) where
     -- the pool is sound
-    pub verdict-true : (st : List ℕ) → length st ≡ n → sound (lent p st) ≡ true
+    verdict-true : (st : List ℕ) → length st ≡ n → sound (lent p st) ≡ true
     verdict-true st l = sym (v .exact st l) ∙ q
 
     pub verdict-is : (st : List ℕ) → length st ≡ n → Is (sound (lent p st))
@@ -34,10 +33,7 @@ module _ {p : List ℕ} {n : ℕ} {r : Audited} (v : Verdict p n r) where
     pub verdict-header : (st : List ℕ) → length st ≡ n → Header (lent p st)
     verdict-header st l = header-facts (lent p st) (verdict-sound st l .header-ok)
 
-    -- of the tables: the rules' list, and the shape
-    pub verdict-list : SoundTables (decode p)
-    verdict-list = verdict-sound (zeros n) (length-replicate {A = ℕ} n 0) .tables-ok
-
+    -- the pool has the shape that was loaded
     pub verdict-shaped : Shaped p (r .shape)
     verdict-shaped = v .shaped q
 

@@ -1,20 +1,19 @@
 -- The verdict from the header's tests and the tables'. Assumes nothing.
 use mathlib.Core.Path.{_≡_, sym, subst, _∙_}
-use mathlib.Core.Bool.{Bool, true, false, false≢true, true≢false, _&&_}
+use mathlib.Core.Bool.{Bool, true, false, false≢true, true≢false}
 use mathlib.Core.List.{List}
-use Prim.Native.Nat.{ℕ, _≤_, _<_}
+use Prim.Native.Nat.{ℕ, _<_}
 use native.Mathlib.Omega.{arith}
 use lib.ListN.{length, length-replicate}
 use Rattle.rules.specs.Basics.{Is}
 use Rattle.rules.specs.Layout.{headerLength}
-use Rattle.rules.specs.Tables.{pieceTotal}
 use Rattle.rules.specs.Bytes.{buffersIn, piecesIn, slipsIn, decode}
-use Rattle.rules.specs.Sound.{headerOk, soundTables, sound, lent, headed}
+use Rattle.rules.specs.Sound.{headerOk, sound, lent, headed}
 use Rattle.rules.proofs.Logic.{is-true, is-false, and-0, if-T, if-F}
 use Rattle.rules.proofs.Bytes.{Header, header-facts, header-test, decode-pieces}
 use Rattle.layout.specs.declared.Shape.{Shape}
 use Rattle.counts.specs.Counters.{Limited, zeros}
-use Rattle.audit.specs.Follows.{tablesFollows, auditFollows}
+use Rattle.audit.specs.Follows.{Tested, auditFollows}
 use Rattle.audit.specs.Verdict.{tornAnswer, Verdict}
 
 -- the shape h is the header's
@@ -62,12 +61,11 @@ module _ {p : List ℕ} (n : ℕ) {h : Shape} (o : Of p h) where
           few-slips = omega (arith, k .counts);
         }
 
-    pub verdict-tables : {r : Bool} {m : ℕ} → r ≡ soundTables (decode p) → m ≡ tablesFollows (decode p) → m ≤ pieceTotal (decode p) →
-        Verdict p n (record { sound = r; follows = m; shape = h })
+    pub verdict-tables : {r : Bool} {m : ℕ} → Tested (decode p) r m → Verdict p n (record { sound = r; follows = m; shape = h })
     unfolding sound auditFollows
-    verdict-tables e f l = record {
-      exact = λ st w. rw (is-true (headerOk (lent p st)) (header-test (lent p st) (good-header st w))) e;
-      counted = λ st w. f ∙ sym (if-T (headerOk (lent p st)) _ 0 (header-test (lent p st) (good-header st w)));
-      bounded = omega (arith, decode-pieces p);
+    verdict-tables t = record {
+      exact = λ st w. rw (is-true (headerOk (lent p st)) (header-test (lent p st) (good-header st w))) (t .exact);
+      counted = λ st w. t .follows ∙ sym (if-T (headerOk (lent p st)) _ 0 (header-test (lent p st) (good-header st w)));
+      bounded = omega (arith, t .bounded, decode-pieces p);
       shaped = λ _. good-limits .shaped;
     }

@@ -1,7 +1,7 @@
 -- The walks with colours: from each piece without a colour next is followed, and each piece met gets the walk's colour.
 use mathlib.Core.Path.{_≡_}
 use mathlib.Core.Bool.{Bool, true, false}
-use mathlib.Core.List.{List}
+use mathlib.Core.List.{List, map}
 use Prim.Native.Nat.{ℕ, suc, _+_, _-_, _/_, _≤_, _<_}
 use lib.ListN.{length, getD}
 use lib.Dec.{ltb}

@@ -20,8 +20,9 @@ use Rattle.rules.proofs.Sums.{sumTo-ones}
 use Rattle.rules.proofs.Moves.{hit, hit-same, hit-other, lies-used}
 use Rattle.rules.proofs.Bytes.{decode-slips, decode-pieces, decode-counts}
 use Rattle.layout.specs.declared.Shape.{Shape}
-use Rattle.counts.specs.Ranges.{linkInRange, pieceInRange, slipsInRange, piecesInRange}
-use Rattle.counts.specs.Counters.{Limited, zeros, tallied, lieOf, Countable, Hold, headsTo, nextsTo, lyingTo, SlipsCounted, PiecesCounted}
+use Rattle.counts.specs.Ranges.{linkInRange, pieceInRange, slipsInRange, piecesInRange, referencesOk}
+use Rattle.counts.specs.Counters.{Limited, zeros, tallied, lieOf, Countable, Hold, Cleared, references, headsTo, nextsTo, lyingTo}
+use Rattle.counts.specs.Counters.{SlipsCounted, PiecesCounted, ReferencesCounted}
 use Rattle.counts.proofs.Ranges.{free-next, next-in-range, buffer-in-range}
 
 -- ---- the tables of a pool within the limits
@@ -61,25 +62,32 @@ tallied-at c (suc e) d l =
       | no q ↦ omega (arith, getD-set-other c e d (getD c e 0 + 1) 0 q, hit-other e d q)
     ]
 
-module _ {most : ℕ} {c : List ℕ} {f : ℕ → ℕ} (h : Hold most c f) where
-  hold-tallied : (n : ℕ) (g : ℕ → ℕ) → n ≤ most → ((d : ℕ) → g d ≡ f d + hit n d) → Hold most (tallied c n) g
-  hold-tallied n g l e = record {
-    long = tallied-long c n ∙ h .long;
-    each = λ d m. omega (arith, tallied-at c n d (omega (arith, h .long)), h .each d m, e d);
+module _ {n : ℕ} {c : List ℕ} {f : ℕ → ℕ} (h : Hold n c f) where
+  hold-tallied : (m : ℕ) (g : ℕ → ℕ) → m ≤ n → ((d : ℕ) → g d ≡ f d + hit m d) → Hold n (tallied c m) g
+  hold-tallied m g l e = record {
+    long = omega (arith, h .long, tallied-long c m);
+    each = λ d i. omega (arith, tallied-at c m d (omega (arith, h .long)), h .each d (omega (arith, tallied-long c m)), e d);
   }
 
-  hold-room : ((d : ℕ) → f d < 65535) → Countable c
-  hold-room k d =
-      elim (decLt d most) [
+  -- no counter holds more than what is counted, and past the last there is none
+  hold-below : {m : ℕ} → 0 < m → ((d : ℕ) → f d < m) → (d : ℕ) → getD c d 0 < m
+  hold-below p k d =
+      elim (decLt d (length c)) [
         | yes l ↦ omega (arith, h .each d l, k d)
-        | no l ↦ omega (arith, List·getD-eq-default c 0 {n = d} (omega (arith, h .long)))
+        | no l ↦ omega (arith, List·getD-eq-default c 0 {n = d} (omega arith))
       ]
 
-  hold-same : (g : ℕ → ℕ) → ((d : ℕ) → g d ≡ f d) → Hold most c g
+  hold-same : (g : ℕ → ℕ) → ((d : ℕ) → g d ≡ f d) → Hold n c g
   hold-same g e = record { long = h .long; each = λ d l. h .each d l ∙ sym (e d) }
 
-hold-zeros : (most : ℕ) (f : ℕ → ℕ) → ((d : ℕ) → f d ≡ 0) → Hold most (zeros most) f
-hold-zeros most f e = record { long = length-replicate {A = ℕ} most 0; each = λ d l. getD-replicate most d 0 0 l ∙ sym (e d) }
+  -- counters for n serve for fewer
+  pub hold-fewer : {m : ℕ} → m ≤ n → Hold m c f
+  hold-fewer l = record { long = omega (arith, h .long); each = h .each }
+
+pub cleared-zeros : (n m : ℕ) → n ≤ m → Cleared n (zeros m)
+cleared-zeros n m l =
+    let e = length-replicate {A = ℕ} m 0 in
+    record { long = omega arith; each = λ d i. getD-replicate m d 0 0 (omega arith) }
 
 -- one more passes
 all-more : (f : ℕ → Bool) (n : ℕ) → Is (allTo n f) → Is (f n) → Is (allTo (n + 1) f)
@@ -91,7 +99,7 @@ all-more f n t u = rw add-one (and-intro (f n) (allTo n f) u t)
 -- the first n slips are in range and counted
 pub record SlipsTo (T : Tables) (n : ℕ) (refs : List ℕ) : Type 0 where
   pub ranged : Is (allTo n (λ s. linkInRange (pieceTotal T) (headOf T s)))
-  pub held : Hold mostPieces refs (headsTo T n)
+  pub held : Hold (pieceTotal T) refs (headsTo T n)
 
 module _ (T : Tables) where
   headsTo-most : (n d : ℕ) → headsTo T n d ≤ n
@@ -102,16 +110,16 @@ module _ (T : Tables) where
   unfolding headsTo
   headsTo-more n d = rw add-one (omega arith)
 
-  pub slips-start : {refs : List ℕ} → refs ≡ zeros mostPieces → SlipsTo T 0 refs
+  pub slips-start : {h : Shape} → Totals T h → {refs : List ℕ} → Cleared (h .pieces) refs → SlipsTo T 0 refs
   unfolding headsTo allTo
-  slips-start e = rw e (record { ranged = tt; held = hold-zeros mostPieces (headsTo T 0) (λ d. refl) })
+  slips-start k z = record { ranged = tt; held = hold-same (hold-fewer z (omega arith)) (headsTo T 0) (λ d. refl) }
 
   module _ {n : ℕ} {refs : List ℕ} (v : SlipsTo T n refs) where
-    pub slips-room : n < 65535 → Countable refs
-    slips-room l = hold-room (v .held) (λ d. omega (arith, headsTo-most n d))
+    pub slips-room : n ≤ mostSlips → Countable refs
+    slips-room l = hold-below (v .held) (omega arith) (λ d. omega (arith, headsTo-most n d))
 
-    pub slips-on : {m : ℕ} {refs′ : List ℕ} → m ≡ headOf T n → m ≤ pieceTotal T → pieceTotal T ≤ mostPieces → refs′ ≡ tallied refs m → SlipsTo T (n + 1) refs′
-    slips-on {m} {refs′} q l few e = rw (e, q) (record {
+    pub slips-on : {m : ℕ} {refs′ : List ℕ} → m ≡ headOf T n → m ≤ pieceTotal T → refs′ ≡ tallied refs m → SlipsTo T (n + 1) refs′
+    slips-on {m} {refs′} q l e = rw (e, q) (record {
       ranged = all-more (λ s. linkInRange (pieceTotal T) (headOf T s)) n (v .ranged) (le→leb (headOf T n) (pieceTotal T) (omega arith));
       held = hold-tallied (v .held) (headOf T n) (headsTo T (n + 1)) (omega arith) (headsTo-more n);
     })
@@ -132,8 +140,8 @@ module _ (T : Tables) where
 -- the first n pieces are in range, and their nexts and buffers counted
 pub record PiecesTo (T : Tables) (n : ℕ) (refs lies : List ℕ) : Type 0 where
   pub ranged : Is (allTo n (λ d. pieceInRange (bufferTotal T) (pieceTotal T) (piece T d)))
-  pub references : Hold mostPieces refs (λ d. heads T d + nextsTo T n d)
-  pub laid : Hold mostBuffers lies (lyingTo T n)
+  pub references : Hold (pieceTotal T) refs (λ d. heads T d + nextsTo T n d)
+  pub laid : Hold (bufferTotal T) lies (lyingTo T n)
 
 -- a piece in range counts where its next leads, a free one nowhere
 next-hit : (B P : ℕ) (p : Piece) → Is (pieceInRange B P p) → (d : ℕ) → bit (inUse p && leads (p .next) d) ≡ hit (p .next) d
@@ -158,13 +166,11 @@ lie-hit p b =
     ]
 
 -- a piece in range counts where there are counters
-entry-fits : (B P : ℕ) (p : Piece) → Is (pieceInRange B P p) → B ≤ mostBuffers → P ≤ mostPieces → (p .next ≤ mostPieces) × (lieOf p ≤ mostBuffers)
-entry-fits B P p t b l =
-    let n = next-in-range B P p t in (
-      omega arith,
-      if-either (λ x. x ≤ mostBuffers) (eqb (p .count) 0) 0 (suc (p .buffer)) (λ z. omega arith)
-          (λ z. omega (arith, buffer-in-range B P p t (λ q. z (eq→eqb (p .count) 0 q)))),
-    )
+entry-fits : (B P : ℕ) (p : Piece) → Is (pieceInRange B P p) → (p .next ≤ P) × (lieOf p ≤ B)
+entry-fits B P p t = (
+  next-in-range B P p t,
+  if-either (λ x. x ≤ B) (eqb (p .count) 0) 0 (suc (p .buffer)) (λ z. omega arith) (λ z. buffer-in-range B P p t (λ q. z (eq→eqb (p .count) 0 q))),
+)
 
 module _ (T : Tables) where
   heads-most : (d : ℕ) → heads T d ≤ slipTotal T
@@ -187,9 +193,18 @@ module _ (T : Tables) where
   unfolding lyingTo
   lyingTo-more n b = rw add-one (omega (arith, lie-hit (piece T n) b))
 
-  pub pieces-start : {refs lies : List ℕ} → Hold mostPieces refs (heads T) → lies ≡ zeros mostBuffers → PiecesTo T 0 refs lies
+  -- what refers to a piece is at most every slip and every piece
+  pub references-most : (d : ℕ) → references T d ≤ slipTotal T + pieceTotal T
+  unfolding nexts nextsTo
+  references-most d = omega (arith, heads-most d, nextsTo-most (pieceTotal T) d)
+
+  pub pieces-start : {h : Shape} → Totals T h → {refs lies : List ℕ} → Hold (h .pieces) refs (heads T) → Cleared (h .buffers) lies → PiecesTo T 0 refs lies
   unfolding nextsTo lyingTo allTo
-  pieces-start h e = record { ranged = tt; references = hold-same h _ (λ d. omega arith); laid = rw e (hold-zeros mostBuffers (lyingTo T 0) (λ d. refl)) }
+  pieces-start k r z = record {
+    ranged = tt;
+    references = hold-same (hold-fewer r (omega arith)) _ (λ d. omega arith);
+    laid = hold-same (hold-fewer z (omega arith)) (lyingTo T 0) (λ d. refl);
+  }
 
   module _ {h : Shape} (k : Totals T h) {n : ℕ} (l : n < h .pieces) {p : Piece} (e : p ≡ piece T n) {r : Bool} (q : r ≡ pieceInRange (h .buffers) (h .pieces) p) where
     ranged : {b : Bool} → r ≡ b → pieceInRange (bufferTotal T) (pieceTotal T) (piece T n) ≡ b
@@ -206,16 +221,16 @@ module _ (T : Tables) where
         }
 
     module _ (x : r ≡ true) {refs lies : List ℕ} (v : PiecesTo T n refs lies) where
-      fits : (piece T n .next ≤ mostPieces) × (lieOf (piece T n) ≤ mostBuffers)
-      fits = entry-fits (bufferTotal T) (pieceTotal T) (piece T n) (rw (ranged x) tt) (k .few-buffers) (k .few-pieces)
+      fits : (piece T n .next ≤ pieceTotal T) × (lieOf (piece T n) ≤ bufferTotal T)
+      fits = entry-fits (bufferTotal T) (pieceTotal T) (piece T n) (rw (ranged x) tt)
 
       -- there are counters for what it refers to, and room in them
-      pub pieces-fit : (p .next ≤ mostPieces) × (lieOf p ≤ mostBuffers) × Countable refs × Countable lies
+      pub pieces-fit : (p .next ≤ length refs) × (lieOf p ≤ length lies) × Countable refs × Countable lies
       pieces-fit = (
-        rw e (fits .0),
-        rw e (fits .1),
-        hold-room (v .references) (λ d. omega (arith, heads-most d, nextsTo-most n d)),
-        hold-room (v .laid) (λ b. omega (arith, lyingTo-most n b)),
+        rw e (omega (arith, fits .0, v .references .long)),
+        rw e (omega (arith, fits .1, v .laid .long)),
+        hold-below (v .references) (omega arith) (λ d. omega (arith, heads-most d, nextsTo-most n d)),
+        hold-below (v .laid) (omega arith) (λ b. omega (arith, lyingTo-most n b)),
       )
 
       pub pieces-on : {refs′ lies′ : List ℕ} → refs′ ≡ tallied refs (p .next) → lies′ ≡ tallied lies (lieOf p) → PiecesTo T (n + 1) refs′ lies′
@@ -231,6 +246,11 @@ module _ (T : Tables) where
   unfolding piecesInRange nexts nextsTo lying lyingTo
   pieces-end v e = record { exact = sym (is-true _ (rw e at (v .ranged))); references = λ _. rw e at (v .references); laid = λ _. rw e at (v .laid) }
 
+-- ---- the test that fails first decides
+
+pub references-fail : {T : Tables} {refs : List ℕ} → referencesOk T ≡ false → ReferencesCounted T false refs
+references-fail q = record { exact = sym q; held = λ e. absurd (false≢true e) }
+
 -- ---- stored counts g against counters that hold f
 
 module _ (g f : ℕ → ℕ) where
@@ -241,12 +261,15 @@ module _ (g f : ℕ → ℕ) where
   unfolding allTo
   agree-start = tt
 
-  module _ {most n x : ℕ} {c : List ℕ} (h : Hold most c f) (l : n < most) (e : x ≡ g n) where
-    pub agree-on : Agree n → x ≡ getD c n 0 → Agree (n + 1)
-    agree-on t q = all-more (λ d. eqb (g d) (f d)) n t (eq→eqb (g n) (f n) (omega (arith, h .each n l)))
+  module _ {N n x : ℕ} {c : List ℕ} (h : Hold N c f) (l : n < N) (e : x ≡ g n) where
+    counter : getD c n 0 ≡ f n
+    counter = h .each n (omega (arith, h .long))
 
-    pub agree-torn : (N : ℕ) → n < N → x ≢ getD c n 0 → false ≡ allTo N (λ d. eqb (g d) (f d))
-    agree-torn N m q = sym (is-false _ (λ t. q (omega (arith, h .each n l, eqb→eq (g n) (f n) (all-at N (λ d. eqb (g d) (f d)) t n m)))))
+    pub agree-on : Agree n → x ≡ getD c n 0 → Agree (n + 1)
+    agree-on t q = all-more (λ d. eqb (g d) (f d)) n t (eq→eqb (g n) (f n) (omega (arith, counter)))
+
+    pub agree-torn : (M : ℕ) → n < M → x ≢ getD c n 0 → false ≡ allTo M (λ d. eqb (g d) (f d))
+    agree-torn M m q = sym (is-false _ (λ t. q (omega (arith, counter, eqb→eq (g n) (f n) (all-at M (λ d. eqb (g d) (f d)) t n m)))))
 
   pub agree-end : {n : ℕ} (N : ℕ) → n ≡ N → Agree n → true ≡ allTo N (λ d. eqb (g d) (f d))
   agree-end N e t = sym (is-true _ (rw e at t))

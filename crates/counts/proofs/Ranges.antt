@@ -113,7 +113,7 @@ module _ (T : Tables) where
     unfolding slipsInRange
     slips-ok = all-map (slipTotal T) _ _ (λ s l. link-ok (headOf T s) (λ e m q. omega (arith, counts-at e m, heads-at T s e q)))
 
-  pub parts-sound : referencesOk T && acyclic T ≡ soundTables T
+  parts-sound : referencesOk T && acyclic T ≡ soundTables T
   unfolding referencesOk soundTables slipsInRange piecesInRange countsAgree buffersAgree
   parts-sound =
       let p₁ = allTo (pieceTotal T) (λ d. pieceOk T (piece T d)) in

@@ -38,8 +38,7 @@ tables-ok-requires c κs =
 returns-3 : tie.Need-returns-3
 returns-3 c =
     let x = c .before in
-    verdict-tables _ (loaded (x .before .before)) (sym (x .before .header-ok .ensures) ∙ not-false _ (x .if2 .left)) (c .tables-ok .ensures .0) (c .tables-ok .ensures .1)
-    (c .tables-ok .ensures .2)
+    verdict-tables _ (loaded (x .before .before)) (sym (x .before .header-ok .ensures) ∙ not-false _ (x .if2 .left)) (c .tables-ok .ensures)
 
 pub audit-spec : {M : Type 1} → statement M
 audit-spec =

@@ -22,31 +22,31 @@ abbrev μ-loop : tie.MeasureT-loop
 μ-loop pool shape lies b₀ b = shape .buffers - b
 
 loop-holds : tie.Need-loop-holds Inv-loop μ-loop
-loop-holds c = let T = decode (c .before .args .pool .now) in (omega arith, agree-start (stored T) (found T))
+loop-holds c = let T = decode (c .before .before .args .pool .now) in (omega arith, agree-start (stored T) (found T))
 
 buffer-count-requires : tie.Need-buffer-count-requires Inv-loop μ-loop
-buffer-count-requires c κs = (c .before .before .before .before .pre .0 .shaped, c .if1 .taken)
+buffer-count-requires c κs = (c .before .before .before .before .before .pre .0 .shaped, c .if1 .taken)
 
 cast-i : tie.Need-cast-i Inv-loop μ-loop
-cast-i c = let z = c .before .before .before .before .before in omega (arith, z .pre .0 .few-buffers)
+cast-i c = let z = c .before .before .before .before .before .before in omega (arith, z .pre .0 .few-buffers)
 
 mul-if2 : tie.Need-mul-if2 Inv-loop μ-loop
-mul-if2 c = let z = c .before .before .before .before .before in omega (arith, z .pre .0 .few-buffers)
+mul-if2 c = let z = c .before .before .before .before .before .before in omega (arith, z .pre .0 .few-buffers)
 
-element-copy-out-if2 : tie.Need-element-copy-out-if2 Inv-loop μ-loop
-element-copy-out-if2 c = let z = c .before .before .before .before .before in omega (arith, z .pre .0 .few-buffers)
+shared-slice-read-if2 : tie.Need-shared-slice-read-if2 Inv-loop μ-loop
+shared-slice-read-if2 c = let z = c .before .before .before .before .before .before .before in omega (arith, z .pre .1 .long)
 
 returns : tie.Need-returns Inv-loop μ-loop
 unfolding buffersAgree
 returns c =
     let w = c .before .before .before .before .before in
-    let z = w .before .before in
+    let z = w .before .before .before in
     let T = decode (z .args .pool .now) in
     let k = totals (z .pre .0) in
     agree-torn (stored T) (found T) (z .pre .1) (omega arith) (c .before .before .buffer-count .ensures) (bufferTotal T) (omega arith) (c .if2 .taken)
 
 add-b : tie.Need-add-b Inv-loop μ-loop
-add-b c = let z = c .before .before .before .before .before .before .before in omega (arith, z .pre .0 .few-buffers)
+add-b c = let z = c .before .before .before .before .before .before .before .before in omega (arith, z .pre .0 .few-buffers)
 
 loop-less : tie.Need-loop-less Inv-loop μ-loop
 loop-less c = omega arith
@@ -54,7 +54,7 @@ loop-less c = omega arith
 loop-again : tie.Need-loop-again Inv-loop μ-loop
 loop-again c =
     let w = c .before .before .before .before .before in
-    let z = w .before .before in
+    let z = w .before .before .before in
     let T = decode (z .args .pool .now) in
     let k = totals (z .pre .0) in
     (omega arith, agree-on (stored T) (found T) (z .pre .1) (omega arith) (c .before .before .buffer-count .ensures) (w .loop .inv .1) (c .if2 .left))
@@ -63,7 +63,7 @@ returns-2 : tie.Need-returns-2 Inv-loop μ-loop
 unfolding buffersAgree
 returns-2 c =
     let w = c .before .before in
-    let z = w .before .before in
+    let z = w .before .before .before in
     let T = decode (z .args .pool .now) in
     let k = totals (z .pre .0) in
     agree-end (stored T) (found T) (bufferTotal T) (omega arith) (w .loop .inv .1)
@@ -78,7 +78,7 @@ buffers-agree-spec =
     buffer-count-requires
     cast-i
     mul-if2
-    element-copy-out-if2
+    shared-slice-read-if2
     returns
     add-b
     loop-less

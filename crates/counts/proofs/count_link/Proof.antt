@@ -18,8 +18,8 @@ cast-d c = search needs
 mul-refs : tie.Need-mul-refs
 mul-refs c = search needs
 
-element-copy-out-refs : tie.Need-element-copy-out-refs
-element-copy-out-refs c = search needs
+slice-read-refs : tie.Need-slice-read-refs
+slice-read-refs c = search needs
 
 add-refs : tie.Need-add-refs
 add-refs c = let z = c .before .before in omega (arith, z .pre .1 (z .args .n - 1))
@@ -27,8 +27,11 @@ add-refs c = let z = c .before .before in omega (arith, z .pre .1 (z .args .n - 
 mul-refs-2 : tie.Need-mul-refs-2
 mul-refs-2 c = search needs
 
-element-write-refs : tie.Need-element-write-refs
-element-write-refs c = search needs
+slice-write-refs : tie.Need-slice-write-refs
+slice-write-refs c = search needs
+
+same-length : tie.Need-same-length
+same-length c = search needs
 
 returns-2 : tie.Need-returns-2
 returns-2 c = let z = c .before .before in store-tallied (z .args .refs .now) (z .args .n) (c .before .if1 .left)
@@ -41,8 +44,9 @@ count-link-spec =
     sub-d
     cast-d
     mul-refs
-    element-copy-out-refs
+    slice-read-refs
     add-refs
     mul-refs-2
-    element-write-refs
+    slice-write-refs
+    same-length
     returns-2)
