@@ -11,13 +11,37 @@ mod by_hand;
 
 use std::env;
 use std::hint::black_box;
+use std::sync::OnceLock;
 
-use fulcrumnest::{Answer, Gathered, Shown, Stretch};
+use fulcrumnest::{Answer, Gathered, Shape, Shown, Stretch};
 
-/// The shape of every case's pool.
-const BUFFERS: usize = 128;
-const PIECES: usize = 256;
-const SLIPS: usize = 64;
+/// Buffers, pieces and slips of every case's pool: FULCRUMNEST_SHAPE, three numbers, or the most.
+fn shape() -> [usize; 3] {
+    static SHAPE: OnceLock<[usize; 3]> = OnceLock::new();
+    *SHAPE.get_or_init(|| match env::var("FULCRUMNEST_SHAPE") {
+        Ok(text) => {
+            let numbers = text.split(' ').map(|word| word.parse().expect("a number"));
+            let numbers: Vec<usize> = numbers.collect();
+            numbers.try_into().expect("three numbers")
+        }
+        Err(_) => {
+            let most = Shape::MOST;
+            [most.buffers, most.pieces, most.slips].map(usize::from)
+        }
+    })
+}
+
+fn buffers() -> usize {
+    shape()[0]
+}
+
+fn pieces() -> usize {
+    shape()[1]
+}
+
+fn slips() -> usize {
+    shape()[2]
+}
 
 /// The bytes of most pieces: two lie on a buffer.
 const PIECE: usize = 256;
@@ -45,7 +69,7 @@ impl Lent {
     fn new(pool: Vec<u8>) -> Lent {
         Lent {
             pool,
-            storage: (0..512 * BUFFERS).map(|i| (i % 251) as u8).collect(),
+            storage: (0..512 * buffers()).map(|i| (i % 251) as u8).collect(),
             data: Vec::new(),
             output: Vec::new(),
             list: Vec::new(),
@@ -144,18 +168,18 @@ fn slip_at(s: usize) -> usize {
 }
 
 fn piece_at(d: usize) -> usize {
-    slip_at(SLIPS) + 10 * d
+    slip_at(slips()) + 10 * d
 }
 
 fn count_at(b: usize) -> usize {
-    piece_at(PIECES) + 2 * b
+    piece_at(pieces()) + 2 * b
 }
 
 impl Builder {
     fn new(room: Room) -> Builder {
-        let mut pool = vec![0; count_at(BUFFERS)];
+        let mut pool = vec![0; count_at(buffers())];
         pool[..3].copy_from_slice(b"SLP");
-        for (at, v) in [(3, 1), (5, BUFFERS), (7, PIECES), (9, SLIPS)] {
+        for (at, v) in [(3, 1), (5, buffers()), (7, pieces()), (9, slips())] {
             put16(&mut pool, at, v);
         }
         Builder {
@@ -175,7 +199,7 @@ impl Builder {
 
     /// The next slip takes a chain of new pieces of `length` bytes, each on the next buffer.
     fn chain(mut self, pieces: usize, length: usize) -> Builder {
-        let buffers = BUFFERS - self.room.buffers;
+        let buffers = buffers() - self.room.buffers;
         let first = self.pieces;
         let end = first + pieces;
         for d in first..end {
@@ -191,15 +215,15 @@ impl Builder {
 
     /// Fills the pool up to its room with chains of equal length, then sets every count by the references.
     fn full(mut self) -> Lent {
-        while self.slips < SLIPS - self.room.slips {
-            let chains = SLIPS - self.room.slips - self.slips;
-            let pieces = PIECES - self.room.pieces - self.pieces;
+        while self.slips < slips() - self.room.slips {
+            let chains = slips() - self.room.slips - self.slips;
+            let pieces = pieces() - self.room.pieces - self.pieces;
             self = self.chain(pieces.div_ceil(chains), PIECE);
         }
-        assert_eq!(self.pieces, PIECES - self.room.pieces);
+        assert_eq!(self.pieces, pieces() - self.room.pieces);
         let pool = &mut self.pool;
-        let heads = (0..SLIPS).map(|s| get16(pool, slip_at(s)).saturating_sub(1));
-        let nexts = (0..PIECES).map(|d| get16(pool, piece_at(d) + 8));
+        let heads = (0..slips()).map(|s| get16(pool, slip_at(s)).saturating_sub(1));
+        let nexts = (0..pieces()).map(|d| get16(pool, piece_at(d) + 8));
         let links = heads.chain(nexts).filter(|link| *link != 0);
         let references = links.map(|link| piece_at(link - 1));
         let lying = (0..self.pieces).map(|d| count_at(get16(pool, piece_at(d) + 2)));
@@ -513,9 +537,9 @@ fn compare(case: &Case) {
     assert_eq!(codes, (0, 0, 0), "{}", case.name);
     assert!(sound(&one), "{}: the pool left", case.name);
     // All that was free is taken: the pool was full but for exactly that.
-    let slips = (0..SLIPS).map(slip_at);
-    let pieces = (0..PIECES).map(piece_at);
-    let counts = (0..BUFFERS).map(count_at);
+    let slips = (0..slips()).map(slip_at);
+    let pieces = (0..pieces()).map(piece_at);
+    let counts = (0..buffers()).map(count_at);
     for at in slips.chain(pieces).chain(counts) {
         let taken = get16(&case.lent.pool, at) != 0 || get16(&one.pool, at) != 0;
         assert!(taken, "{}: byte {at} stays free", case.name);

@@ -55,7 +55,10 @@ fn follows(what: &str, nexts: &Nexts) -> usize {
 #[test]
 fn worst_cases_of_every_size() {
     let most = MOST.1 as usize;
-    for p in (1..=264).chain((264..most).step_by(251)).chain([most - 1, most]) {
+    for p in (1..=264)
+        .chain((264..most).step_by(251))
+        .chain([most - 1, most])
+    {
         for (what, nexts) in worst_cases(p) {
             follows(what, &nexts);
         }

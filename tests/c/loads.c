@@ -2,7 +2,7 @@
  * The loads of next that slp_audit makes, seen from outside: valgrind's tracer writes down every load of this program, and the program finds in
  * that trace those that touch a next of its pool. Document 02 (R-2) allows the test that no chain meets itself 2·P follows; the audit keeps
  * within that with all its loads of next, also those of its pass over the counts.
- *   loads POOL                     audits a pool of 256 pieces and writes the address of its first next
+ *   loads POOL                     audits a pool of the most pieces and writes the address of its first next
  *   loads count ADDRESS <TRACE     counts the loads; exit status 0 only where they are more than P and at most 2·P
  */
 #include <slp.h>
@@ -85,13 +85,9 @@ static unsigned count_loads(unsigned long first)
     unsigned loads = 0;
     while (fgets(line, sizeof line, stdin)) {
         if (sscanf(line, " %c %lx,%lu", &kind, &at, &size) != 3 || (kind != 'L' && kind != 'M')) continue;
-        for (unsigned d = 0; d < P; d++) {
-            unsigned long here = first + 10 * d;
-            if (at < here + 2 && here < at + size) {
-                loads++;
-                break;
-            }
-        }
+        /* The first next that ends behind the load's first byte: the load touches that one, or none. */
+        unsigned long d = at < first + 2 ? 0 : (at - first + 8) / 10;
+        if (d < P && first + 10 * d < at + size) loads++;
     }
     return loads;
 }

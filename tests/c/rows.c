@@ -20,7 +20,7 @@ static_assert(SLP_POOL_LENGTH(4, 6, 4) == 87 && SLP_STORAGE_LENGTH(4) == 2048, "
 static_assert(SLP_DONE == 0 && SLP_COUNTS == 1 && SLP_TORN == 2 && SLP_SLIP == 3 && SLP_SAME == 4 && SLP_LONG == 5, "codes 0 to 5");
 static_assert(SLP_RANGE == 6 && SLP_NARROW == 7 && SLP_SLIPS == 8 && SLP_PIECES == 9 && SLP_BUFFERS == 10 && SLP_LIST == 11,
               "codes 6 to 11");
-#if SLP_POOL_LENGTH(SLP_MOST_BUFFERS, SLP_MOST_PIECES, SLP_MOST_SLIPS) != 2955 || SLP_STORAGE_LENGTH(SLP_MOST_BUFFERS) != 65536
+#if SLP_POOL_LENGTH(SLP_MOST_BUFFERS, SLP_MOST_PIECES, SLP_MOST_SLIPS) != 23051 || SLP_STORAGE_LENGTH(SLP_MOST_BUFFERS) != 524288
 #error "the lengths of the largest pool"
 #endif
 
@@ -702,7 +702,7 @@ static unsigned open_code(uint16_t buffers, uint16_t pieces, uint16_t slips, siz
 static void macros(void)
 {
     static const uint16_t shape[5][3] = {
-        {1, 1, 1}, {4, 6, 4}, {7, 256, 3}, {128, 1, 64}, {SLP_MOST_BUFFERS, SLP_MOST_PIECES, SLP_MOST_SLIPS}};
+        {1, 1, 1}, {4, 6, 4}, {7, SLP_MOST_PIECES, 3}, {SLP_MOST_BUFFERS, 1, SLP_MOST_SLIPS}, {SLP_MOST_BUFFERS, SLP_MOST_PIECES, SLP_MOST_SLIPS}};
     static const uint16_t outside[6][3] = {{0, 6, 4}, {4, 0, 4}, {4, 6, 0},
         {SLP_MOST_BUFFERS + 1, 6, 4}, {4, SLP_MOST_PIECES + 1, 4}, {4, 6, SLP_MOST_SLIPS + 1}};
     for (int i = 0; i < 5; i++) {

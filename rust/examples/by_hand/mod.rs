@@ -4,9 +4,10 @@
 //! before every refusal is ruled out, and loads and stores without bounds checks. A link is 0 for none, 1 + d for
 //! piece d.
 
+use std::mem::MaybeUninit;
 use std::ptr;
 
-use fulcrumnest::{Answer, Gathered, Refusal, Shown, Stretch};
+use fulcrumnest::{Answer, Gathered, Refusal, Shape, Shown, Stretch};
 
 /// Bytes of one buffer.
 const SIZE: usize = 512;
@@ -380,6 +381,12 @@ unsafe fn clear_rest(storage: &mut [u8], buffer: usize, n: usize) {
     storage.get_unchecked_mut(start + n..start + SIZE).fill(0);
 }
 
+/// Counters that have counted nothing.
+unsafe fn cleared(counters: &mut [MaybeUninit<u16>]) -> &mut [u16] {
+    counters.as_mut_ptr().write_bytes(0, counters.len());
+    &mut *(counters as *mut [MaybeUninit<u16>] as *mut [u16])
+}
+
 /// The code of audit: header, slips, pieces, counts, then the walk with colours.
 unsafe fn audited(pool: &[u8], storage: usize) -> u16 {
     if pool.len() < 11 || &pool[..3] != b"SLP" || get16(pool, 3) != 1 {
@@ -387,12 +394,18 @@ unsafe fn audited(pool: &[u8], storage: usize) -> u16 {
     }
     let t = Tables::of(pool);
     let (b, p, s) = (t.buffers, t.pieces, t.slips);
-    let ranges = (1..=128).contains(&b) && (1..=256).contains(&p) && (1..=64).contains(&s);
+    let most = Shape::MOST;
+    let ranges = (1..=most.buffers as usize).contains(&b)
+        && (1..=most.pieces as usize).contains(&p)
+        && (1..=most.slips as usize).contains(&s);
     if !ranges || pool.len() != t.count(b) || storage != SIZE * b {
         return TORN;
     }
-    let mut refs = [0u16; 256];
-    let mut lies = [0u16; 128];
+    // Of the counters only those of the pool's own entries are cleared.
+    let mut refs = [MaybeUninit::<u16>::uninit(); Shape::MOST.pieces as usize];
+    let mut lies = [MaybeUninit::<u16>::uninit(); Shape::MOST.buffers as usize];
+    let refs = cleared(refs.get_unchecked_mut(..p));
+    let lies = cleared(lies.get_unchecked_mut(..b));
     for slip in 0..s {
         let v = get16(pool, t.slip(slip));
         if v > p + 1 {
@@ -430,7 +443,8 @@ unsafe fn audited(pool: &[u8], storage: usize) -> u16 {
             return TORN;
         }
     }
-    let mut colours = [0u16; 256];
+    let mut colours = [MaybeUninit::<u16>::uninit(); Shape::MOST.pieces as usize];
+    let colours = cleared(colours.get_unchecked_mut(..p));
     for d in 0..p {
         let colour = d as u16 + 1;
         let mut link = d + 1;

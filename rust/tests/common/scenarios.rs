@@ -3,8 +3,8 @@
 
 use super::desk::{cut, data, gather, list, read, show, stretches, Desk, Engine, OLD};
 use super::model::{
-    Call, View, BUFFERS, COUNTS, LIST, LONG, MOST, NARROW, NO_VIEW, PIECES, RANGE, SAME, SLIP, SLIPS,
-    TORN,
+    Call, View, BUFFERS, COUNTS, LIST, LONG, MOST, NARROW, NO_VIEW, PIECES, RANGE, SAME, SLIP,
+    SLIPS, TORN,
 };
 use super::morning::{self, MORNING, Z};
 

@@ -169,7 +169,13 @@ pub fn run_lists(beside: Option<Engine>, first_seed: u64, calls: u64, shapes: &[
         // Large pools need long lists to fill.
         let pieces = list.shape.1.min(FILLED) as u64;
         let length = (40 + 4 * pieces).min(calls - tally.calls);
-        run_on(beside, &format!("seed {seed}"), &mut list, length, &mut tally);
+        run_on(
+            beside,
+            &format!("seed {seed}"),
+            &mut list,
+            length,
+            &mut tally,
+        );
         seed += 1;
     }
     tally
