@@ -2,7 +2,7 @@
 //!
 //! `operation_cost WHO CASE TIMES`: WHO is `library` (audit and operation), `audit` (slp_audit alone on the same
 //! pool), `yardstick` (the same operation written by hand, unaudited), `audited` (the audit by hand and then the same)
-//! or `empty` (a call that does nothing). Every call starts from the case's pool, storage, output and list, which are copied back in each run alike. Before that the library
+//! or `empty` (a call that does nothing). Every call starts from the case's pool, storage, output and list, which are copied back in each run alike, storage where the operation writes it. Before that the library
 //! and the yardstick do the case once, and must leave the very same bytes, list and answer. Gather has no pool, so `library` and `audited` audit nothing there.
 //!
 //! Without arguments it lists the cases, one a line: name, operation and what is done.
@@ -120,10 +120,12 @@ impl Lent {
         Lent { n, ..self }
     }
 
-    /// Pool, storage, output and list become those of the case again.
-    fn reset(&mut self, case: &Lent) {
+    /// Pool, output and list become those of the case again, and storage where the operation writes it.
+    fn reset(&mut self, case: &Lent, stores: bool) {
         self.pool.copy_from_slice(&case.pool);
-        self.storage.copy_from_slice(&case.storage);
+        if stores {
+            self.storage.copy_from_slice(&case.storage);
+        }
         self.output.copy_from_slice(&case.output);
         self.list.copy_from_slice(&case.list);
         self.records.copy_from_slice(&case.records);
@@ -567,9 +569,10 @@ fn main() {
         _ => panic!("library, audit, yardstick, audited or empty"),
     };
     compare(case);
+    let stores = ["put", "pullup", "pack"].contains(&case.operation.name);
     let mut lent = case.lent.clone();
     for _ in 0..times {
-        lent.reset(&case.lent);
+        lent.reset(&case.lent, stores);
         black_box(way)(black_box(&mut lent));
     }
 }

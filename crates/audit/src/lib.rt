@@ -47,11 +47,10 @@ fn walk(pool: &[u8], shape: Shape, colours: &mut [u16], d: PieceNumber, follows:
     ensures { λ r. ⌜ Walked (decode (now (pool .entry))) (coloursIn (now (colours .exit))) (d .0) (r .follows) (r .ends) ⌝ }
 {
     let colour = kinds::MOST_COUNT + d.0 + 1;
-    let mut link = d.0 + 1;
+    let mut link = d.0 as usize + 1;
     let mut n = follows;
     while link != 0 {
-        let at = link - 1;
-        let i = at as usize;
+        let i = link - 1;
         let seen = colours[i];
         if seen > kinds::MOST_COUNT {
             return Followed {
@@ -61,7 +60,7 @@ fn walk(pool: &[u8], shape: Shape, colours: &mut [u16], d: PieceNumber, follows:
         }
         colours[i] = colour;
         // Next is followed here alone, and counted.
-        link = tables::piece_next(pool, shape, PieceNumber(at));
+        link = tables::piece_next(pool, shape, PieceNumber(i as u16)) as usize;
         n += 1;
     }
     Followed {

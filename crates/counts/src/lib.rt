@@ -22,7 +22,7 @@ fn count_link(refs: &mut [u16], n: u16)
     if n == 0 {
         return;
     }
-    let d = (n - 1) as usize;
+    let d = n as usize - 1;
     refs[d] = refs[d] + 1;
 }
 

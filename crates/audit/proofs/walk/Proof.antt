@@ -4,6 +4,7 @@ use mathlib.Core.List.{List}
 use Prim.Native.Nat.{ℕ, _-_, _+_, _≤_, _<_}
 use native.Mathlib.Omega.{arith}
 use lib.ListN.{length, set, length-set}
+use borrow.Author.Needs.{needs}
 use Rattle.kinds.specs.Limits.{mostCount}
 use Rattle.rules.specs.Bytes.{decode}
 use Rattle.counts.proofs.Counters.{totals}
@@ -24,6 +25,9 @@ add-colour c = omega (arith, c .before .before .before .pre .0 .few-pieces)
 
 add-colour-2 : tie.Need-add-colour-2 Inv-loop μ-loop
 add-colour-2 c = omega (arith, c .before .before .before .pre .0 .few-pieces)
+
+cast-link : tie.Need-cast-link Inv-loop μ-loop
+cast-link c = omega (arith, c .before .before .before .before .pre .0 .few-pieces)
 
 add-link : tie.Need-add-link Inv-loop μ-loop
 add-link c = omega (arith, c .before .before .before .before .pre .0 .few-pieces)
@@ -60,11 +64,8 @@ there c =
     let v = under-way w in
     (omega (arith, v .in-range, c .loop-test .taken), omega (arith, v .in-range, v .long, colours-long (w .loop .colours), c .loop-test .taken))
 
-sub-at : tie.Need-sub-at Inv-loop μ-loop
-sub-at c = omega arith
-
-cast-i : tie.Need-cast-i Inv-loop μ-loop
-cast-i c = let z = start (c .before) in omega (arith, there c .0, z .pre .0 .few-pieces)
+sub-i : tie.Need-sub-i Inv-loop μ-loop
+sub-i c = omega arith
 
 mul-seen : tie.Need-mul-seen Inv-loop μ-loop
 mul-seen c = let z = start (c .before) in omega (arith, there c .0, z .pre .0 .few-pieces)
@@ -87,6 +88,9 @@ mul-colours c = let y = c .before .before in let z = start (y .before) in omega 
 
 slice-write-colours : tie.Need-slice-write-colours Inv-loop μ-loop
 slice-write-colours c = omega (arith, there (c .before .before) .1)
+
+cast-t19 : tie.Need-cast-t19 Inv-loop μ-loop
+cast-t19 c = let y = c .before .before in let z = start (y .before) in omega (arith, there y .0, z .pre .0 .few-pieces)
 
 piece-next-requires : tie.Need-piece-next-requires Inv-loop μ-loop
 piece-next-requires c κs = let y = c .before .before in (start (y .before) .pre .0 .shaped, there y .0)
@@ -114,6 +118,9 @@ most c =
     let z = start (head c) in
     let k = totals (z .pre .0) in
     omega (arith, walk-most (z .pre .1) (omega arith) (walked c))
+
+cast-link-2 : tie.Need-cast-link-2 Inv-loop μ-loop
+cast-link-2 c = search needs
 
 add-n : tie.Need-add-n Inv-loop μ-loop
 add-n c = let z = start (head c) in omega (arith, most c, z .pre .0 .few-pieces)
@@ -148,17 +155,19 @@ walk-spec =
     μ-loop
     add-colour
     add-colour-2
+    cast-link
     add-link
     loop-holds
-    sub-at
-    cast-i
+    sub-i
     mul-seen
     slice-read-seen
     same-length
     returns
     mul-colours
     slice-write-colours
+    cast-t19
     piece-next-requires
+    cast-link-2
     add-n
     loop-less
     loop-again

@@ -12,9 +12,6 @@ returns c = search needs
 sub-d : tie.Need-sub-d
 sub-d c = search needs
 
-cast-d : tie.Need-cast-d
-cast-d c = search needs
-
 mul-refs : tie.Need-mul-refs
 mul-refs c = search needs
 
@@ -42,7 +39,6 @@ count-link-spec =
     (tie.spec
     returns
     sub-d
-    cast-d
     mul-refs
     slice-read-refs
     add-refs
