@@ -1,7 +1,6 @@
 // Whether a lent pool is sound: an integrity check of its tables, linear in their size.
 use kinds::BufferNumber;
 use kinds::PieceNumber;
-use kinds::SlipNumber;
 use layout::Shape;
 ghost use mathlib.Core.Path.{_≡_};
 ghost use mathlib.Core.Bool.{true};
@@ -17,14 +16,16 @@ ghost use Rattle.audit.specs.Follows.{followsOf, Tested};
 ghost use Rattle.audit.specs.Colours.{fewPieces, fewBuffers, coloursIn, Plain, Scanned, Walked};
 ghost use Rattle.audit.specs.Verdict.{tornAnswer, Verdict};
 
-// One counter for each piece and each buffer that a pool may have.
+// One counter for each piece that a pool may have.
 const PIECES: usize = PieceNumber::MOST as usize;
 
+// One counter for each buffer that a pool may have.
 const BUFFERS: usize = BufferNumber::MOST as usize;
 
-// The same for a small pool, whose audit then zeroes an eighth.
+// The counters for the pieces of a small pool, whose audit then clears an eighth.
 const FEW_PIECES: usize = PIECES / 8;
 
+// The counters for its buffers.
 const FEW_BUFFERS: usize = BUFFERS / 8;
 
 // What following next comes to: whether it ends, and how often it was followed.
