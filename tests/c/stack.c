@@ -85,7 +85,7 @@ static void held(void)
     for (int s = 0; s < S; s++) done(slp_put(LENT, data, 1));
 }
 
-/* The longest chain comes back to itself: torn, which only the audit's last walk finds. */
+/* The longest chain comes back to itself: torn, which only the audit's walks find. */
 static void torn(void)
 {
     longest();

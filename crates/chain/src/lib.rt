@@ -12,7 +12,6 @@ ghost use Rattle.rules.specs.Tables.{piece, headOf, pieceTotal};
 ghost use Rattle.rules.specs.Bytes.{decode};
 ghost use Rattle.rules.specs.Chain.{ownAt, total, firstLength, lengthOf};
 ghost use Rattle.rules.specs.Sound.{linkOk};
-ghost use Rattle.rules.specs.Rule.{unnamed};
 ghost use Rattle.tables.specs.Shape.{Shaped};
 ghost use Rattle.chain.specs.Opened.{Opened};
 ghost use Rattle.chain.specs.Enter.{Enters};

@@ -152,7 +152,7 @@ fn buffers_agree(pool: &[u8], shape: Shape, lies: &[u16]) -> bool
     true
 }
 
-// Whether links and entries are in range and every count is the number of its references, which lent counters then hold.
+// Whether links and entries are in range and every count is the number of its references, which the counters of the pieces then hold.
 pub fn references_ok(pool: &[u8], shape: Shape, refs: &mut [u16], lies: &mut [u16]) -> bool
     requires { ⌜ Limited (now pool) shape × Cleared (shape .pieces) (now refs) × Cleared (shape .buffers) (now lies) ⌝ }
     ensures { λ r. ⌜ ReferencesCounted (decode (now (pool .entry))) r (now (refs .exit)) ⌝ }

@@ -1,4 +1,4 @@
--- A slip's state and the number that stands for it are each other's inverse; which numbers stand for a held slip. Assumes nothing.
+-- The limit on counts as a number; a slip's state and the number that stands for it are each other's inverse; which numbers stand for a held slip. Assumes nothing.
 use Prim.Native.Nat.{ℕ, zero, suc, _-_}
 use mathlib.Core.Path.{_≡_, refl, sym, ap, _∙_}
 use mathlib.Core.Logic.{_≢_}
@@ -8,6 +8,11 @@ use Rattle.kinds.specs.declared.PieceNumber.{PieceNumber}
 use Rattle.kinds.specs.declared.SlipState.{SlipState}
 use Rattle.kinds.specs.declared.SlipState.the-variants.{Vacant, Empty, Heads}
 use Rattle.kinds.specs.SlipState.{stateOf, isHeld, rawOf}
+use Rattle.kinds.specs.Limits.{mostCount}
+
+-- the limit on counts: 2,048 references by pieces and 256 by slips
+pub most-count : mostCount ≡ 2304
+most-count = refl
 
 -- decoding an encoded state gives the state
 pub state-raw : (s : SlipState) → stateOf (rawOf s) ≡ s

@@ -15,7 +15,7 @@ mostPieces = 2048
 abbrev pub mostSlips : ℕ
 mostSlips = 256
 
--- the most references that a count can come to, one for each piece and each slip: the limit on reference counts
+-- no count is higher, one reference for each piece and each slip: the limit on reference counts
 abbrev pub mostCount : ℕ
 mostCount = mostPieces + mostSlips
 

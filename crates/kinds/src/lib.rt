@@ -57,7 +57,7 @@ pub struct Answer {
     pub number: u32,
 }
 
-// The most references that a count can come to, one for each piece and each slip: the limit on reference counts.
+// No count is higher, one reference for each piece and each slip: the limit on reference counts.
 pub const MOST_COUNT: u16 = PieceNumber::MOST + SlipNumber::MOST;
 
 // The lesser of two numbers: a minimum.

@@ -8,7 +8,7 @@ use lib.ListN.{length, replicate, length-replicate, List·getD-eq-default}
 use Rattle.kinds.specs.Limits.{mostPieces, bufferSize}
 use Rattle.kinds.proofs.Sizes.{size-one, start-one}
 use Rattle.rules.specs.Basics.{Is, sumTo, table}
-use Rattle.rules.specs.Tables.{Piece, Tables, blank, piece, bufferCount, pieceTotal, holding}
+use Rattle.rules.specs.Tables.{Piece, Tables, blank, piece, slip, bufferCount, pieceTotal, holding}
 use Rattle.rules.specs.Bytes.{decode, encode}
 use Rattle.rules.specs.Chain.{walk, chain, stretches, total, lengthOf}
 use Rattle.rules.specs.Sound.{Lent, lent, sound, heads, lying}
@@ -43,6 +43,10 @@ most m t =
 -- nor does one after any list of calls
 pub most-after : (cs : List Call) (m : Lent) → Is (sound m) → Most (decode (afterCalls cs m .pool))
 most-after cs m t = most (afterCalls cs m) (calls-sound cs m t)
+
+-- so no count, no slip's entry and no link outgrows 16 bits
+pub most-narrow : {T : Tables} → Most T → (n : ℕ) → (piece T n .count < 65536) × (bufferCount T n < 65536) × (slip T n < 65536) × (piece T n .next < 65536)
+most-narrow k n = (omega (arith, k .piece-counts n), omega (arith, k .buffer-counts n), omega (arith, k .entries n), omega (arith, k .links n))
 
 -- ---- one slip that holds n pieces, each the whole of one buffer
 
@@ -148,3 +152,14 @@ pub longest : (m : Lent) × Longest m
 longest =
     let (m, t, c, l, b) = reached mostPieces (omega arith) (omega arith) in
     (m, record { is-sound = t; chain-pieces = c; chain-bytes = l; buffer-count = b })
+
+-- No sound pool has a longer chain than that one, or a buffer with more references.
+pub longest-of-all : (m n : Lent) → Longest m → Is (sound n) →
+    (let T = decode (m .pool) in
+    let U = decode (n .pool) in
+    ((s : ℕ) → (length (chain U s) ≤ length (chain T 0)) × (lengthOf U s ≤ lengthOf T 0)) × ((b : ℕ) → bufferCount U b ≤ bufferCount T 0))
+longest-of-all m n l t =
+    let k = most n t in (
+      λ s. (omega (arith, k .chain-pieces s, l .chain-pieces), omega (arith, k .chain-bytes s, l .chain-bytes)),
+      λ b. omega (arith, k .buffer-counts b, l .buffer-count),
+    )

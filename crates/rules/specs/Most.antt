@@ -8,12 +8,12 @@ use Rattle.rules.specs.Bytes.{decode}
 use Rattle.rules.specs.Chain.{chain, lengthOf}
 use Rattle.rules.specs.Sound.{Lent, sound}
 
--- no chain is longer, no count higher, and every entry and link fits 16 bits
+-- no chain is longer, and no count, slip's entry or link is higher
 pub record Most (T : Tables) : Type 0 where
   pub chain-pieces : (s : ℕ) → length (chain T s) ≤ 2048
   pub chain-bytes : (s : ℕ) → lengthOf T s ≤ 1048576
   pub piece-counts : (d : ℕ) → piece T d .count ≤ 2304
-  pub buffer-counts : (b : ℕ) → bufferCount T b ≤ 2304
+  pub buffer-counts : (b : ℕ) → bufferCount T b ≤ 2048
   pub entries : (s : ℕ) → slip T s ≤ 2049
   pub links : (d : ℕ) → piece T d .next ≤ 2048
 
