@@ -2,8 +2,10 @@
 //!
 //! `operation_cost WHO CASE TIMES`: WHO is `library` (audit and operation), `audit` (slp_audit alone on the same
 //! pool), `yardstick` (the same operation written by hand, unaudited), `audited` (the audit by hand and then the same)
-//! or `empty` (a call that does nothing). Every call starts from the case's pool, storage, output and list, which are copied back in each run alike, storage where the operation writes it. Before that the library
-//! and the yardstick do the case once, and must leave the very same bytes, list and answer. Gather has no pool, so `library` and `audited` audit nothing there.
+//! or `empty` (a call that does nothing). Every call starts from the case's pool, storage, output and list, which are
+//! copied back in each run alike, storage where the operation writes it. Before that the library and the yardstick do
+//! the case once, and must leave the very same bytes, list and answer. Gather has no pool, so `library` and `audited`
+//! audit nothing there.
 //!
 //! Without arguments it lists the cases, one a line: name, operation and what is done.
 

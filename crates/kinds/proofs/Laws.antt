@@ -1,4 +1,4 @@
--- The limit on counts as a number; a slip's state and the number that stands for it are each other's inverse; which numbers stand for a held slip. Assumes nothing.
+-- The limit on counts; a slip's state and the number that stands for it are each other's inverse; which numbers stand for a held slip. Assumes nothing.
 use Prim.Native.Nat.{ℕ, zero, suc, _-_}
 use mathlib.Core.Path.{_≡_, refl, sym, ap, _∙_}
 use mathlib.Core.Logic.{_≢_}
