@@ -165,6 +165,12 @@ append 1 1
 pool 0 6 4
 pool 4 2049 4
 length 0
+pool 1024 2048 256
+put 524288
+put 1
+length 0
+pool 1025 2048 256
+pool 1024 2048 257
 ";
     let wanted = "\
 pool 4 6 4 -> done
@@ -186,6 +192,12 @@ append 1 1 -> 3 SLIP
 pool 0 6 4 -> 1 COUNTS
 pool 4 2049 4 -> 1 COUNTS
 length 0 -> 10
+pool 1024 2048 256 -> done
+put 524288 -> slip 0
+put 1 -> 10 BUFFERS
+length 0 -> 524288
+pool 1025 2048 256 -> 1 COUNTS
+pool 1024 2048 257 -> 1 COUNTS
 ";
     assert_eq!(answers(calls), wanted);
 }
