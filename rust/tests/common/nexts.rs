@@ -62,12 +62,15 @@ impl Nexts {
     }
 
     /// The pieces met from piece d, and whether following next from it ends.
-    fn from(&self, d: usize) -> (HashSet<usize>, bool) {
-        let (mut met, mut at) = (HashSet::new(), Some(d));
+    fn from(&self, d: usize) -> (Vec<usize>, bool) {
+        let (mut met, mut at) = (Vec::new(), Some(d));
+        let mut seen = vec![false; self.next.len()];
         while let Some(d) = at {
-            if !met.insert(d) {
+            if seen[d] {
                 return (met, false);
             }
+            seen[d] = true;
+            met.push(d);
             at = self.next[d];
         }
         (met, true)
@@ -75,11 +78,12 @@ impl Nexts {
 
     /// Follows next from each piece in turn, up to the first from which that does not end.
     pub fn walked(&self) -> Walked {
-        let (mut ends, mut all, mut forgetful) = (true, HashSet::new(), 0);
+        let (mut ends, mut forgetful) = (true, 0);
+        let mut all = vec![false; self.next.len()];
         for d in 0..self.next.len() {
             let (met, ended) = self.from(d);
             forgetful += met.len();
-            all.extend(met);
+            met.into_iter().for_each(|e| all[e] = true);
             if !ended {
                 ends = false;
                 break;
@@ -87,7 +91,7 @@ impl Nexts {
         }
         Walked {
             ends,
-            met: all.len(),
+            met: all.iter().filter(|met| **met).count(),
             forgetful,
         }
     }

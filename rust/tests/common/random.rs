@@ -92,8 +92,8 @@ pub const LARGE: &[Shape] = &[
 /// A shape: mostly small, now and then a large one, where lists are longer and each call dearer.
 pub fn shape(random: &mut Random) -> Shape {
     match random.below(1_000) {
-        0..=1 => random.pick(LARGE),
-        2..=4 => random.pick(&SHAPES[11..]),
+        0 => random.pick(LARGE),
+        1..=4 => random.pick(&SHAPES[11..]),
         5..=399 => random.pick(&SHAPES[..11]),
         400..=449 => (
             random.between(1, 40) as u16,
