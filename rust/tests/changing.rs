@@ -25,13 +25,7 @@ fn random_lists() {
     let seed = setting("FULCRUMNEST_SEED", 1_000_000);
     let begun = Instant::now();
     let tally = run_lists(Some(library::step), seed, calls, SHAPES);
-    println!(
-        "{} calls in {} lists, {:.1} s, by code {:?}",
-        tally.calls,
-        tally.lists,
-        begun.elapsed().as_secs_f64(),
-        tally.codes
-    );
+    tally.print(begun);
     assert_eq!(tally.calls, calls);
     if calls >= 100_000 {
         for (code, times) in tally.codes.iter().enumerate() {
@@ -53,13 +47,7 @@ fn largest_pools() {
             run_on(Some(library::step), what, &mut list, calls, &mut tally);
         }
     }
-    println!(
-        "{} calls in {} lists, {:.1} s, by code {:?}",
-        tally.calls,
-        tally.lists,
-        begun.elapsed().as_secs_f64(),
-        tally.codes
-    );
+    tally.print(begun);
     let full = &tally.codes[8..];
     assert!(full.iter().all(|times| *times > 0), "{:?}", tally.codes);
 }

@@ -21,13 +21,7 @@ fn recount_after_every_call() {
     let seed = setting("FULCRUMNEST_SEED", 1);
     let begun = Instant::now();
     let tally = run_lists(None, seed, calls, SHAPES);
-    println!(
-        "{} calls in {} lists, {:.1} s, by code {:?}",
-        tally.calls,
-        tally.lists,
-        begun.elapsed().as_secs_f64(),
-        tally.codes
-    );
+    tally.print(begun);
     assert_eq!(tally.calls, calls);
     for (code, times) in tally.codes.iter().enumerate() {
         // A list that starts from a done open never meets a torn pool.

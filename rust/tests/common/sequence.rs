@@ -1,5 +1,7 @@
 //! Long random lists of calls on the model, and on another engine beside it.
 
+use std::time::Instant;
+
 use super::compare;
 use super::desk::{cut, Engine};
 use super::model::{Call, Outcome, TORN, TRUE};
@@ -114,6 +116,19 @@ pub struct Tally {
     pub calls: u64,
     pub lists: u64,
     pub codes: [u64; 11],
+}
+
+impl Tally {
+    /// What was made since then, in one line.
+    pub fn print(&self, begun: Instant) {
+        println!(
+            "{} calls in {} lists, {:.1} s, by code {:?}",
+            self.calls,
+            self.lists,
+            begun.elapsed().as_secs_f64(),
+            self.codes
+        );
+    }
 }
 
 /// What demand 3 says of one call, from the recount before it; answers the recount after it.
