@@ -1,25 +1,32 @@
 -- The most that a sound pool comes to, and a pool that reaches the longest chain. Assumes nothing.
 use mathlib.Core.Path.{_≡_, refl, sym, ap, subst, _∙_}
 use mathlib.Core.List.{List, [], _∷_}
-use Prim.Native.Nat.{ℕ, zero, suc, _+_, _*_, _≤_, _<_}
+use mathlib.Core.Logic.{_⊎_, inl, inr, ⊎-elim}
+use Prim.Native.Nat.{ℕ, zero, suc, pred, _+_, _*_, _≤_, _<_}
 use native.Mathlib.Decide.{ℕ-discrete, decLt}
 use native.Mathlib.Omega.{arith}
 use lib.ListN.{length, replicate, length-replicate, List·getD-eq-default}
+use lib.Dec.{eqb→eq}
+use Rattle.kinds.specs.declared.Refusal.{Refusal}
+use Rattle.kinds.specs.declared.Refusal.the-variants.{Counts, Torn, Slip, Same, Long, Range, Narrow, Slips, Pieces, Buffers, WireList}
 use Rattle.kinds.specs.Limits.{mostPieces, bufferSize}
 use Rattle.kinds.proofs.Sizes.{size-one, start-one}
 use Rattle.rules.specs.Basics.{Is, sumTo, table}
-use Rattle.rules.specs.Tables.{Piece, Tables, blank, piece, slip, bufferCount, pieceTotal, holding}
+use Rattle.rules.specs.Tables.{Piece, Tables, blank, piece, slip, bufferCount, pieceTotal, slipTotal, holding}
 use Rattle.rules.specs.Bytes.{decode, encode}
-use Rattle.rules.specs.Chain.{walk, chain, stretches, total, lengthOf}
+use Rattle.rules.specs.Chain.{State, walk, chain, stretches, total, lengthOf}
 use Rattle.rules.specs.Sound.{Lent, lent, sound, heads, lying}
-use Rattle.rules.specs.Step.{Call, afterCalls}
+use Rattle.rules.specs.Length.{lengthCall}
+use Rattle.rules.specs.Step.{Call, Do, Length, Result, rule, done, step, stateIn, afterCalls}
+use Rattle.rules.specs.Causes.{Cause}
 use Rattle.rules.specs.Most.{Most, Longest}
 use Rattle.rules.proofs.Sums.{sumTo-same, sumTo-one, sumTo-zero}
 use Rattle.rules.proofs.Moves.{hit, lies, links, Fits, SoundNow, hit-same, hit-other, lies-other}
-use Rattle.rules.proofs.Audit.{sound-now}
+use Rattle.rules.proofs.Audit.{sound-is, sound-now}
 use Rattle.rules.proofs.Bounds.{small, chain-short, chain-bytes}
 use Rattle.rules.proofs.Bytes.{length-table, getD-table, decode-encode}
-use Rattle.rules.proofs.Step.{Within, within-sized, encode-sound, sound-within}
+use Rattle.rules.proofs.Step.{Within, within-sized, encode-sound, sound-within, did}
+use Rattle.rules.proofs.Causes.{exactly}
 use Rattle.rules.proofs.Demand.{calls-sound}
 
 -- ---- the bounds
@@ -163,3 +170,40 @@ longest-of-all m n l t =
       λ s. (omega (arith, k .chain-pieces s, l .chain-pieces), omega (arith, k .chain-bytes s, l .chain-bytes)),
       λ b. omega (arith, k .buffer-counts b, l .buffer-count),
     )
+
+-- a slip whose chain has a piece is held
+heads-some : (T : Tables) (s : ℕ) → 0 < length (chain T s) → 0 < slip T s
+unfolding walk
+heads-some T s l = elim (ℕ-discrete (slip T s) 0) [ yes z ↦ absurd (omega (arith, none z)) | no z ↦ omega arith ]
+  where
+    none-met : (k : ℕ) → length (walk k T 0) ≡ 0
+    none-met zero = refl
+    none-met (suc k) = refl
+
+    none : slip T s ≡ 0 → length (chain T s) ≡ 0
+    none z = ap (λ v. length (walk (pieceTotal T) T (pred v))) z ∙ none-met (pieceTotal T)
+
+-- length of a held slip 0 is refused for no cause but a torn pool
+length-uncaused : (S : State) → 0 < slip (S .tables) 0 → 0 < slipTotal (S .tables) → (r : Refusal) → Cause r (lengthCall 0) S → ⊥
+length-uncaused S some few Counts c = c
+length-uncaused S some few Torn c = c
+length-uncaused S some few Slip (t, e, inl n) = omega arith
+length-uncaused S some few Slip (t, e, inr v) = omega (arith, eqb→eq (slip (S .tables) t) 0 v, ap (slip (S .tables)) e)
+length-uncaused S some few Same (inl c) = c
+length-uncaused S some few Long c = omega arith
+length-uncaused S some few Range c = omega arith
+length-uncaused S some few Narrow c = omega arith
+length-uncaused S some few Slips c = omega arith
+length-uncaused S some few Pieces c = omega arith
+length-uncaused S some few Buffers c = omega arith
+length-uncaused S some few WireList c = c
+
+-- Asked for its length, slip 0 of that pool is answered 1,048,576.
+pub longest-answers : (m : Lent) → Longest m → (step (Do (Length 0)) m .code ≡ 0) × (step (Do (Length 0)) m .number ≡ 1048576)
+unfolding done rule
+longest-answers m l =
+    let T = decode (m .pool) in
+    let some = heads-some T 0 (omega (arith, l .chain-pieces)) in
+    let few = sound-within m (l .is-sound) .counts in
+    let e = exactly (Do (Length 0)) m .done .1 (λ r c. ⊎-elim (λ (y : _). y .1 (sound-is m .0 (l .is-sound))) (length-uncaused (stateIn m) some (omega arith) r) c) in
+    (e, ap (λ (x : Result). x .number) (did (Length 0) m e .result) ∙ l .chain-bytes)
