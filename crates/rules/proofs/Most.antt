@@ -205,5 +205,6 @@ longest-answers m l =
     let T = decode (m .pool) in
     let some = heads-some T 0 (omega (arith, l .chain-pieces)) in
     let few = sound-within m (l .is-sound) .counts in
-    let e = exactly (Do (Length 0)) m .done .1 (λ r c. ⊎-elim (λ (y : _). y .1 (sound-is m .0 (l .is-sound))) (length-uncaused (stateIn m) some (omega arith) r) c) in
+    let good = sound-is m .0 (l .is-sound) in
+    let e = exactly (Do (Length 0)) m .done .1 (λ r c. ⊎-elim (λ (y : _). y .1 good) (length-uncaused (stateIn m) some (omega arith) r) c) in
     (e, ap (λ (x : Result). x .number) (did (Length 0) m e .result) ∙ l .chain-bytes)
