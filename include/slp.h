@@ -10,7 +10,11 @@
  *
  * Answers. Every call answers a code and a number. Code 0 is done. Any other code is a no: the number is 0, and pool, storage and
  * everything else that was lent are unchanged. Ask the code first, since 0 is also the number of a slip. Where several codes apply, the
- * lowest is given. Room is counted when the call begins; what it gives back is room for the next one.
+ * lowest is given.
+ *
+ * Room is counted when the call begins; what it gives back is room for the next one. But slp_drop and slp_pullup first give back the own pieces in
+ * front of what stays, those that no other chain reaches: their numbers are then free for the call, their buffers are not. So slp_drop is never
+ * refused for want of pieces where the slip's first piece is own.
  *
  * Wire lists. A record is a stretch of storage: where it begins and how many bytes it has. slp_list and slp_stretches write one for each piece
  * of a chain, for a card that reads storage itself; slp_gather copies the bytes out as such a card does. The bytes that a record names stay as

@@ -134,7 +134,7 @@ impl Lent {
     }
 }
 
-/// How many of the last slips, pieces and buffers a case leaves free: exactly what its call takes.
+/// How many of the last slips, pieces and buffers a case leaves free: exactly those of them that its call takes.
 #[derive(Clone, Copy)]
 struct Room {
     slips: usize,
@@ -246,8 +246,21 @@ fn own(pieces: usize, length: usize, room: Room) -> Lent {
 
 /// A full pool whose slip 0 has a chain of so many pieces, while slip 1 heads its piece `from`.
 fn shared(pieces: usize, from: usize, room: Room) -> Lent {
-    let built = Builder::new(room).chain(pieces, PIECE);
+    shared_by(pieces, PIECE, from, room)
+}
+
+/// The same with so many bytes in each piece.
+fn shared_by(pieces: usize, length: usize, from: usize, room: Room) -> Lent {
+    let built = Builder::new(room).chain(pieces, length);
     built.slip(from + 2).full()
+}
+
+/// The same with the chain under slip 1 and `from` headed by slip 2, behind the pieces of slip 0, which are all others.
+fn shared_last(count: usize, length: usize, from: usize, room: Room) -> Lent {
+    let before = pieces() - room.pieces - count;
+    let built = Builder::new(room).chain(before, PIECE).chain(count, length);
+    let lent = built.slip(before + from + 2).full();
+    Lent { slip: 1, ..lent }
 }
 
 /// One way to do something with what is lent.
@@ -309,6 +322,7 @@ const GATHER: Operation = Operation {
 type States = Vec<(&'static str, Lent)>;
 
 const NONE: Room = room(0, 0, 0);
+const BUFFER: Room = room(0, 0, 1);
 
 fn puts() -> States {
     let put = |n: usize| {
@@ -369,6 +383,7 @@ fn appends() -> States {
 
 fn drops() -> States {
     let own = |pieces, n| own(pieces, PIECE, NONE).n(n);
+    let front = |pieces, from, n| shared(pieces, from, NONE).n(n);
     let shared = |pieces, n| shared(pieces, 0, room(0, 1, 0)).n(n);
     vec![
         ("512 bytes of 4 pieces, at a border", own(4, 512)),
@@ -377,6 +392,18 @@ fn drops() -> States {
         (
             "25,500 bytes of 100 pieces, inside the last",
             own(100, 25_500),
+        ),
+        (
+            "600 bytes of 4 pieces, shared from the third on: 1 new piece",
+            front(4, 2, 600),
+        ),
+        (
+            "600 bytes of 4 pieces, shared from the third on, the last of the table: 1 new piece",
+            shared_last(4, PIECE, 2, NONE).n(600),
+        ),
+        (
+            "25,500 bytes of 100 pieces, shared from the last on: 1 new piece",
+            front(100, 99, 25_500),
         ),
     ]
 }
@@ -405,7 +432,7 @@ fn pullups() -> States {
     vec![
         (
             "500 bytes of 4 pieces: 1 new piece",
-            own(4, PIECE, room(0, 1, 1)).n(500),
+            own(4, PIECE, BUFFER).n(500),
         ),
         (
             "500 bytes of 4 pieces, shared: 2 new pieces",
@@ -413,7 +440,27 @@ fn pullups() -> States {
         ),
         (
             "498 bytes of 100 pieces of 5: 1 new piece",
-            own(100, 5, room(0, 1, 1)).n(498),
+            own(100, 5, BUFFER).n(498),
+        ),
+        (
+            "512 bytes of 4 pieces, shared from the third on: 1 new piece",
+            shared(4, 2, BUFFER).n(512),
+        ),
+        (
+            "512 bytes of 4 pieces, shared from the third on, the last of the table: 1 new piece",
+            shared_last(4, PIECE, 2, BUFFER).n(512),
+        ),
+        (
+            "500 bytes of 4 pieces, shared from the second on: 2 new pieces",
+            shared(4, 1, room(0, 1, 1)).n(500),
+        ),
+        (
+            "498 bytes of 100 pieces of 50, shared from the tenth on: 2 new pieces",
+            shared_by(100, 50, 9, BUFFER).n(498),
+        ),
+        (
+            "498 bytes of 100 pieces of 5, shared from the last on, the last of the table: 2 new pieces",
+            shared_last(100, 5, 99, BUFFER).n(498),
         ),
     ]
 }

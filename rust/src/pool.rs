@@ -30,7 +30,9 @@ impl fmt::Display for Slip {
 /// with [`Refusal::Torn`].
 ///
 /// A refused call changes nothing. Room is counted when a call begins: what it gives back is room
-/// for the next one.
+/// for the next one. But [`drop`](Pool::drop) and [`pullup`](Pool::pullup) first give back the own
+/// pieces in front of what stays, those that no other chain reaches: their numbers are then free for
+/// the call, their buffers are not.
 ///
 /// ```
 /// use fulcrumnest::{Pool, Shape};
@@ -244,7 +246,7 @@ impl<'a> Pool<'a> {
     /// before.
     ///
     /// Refused with [`Slip`](Refusal::Slip), [`Range`](Refusal::Range) or
-    /// [`Pieces`](Refusal::Pieces).
+    /// [`Pieces`](Refusal::Pieces), this never where the first piece is own.
     ///
     /// ```
     /// # use fulcrumnest::{Pool, Refusal, Shape};

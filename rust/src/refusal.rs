@@ -83,7 +83,8 @@ codes! {
         /// A new slip is wanted and none is vacant.
         Slips = 8, "SLIPS",
             "a new slip is wanted and none is vacant";
-        /// More new pieces are wanted than free.
+        /// More new pieces are wanted than free; to drop and pullup those are free too that they
+        /// give back first.
         Pieces = 9, "PIECES",
             "more new pieces wanted than free";
         /// More new buffers are wanted than free.

@@ -252,12 +252,32 @@ fn drop_bytes() {
         let (slip, other) = shared(&mut pool);
         assert_eq!(pool.drop(Slip(2), 0), Err(Refusal::Slip));
         assert_eq!(pool.drop(slip, 601), Err(Refusal::Range));
-        assert_eq!(pool.drop(slip, 520), Err(Refusal::Pieces));
         assert_eq!(pool.drop(slip, 512), Ok(()));
         assert_eq!(bytes(&pool, slip), data(600)[512..]);
         assert_eq!(bytes(&pool, other), data(600));
         assert_eq!(pool.drop(slip, 88), Ok(()));
         assert_eq!(pool.length(slip), Ok(0));
+    });
+}
+
+#[test]
+fn drop_wants_pieces() {
+    with(4, 3, 3, |mut pool| {
+        let (slip, other) = shared(&mut pool);
+        // No piece is free, and the own one in front is given back.
+        assert_eq!(pool.drop(slip, 520), Ok(()));
+        assert_eq!(bytes(&pool, slip), data(600)[520..]);
+        assert_eq!(bytes(&pool, other), data(600));
+    });
+    with(4, 3, 3, |mut pool| {
+        let (slip, other) = shared(&mut pool);
+        pool.drop(slip, 512).unwrap();
+        let third = pool.dup(other).unwrap();
+        // The slip heads the shared piece, in front of which nothing is.
+        assert_eq!(pool.drop(slip, 8), Err(Refusal::Pieces));
+        pool.free(third).unwrap();
+        assert_eq!(pool.drop(slip, 8), Ok(()));
+        assert_eq!(bytes(&pool, slip), data(600)[520..]);
     });
 }
 
@@ -297,7 +317,17 @@ fn pullup() {
     with(3, 2, 2, |mut pool| {
         let (slip, rest) = (pool.put(b"a").unwrap(), pool.put(b"b").unwrap());
         pool.append(slip, rest).unwrap();
-        assert_eq!(pool.pullup(slip, 2), Err(Refusal::Pieces));
+        assert_eq!(pool.pullup(slip, 2), Ok(()));
+        assert_eq!(pool.show(slip, 2, &mut []).unwrap(), b"ab");
+    });
+    with(3, 3, 2, |mut pool| {
+        let (slip, rest) = (pool.put(b"ab").unwrap(), pool.put(b"cd").unwrap());
+        pool.append(slip, rest).unwrap();
+        let other = pool.dup(slip).unwrap();
+        // Two are wanted, and one is given back.
+        assert_eq!(pool.pullup(slip, 3), Err(Refusal::Pieces));
+        assert_eq!(pool.pullup(slip, 4), Ok(()));
+        assert_eq!(bytes(&pool, other), b"abcd");
     });
     with(2, 4, 2, |mut pool| {
         let (slip, rest) = (pool.put(b"a").unwrap(), pool.put(b"b").unwrap());

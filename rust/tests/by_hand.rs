@@ -4,9 +4,11 @@
 mod by_hand;
 mod common;
 
+use std::time::Instant;
+
 use common::model::{Call, Outcome, View, NO_VIEW, TRUE};
-use common::random::SHAPES;
-use common::sequence::{run_lists, setting};
+use common::random::{Mood, SHAPES};
+use common::sequence::{largest, run_lists, run_on, setting, Tally, KINDS};
 use common::wire;
 use fulcrumnest::{Answer, Shown, Stretch};
 
@@ -110,19 +112,37 @@ fn shown(shown: Shown, view: &mut View) -> Answer {
     }
 }
 
+paper_cases! { step; morning; full_table_done, full_table_refused, }
+paper_cases! { step; scenarios;
+    reading_31_front_given_back, reading_32_room_in_front, reading_33_copied_first, full_table_of_the_largest,
+}
+
 /// Random lists over all shapes: code, number and every byte after every call.
 #[test]
 fn random_lists() {
     let calls = setting("FULCRUMNEST_MODEL_CALLS", 300_000);
     let seed = setting("FULCRUMNEST_SEED", 2_000_000);
+    let begun = Instant::now();
     let tally = run_lists(Some(step), seed, calls, SHAPES);
+    tally.print(begun);
     assert_eq!(tally.calls, calls);
     if calls >= 100_000 {
-        for (code, times) in tally.codes.iter().enumerate() {
-            // A list that starts from a done open never meets a torn pool.
-            assert_eq!(*times == 0, code == 2, "code {code} came {times} times");
+        tally.all_met();
+    }
+}
+
+/// The same on the largest pools.
+#[test]
+fn largest_pools() {
+    let mut tally = Tally::default();
+    for (what, mut list) in largest() {
+        for _ in 0..3 {
+            list.mood = Mood::new(&mut list.random, list.shape);
+            run_on(Some(step), what, &mut list, 500, &mut tally);
         }
     }
+    let met = tally.kinds.iter().filter(|times| **times > 0).count();
+    assert!(met > KINDS.len() / 2, "{:?}", tally.kinds);
 }
 
 /// Gathers from any storage: code, number and every byte.

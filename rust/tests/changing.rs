@@ -13,7 +13,7 @@ use common::library;
 use common::model::{Call, TORN, TRUE};
 use common::random::{Mood, Random, SHAPES};
 use common::recount::recount;
-use common::sequence::{largest, run_lists, run_on, setting, List, Tally};
+use common::sequence::{largest, run_lists, run_on, setting, List, Tally, KINDS};
 use fulcrumnest::ffi;
 
 paper_cases!(library::step);
@@ -28,14 +28,11 @@ fn random_lists() {
     tally.print(begun);
     assert_eq!(tally.calls, calls);
     if calls >= 100_000 {
-        for (code, times) in tally.codes.iter().enumerate() {
-            // A list that starts from a done open never meets a torn pool.
-            assert_eq!(*times == 0, code == 2, "code {code} came {times} times");
-        }
+        tally.all_met();
     }
 }
 
-/// Random lists on the largest pools, sparse, full and scattered, each with another mood: compared as the others are.
+/// Random lists on the largest pools, sparse, full, scattered and shared, each with another mood: compared as the others are.
 #[test]
 fn largest_pools() {
     let calls = 1_000 * setting("FULCRUMNEST_TIMES", 1).max(1);
@@ -50,6 +47,8 @@ fn largest_pools() {
     tally.print(begun);
     let full = &tally.codes[8..];
     assert!(full.iter().all(|times| *times > 0), "{:?}", tally.codes);
+    let met = tally.kinds.iter().filter(|times| **times > 0).count();
+    assert!(met > KINDS.len() / 2, "{:?}", tally.kinds);
 }
 
 /// On a damaged pool every changing call does as the model does: code 2 and nothing changed where

@@ -280,7 +280,7 @@ fn lengths_and_counts() {
     assert!(pair.sound > 100 && pair.torn > 1_000);
 }
 
-/// The largest pools, sparse, full and scattered: every kind of look at some of the slips, and damage at the borders.
+/// The largest pools, sparse, full, scattered and shared: every kind of look at some of the slips, and damage at the borders.
 #[test]
 fn largest_pools() {
     let mut pair = Pair::new();

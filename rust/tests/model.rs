@@ -5,8 +5,9 @@ mod common;
 
 use std::time::Instant;
 
-use common::desk::by_model;
+use common::desk::{by_model, Desk};
 use common::model::{Call, Tables, TRUE};
+use common::morning::{Full, FULL};
 use common::random::{self, SHAPES};
 use common::recount::recount;
 use common::sequence::{demand_three, pools, run_lists, setting, List};
@@ -14,7 +15,7 @@ use common::wire;
 
 paper_cases!(by_model);
 
-/// Demand 3 after every call of random lists over all shapes, with every code met on the way.
+/// Demand 3 after every call of random lists over all shapes, with every code and every kind of full table met on the way.
 #[test]
 fn recount_after_every_call() {
     let calls = setting("FULCRUMNEST_MODEL_CALLS", 300_000);
@@ -23,10 +24,7 @@ fn recount_after_every_call() {
     let tally = run_lists(None, seed, calls, SHAPES);
     tally.print(begun);
     assert_eq!(tally.calls, calls);
-    for (code, times) in tally.codes.iter().enumerate() {
-        // A list that starts from a done open never meets a torn pool.
-        assert_eq!(*times == 0, code == 2, "code {code} came {times} times");
-    }
+    tally.all_met();
 }
 
 /// The empty list: a pool just opened passes the recount, with all its room.
@@ -97,6 +95,26 @@ fn full_exactly_when() {
     for code in [0, 2, 8, 10] {
         refused.code = code;
         assert!(demand_three(&before, &put(513), &refused).is_err());
+    }
+}
+
+/// Full is judged by what drop and pullup give back: of the full tables each other answer is denied.
+#[test]
+fn full_by_what_is_given_back() {
+    for Full { before, code, row } in FULL {
+        let mut desk = Desk::open(by_model, 4, 6, 4);
+        for (call, number) in *before {
+            desk.done(call(), *number);
+        }
+        let found = recount(&desk.pool).expect("the model's own pool");
+        let call = (row.call)();
+        let mut after = desk.call(call.clone());
+        assert_eq!(after.code, *code);
+        assert!(demand_three(&found, &call, &after).is_ok());
+        for wrong in [0, 9, 10].into_iter().filter(|wrong| wrong != code) {
+            after.code = wrong;
+            assert!(demand_three(&found, &call, &after).is_err());
+        }
     }
 }
 

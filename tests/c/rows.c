@@ -1,7 +1,7 @@
 /*
- * The calls from C, beside document 01: the ten marked rows of its morning with answers and every byte, its edges, the refusals, the two views
- * of show, the wire lists and their reader, and the macros of slp.h. What is lent stands in memory of exactly its length, so that a checker of
- * memory sees one byte too far.
+ * The calls from C, beside document 01: the ten marked rows of its morning with answers and every byte, its edges, full tables of pieces, the
+ * refusals, the two views of show, the wire lists and their reader, and the macros of slp.h. What is lent stands in memory of exactly its
+ * length, so that a checker of memory sees one byte too far.
  * C11 and C++17 alike. Exit status 0 only where every check holds.
  */
 #include <slp.h>
@@ -485,6 +485,102 @@ static void edges_of_others(void)
     give_back(b);
 }
 
+enum operation { PUT, CUT, DUP, APPEND, DROP, PULLUP };
+
+/* A call with its arguments, and the number that it answers. */
+typedef struct {
+    enum operation operation;
+    uint16_t slip;
+    uint32_t first, second, number;
+} asked;
+
+static slp_answer ask(box b, asked c)
+{
+    switch (c.operation) {
+    case PUT: return put(b, c.first);
+    case CUT: return slp_cut(LENT(b), c.slip, c.first, c.second);
+    case DUP: return slp_dup(LENT(b), c.slip);
+    case APPEND: return slp_append(LENT(b), c.slip, (uint16_t)c.first);
+    case DROP: return slp_drop(LENT(b), c.slip, c.first);
+    default: return slp_pullup(LENT(b), c.slip, c.first);
+    }
+}
+
+/* Drop and pullup where every piece is in use, and once where one is free: the calls, the last one's code, the buffer that it fills, if any (else
+ * -1), and the entries after it, done or refused. */
+static const struct {
+    const char *what;
+    unsigned calls;
+    asked call[9];
+    unsigned code;
+    int buffer;
+    entries after;
+} full_table[8] = {
+    {"pullup: the old head's number comes back to the front", 4,
+        {{PUT, 0, 600, 0, 0}, {CUT, 0, 500, 50, 1}, {CUT, 0, 500, 50, 2}, {PULLUP, 1, 20, 0, 0}}, SLP_DONE, 2,
+        {{2, 4, 6, 0},
+            {{1, 0, 0, 512, 2}, {1, 1, 0, 88, 0}, {1, 2, 0, 20, 4}, {1, 1, 8, 30, 0}, {1, 0, 500, 12, 6}, {1, 1, 0, 38, 0}}, {2, 3, 1, 0}}},
+    {"pullup: a shared head gives nothing back", 8,
+        {{PUT, 0, 600, 0, 0}, {PUT, 0, 10, 0, 1}, {APPEND, 0, 1, 0, 0}, {DUP, 0, 0, 0, 1}, {DROP, 1, 512, 0, 0}, {CUT, 0, 0, 600, 2},
+            {DUP, 1, 0, 0, 3}, {PULLUP, 1, 98, 0, 0}}, SLP_PIECES, -1,
+        {{2, 3, 5, 7},
+            {{1, 0, 0, 512, 2}, {2, 1, 0, 88, 3}, {2, 2, 0, 10, 0}, {1, 0, 0, 512, 5}, {1, 1, 0, 88, 0}, {1, 1, 0, 88, 3}}, {2, 3, 1, 0}}},
+    {"drop inside a shared piece, behind an own one", 5,
+        {{PUT, 0, 600, 0, 0}, {DUP, 0, 0, 0, 1}, {CUT, 0, 0, 600, 2}, {DUP, 2, 0, 0, 3}, {DROP, 0, 520, 0, 0}}, SLP_DONE, -1,
+        {{2, 4, 5, 7},
+            {{1, 1, 8, 80, 0}, {1, 1, 0, 88, 0}, {1, 0, 0, 512, 2}, {1, 0, 0, 512, 5}, {2, 1, 0, 88, 0}, {1, 0, 0, 512, 5}}, {3, 3, 0, 0}}},
+    {"drop inside a shared head", 6,
+        {{PUT, 0, 600, 0, 0}, {DUP, 0, 0, 0, 1}, {DROP, 1, 512, 0, 0}, {CUT, 0, 0, 600, 2}, {CUT, 0, 0, 600, 3}, {DROP, 1, 8, 0, 0}}, SLP_PIECES, -1,
+        {{2, 3, 4, 6},
+            {{1, 0, 0, 512, 2}, {2, 1, 0, 88, 0}, {1, 0, 0, 512, 4}, {1, 1, 0, 88, 0}, {1, 0, 0, 512, 6}, {1, 1, 0, 88, 0}}, {3, 3, 0, 0}}},
+    {"pullup: two wanted and one given back", 5,
+        {{PUT, 0, 600, 0, 0}, {CUT, 0, 500, 50, 1}, {DUP, 1, 0, 0, 2}, {DUP, 0, 0, 0, 3}, {PULLUP, 1, 20, 0, 0}}, SLP_PIECES, -1,
+        {{2, 4, 6, 7},
+            {{1, 0, 0, 512, 2}, {2, 1, 0, 88, 0}, {1, 0, 500, 12, 4}, {2, 1, 0, 38, 0}, {1, 0, 500, 12, 4}, {1, 0, 0, 512, 2}}, {4, 2, 0, 0}}},
+    {"pullup: the same with piece 5 free", 4,
+        {{PUT, 0, 600, 0, 0}, {CUT, 0, 500, 50, 1}, {DUP, 1, 0, 0, 2}, {PULLUP, 1, 20, 0, 0}}, SLP_DONE, 2,
+        {{2, 4, 6, 0},
+            {{1, 0, 0, 512, 2}, {1, 1, 0, 88, 0}, {1, 2, 0, 20, 6}, {1, 1, 0, 38, 0}, {1, 0, 500, 12, 4}, {1, 1, 8, 30, 0}}, {2, 3, 1, 0}}},
+    {"pullup: two wanted and two given back", 9,
+        {{PUT, 0, 10, 0, 0}, {PUT, 0, 10, 0, 1}, {PUT, 0, 10, 0, 2}, {APPEND, 1, 2, 0, 0}, {APPEND, 0, 1, 0, 0}, {DUP, 0, 0, 0, 1},
+            {DROP, 1, 20, 0, 0}, {CUT, 0, 0, 30, 2}, {PULLUP, 0, 25, 0, 0}}, SLP_DONE, 3,
+        {{2, 4, 5, 0},
+            {{1, 3, 0, 25, 2}, {1, 2, 5, 5, 0}, {1, 2, 0, 10, 0}, {1, 0, 0, 10, 5}, {1, 1, 0, 10, 6}, {1, 2, 0, 10, 0}}, {1, 1, 3, 1}}},
+    {"pullup: the buffer given back is no room", 6,
+        {{PUT, 0, 10, 0, 0}, {PUT, 0, 10, 0, 1}, {APPEND, 0, 1, 0, 0}, {PUT, 0, 1024, 0, 1}, {CUT, 1, 0, 1024, 2}, {PULLUP, 0, 15, 0, 0}},
+        SLP_BUFFERS, -1,
+        {{2, 4, 6, 0},
+            {{1, 0, 0, 10, 2}, {1, 1, 0, 10, 0}, {1, 2, 0, 512, 4}, {1, 3, 0, 512, 0}, {1, 2, 0, 512, 6}, {1, 3, 0, 512, 0}}, {1, 1, 2, 2}}},
+};
+
+/* The full tables: every byte of pool and storage after each last call. */
+static void full_tables(void)
+{
+    for (int i = 0; i < 8; i++) {
+        const char *what = full_table[i].what;
+        const asked *call = full_table[i].call;
+        unsigned last = full_table[i].calls - 1;
+        uint8_t pool[87];
+        box b = fresh(4, 6, 4);
+        for (unsigned k = 0; k < last; k++) check_done(ask(b, call[k]), call[k].number, __LINE__, what);
+        box before = copy_of(b);
+        if (full_table[i].buffer >= 0) {
+            uint8_t *filled = before.storage + 512 * full_table[i].buffer;
+            memset(filled, 0, 512);
+            check_done(slp_read(LENT(b), call[last].slip, 0, call[last].first, filled, 512), call[last].first, __LINE__, what);
+        }
+        slp_answer a = ask(b, call[last]);
+        check(a.code == full_table[i].code && a.number == 0, __LINE__, what);
+        write_pool(pool, &full_table[i].after);
+        check(memcmp(b.pool, pool, 87) == 0, __LINE__, what);
+        check(memcmp(b.storage, before.storage, 2048) == 0, __LINE__, what);
+        check(a.code == SLP_DONE || memcmp(b.pool, before.pool, 87) == 0, __LINE__, what);
+        check(slp_audit(LENT(b)).code == SLP_DONE, __LINE__, what);
+        give_back(before);
+        give_back(b);
+    }
+}
+
 /* Every call that names a slip, with one that is vacant or no slip of the pool. */
 static void refusals_of_slips(void)
 {
@@ -551,8 +647,10 @@ static void refusals_of_room(void)
     REFUSES(SLP_SLIPS, b, slp_cut(LENT(b), 0, 0, 2048));
     give_back(b);
 
-    b = fresh(4, 6, 4);
+    b = fresh(4, 6, 5);
     put(b, 2048);
+    slp_dup(LENT(b), 0);
+    ANSWERS(0, slp_drop(LENT(b), 1, 512));
     slp_dup(LENT(b), 0);
     slp_dup(LENT(b), 0);
     ANSWERS(0, slp_drop(LENT(b), 0, 1));
@@ -560,7 +658,7 @@ static void refusals_of_room(void)
     REFUSES(SLP_PIECES, b, slp_dup(LENT(b), 0));
     REFUSES(SLP_PIECES, b, slp_cut(LENT(b), 0, 0, 1));
     REFUSES(SLP_PIECES, b, slp_append(LENT(b), 0, 1));
-    REFUSES(SLP_PIECES, b, slp_drop(LENT(b), 0, 520));
+    REFUSES(SLP_PIECES, b, slp_drop(LENT(b), 1, 8));
     REFUSES(SLP_PIECES, b, slp_keep(LENT(b), 0, 520));
     REFUSES(SLP_PIECES, b, slp_pullup(LENT(b), 0, 512));
     REFUSES(SLP_PIECES, b, slp_pack(LENT(b), 0));
@@ -742,6 +840,31 @@ static void largest(void)
     give_back(b);
 }
 
+/* The largest pool with every piece in use: pullup refused and done, drop done behind an own piece and refused inside a shared head. */
+static void largest_full_table(void)
+{
+    const uint32_t stored = SLP_MOST_BUFFERS - 2, all = SLP_BUFFER_SIZE * stored, pieces = 11 + 2 * SLP_MOST_SLIPS;
+    box b = fresh(SLP_MOST_BUFFERS, SLP_MOST_PIECES, SLP_MOST_SLIPS);
+    ANSWERS(0, put(b, all));
+    ANSWERS(1, slp_cut(LENT(b), 0, 0, all));
+    ANSWERS(2, slp_dup(LENT(b), 0));
+    ANSWERS(3, slp_cut(LENT(b), 0, 500, 24));
+    ANSWERS(4, slp_dup(LENT(b), 3));
+    REFUSES(SLP_PIECES, b, put(b, 1));
+    REFUSES(SLP_PIECES, b, slp_pullup(LENT(b), 3, 20));
+    ANSWERS(0, slp_pullup(LENT(b), 3, 24));
+    CHECK(word_at(b, 17) == 2 + 2045 && word_at(b, pieces + 20452) == stored && word_at(b, pieces + 20456) == 24);
+    CHECK(reads(b, 3, 24, 500) && reads(b, 4, 24, 500));
+    ANSWERS(0, slp_drop(LENT(b), 2, 520));
+    CHECK(word_at(b, 15) == 2 + 2044 && word_at(b, pieces + 20442) == 1 && word_at(b, pieces + 20444) == 8);
+    CHECK(reads(b, 2, all - 520, 520) && reads(b, 0, all, 0));
+    ANSWERS(0, slp_drop(LENT(b), 2, 504));
+    ANSWERS(5, slp_dup(LENT(b), 0));
+    REFUSES(SLP_PIECES, b, put(b, 1));
+    REFUSES(SLP_PIECES, b, slp_drop(LENT(b), 2, 1));
+    give_back(b);
+}
+
 int main(void)
 {
     morning();
@@ -751,6 +874,7 @@ int main(void)
     refusals_of_gathers();
     edges_of_put();
     edges_of_others();
+    full_tables();
     refusals_of_slips();
     refusals_of_ranges();
     refusals_of_room();
@@ -759,6 +883,7 @@ int main(void)
     views();
     macros();
     largest();
+    largest_full_table();
     printf("rows: %u checks, %u failed\n", checks, failures);
     return failures == 0 && checks > 0 ? 0 : 1;
 }

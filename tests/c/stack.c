@@ -78,6 +78,39 @@ static void tight(void)
     done(slp_cut(LENT, 0, 0, ALL - 512));
 }
 
+/* The same, slip 1 heading the first shared piece. */
+static void headed(void)
+{
+    tight();
+    done(slp_drop(LENT, 1, 512));
+    done(slp_dup(LENT, 0));
+}
+
+/* Slip 0 holds a chain over all buffers, its last piece shared with slip 1; no piece is free. */
+static void ended(void)
+{
+    fresh();
+    done(slp_put(LENT, data, ALL));
+    done(slp_dup(LENT, 0));
+    done(slp_drop(LENT, 1, ALL - 512));
+    done(slp_cut(LENT, 0, 0, ALL));
+}
+
+/* Slip 0 holds 512 pieces of one byte each, slip 1 all others; no piece is free. */
+static void crumbs(void)
+{
+    fresh();
+    done(slp_put(LENT, data, 1));
+    for (uint32_t n = 1; n < 512; n *= 2) {
+        done(slp_cut(LENT, 0, 0, n));
+        done(slp_append(LENT, 0, 1));
+    }
+    for (int i = 0; i < P / 512 - 1; i++) {
+        done(slp_cut(LENT, 0, 0, 512));
+        if (i > 0) done(slp_append(LENT, 1, 2));
+    }
+}
+
 /* Every slip holds a chain of one piece. */
 static void held(void)
 {
@@ -138,7 +171,9 @@ static void listed(void)
     X(drop, torn, SLP_TORN, torn, slp_drop(LENT, 0, 1)) \
     X(drop, slip, SLP_SLIP, longest, slp_drop(LENT, 1, 1)) \
     X(drop, range, SLP_RANGE, longest, slp_drop(LENT, 0, LONGEST + 1)) \
-    X(drop, pieces, SLP_PIECES, tight, slp_drop(LENT, 0, 600)) \
+    X(drop, front, SLP_DONE, tight, slp_drop(LENT, 0, 600)) \
+    X(drop, long_front, SLP_DONE, ended, slp_drop(LENT, 0, ALL - 1)) \
+    X(drop, pieces, SLP_PIECES, headed, slp_drop(LENT, 1, 600)) \
     X(keep, own, SLP_DONE, longest, slp_keep(LENT, 0, LONGEST - 1)) \
     X(keep, shared, SLP_DONE, shared, slp_keep(LENT, 0, 400000)) \
     X(keep, torn, SLP_TORN, torn, slp_keep(LENT, 0, 1)) \
@@ -151,7 +186,8 @@ static void listed(void)
     X(pullup, slip, SLP_SLIP, stored, slp_pullup(LENT, 1, 1)) \
     X(pullup, too_long, SLP_LONG, stored, slp_pullup(LENT, 0, 513)) \
     X(pullup, range, SLP_RANGE, held, slp_pullup(LENT, 0, 2)) \
-    X(pullup, pieces, SLP_PIECES, tight, (done(slp_drop(LENT, 2, 1)), slp_pullup(LENT, 2, 512))) \
+    X(pullup, long_front, SLP_DONE, crumbs, slp_pullup(LENT, 0, 512)) \
+    X(pullup, pieces, SLP_PIECES, tight, (done(slp_drop(LENT, 0, 1)), slp_pullup(LENT, 0, 512))) \
     X(pullup, buffers, SLP_BUFFERS, stored, slp_pullup(LENT, 0, 512)) \
     X(pack, done, SLP_DONE, half, slp_pack(LENT, 0)) \
     X(pack, torn, SLP_TORN, torn, slp_pack(LENT, 0)) \

@@ -1,8 +1,9 @@
 -- What an operation answers: the first refusal whose cause is there, or its rule. Assumes nothing.
 use mathlib.Core.Path.{_≡_, sym, ap, _∙_}
 use mathlib.Core.List.{List, []}
-use Prim.Native.Nat.{ℕ, _≤_, _<_}
+use Prim.Native.Nat.{ℕ, _+_, _≤_, _<_}
 use native.Mathlib.Omega.{arith}
+use lib.ListN.{length}
 use lib.Dec.{eqb, eqb→eq, ltb, ltb→lt}
 use Rattle.kinds.specs.declared.SlipState.{SlipState}
 use Rattle.kinds.specs.declared.Refusal.{Refusal}
@@ -14,7 +15,7 @@ use Rattle.rules.specs.Basics.{Is}
 use Rattle.rules.specs.Bytes.{decode, encode}
 use Rattle.rules.specs.Chain.{State}
 use Rattle.rules.specs.Sound.{Lent}
-use Rattle.rules.specs.Rule.{Judged, _⇐_, firstCode, unnamed, Wants, want, room, full, alters, codeIn, noView}
+use Rattle.rules.specs.Rule.{Judged, _⇐_, firstCode, unnamed, Wants, want, Spare, room, full, alters, codeIn, noView}
 use Rattle.rules.specs.Step.{Operation, rule, lentOut, refused, stateIn, done, perform}
 use Rattle.rules.proofs.Logic.{if-T, if-F, eq→eqb}
 use Rattle.rules.proofs.Codes.{refusal-pos, first-append, first-no, first-none, none-full, named, full-facts}
@@ -50,8 +51,12 @@ module _ (o : Operation) (m : Lent) (early : firstCode (rule o (stateIn m) .judg
   abbrev w : Wants
   w = rule o (stateIn m) .wants
 
-  abbrev r : Wants
+  abbrev r : Spare
   r = room (decode (m .pool))
+
+  -- the pieces that are there: those free, and those given back first
+  abbrev there : ℕ
+  there = length (w .back) + r .pieces
 
   code-full : codeIn (rule o (stateIn m)) (decode (m .pool)) ≡ firstCode (full w r)
   code-full = let js = rule o (stateIn m) .judged in first-append js _ ∙ if-T (eqb (firstCode js) 0) _ (firstCode js) (eq→eqb _ 0 early)
@@ -67,10 +72,10 @@ module _ (o : Operation) (m : Lent) (early : firstCode (rule o (stateIn m) .judg
 
   module _ (enough : w .slips ≤ r .slips) where
     -- too few free pieces
-    pub perform-pieces : r .pieces < w .pieces → refused (refusalCode Pieces) m (lentOut o) ≡ perform o m
+    pub perform-pieces : there < w .pieces → refused (refusalCode Pieces) m (lentOut o) ≡ perform o m
     perform-pieces l = perform-full Pieces (full-facts w r .pieces .1 (enough, l))
 
-    module _ (more : w .pieces ≤ r .pieces) where
+    module _ (more : w .pieces ≤ there) where
       -- too few free buffers
       pub perform-buffers : r .buffers < w .buffers → refused (refusalCode Buffers) m (lentOut o) ≡ perform o m
       perform-buffers l = perform-full Buffers (full-facts w r .buffers .1 (enough, more, l))
@@ -80,7 +85,7 @@ module _ (o : Operation) (m : Lent) (early : firstCode (rule o (stateIn m) .judg
       perform-all most =
           sym (perform-done o m
           (code-full ∙ first-no (Slips ⇐ ltb (r .slips) (w .slips)) _ (λ t. omega (arith, ltb→lt (r .slips) (w .slips) t))
-          ∙ first-no (Pieces ⇐ ltb (r .pieces) (w .pieces)) _ (λ t. omega (arith, ltb→lt (r .pieces) (w .pieces) t))
+          ∙ first-no (Pieces ⇐ ltb there (w .pieces)) _ (λ t. omega (arith, ltb→lt there (w .pieces) t))
           ∙ first-no (Buffers ⇐ ltb (r .buffers) (w .buffers)) [] (λ t. omega (arith, ltb→lt (r .buffers) (w .buffers) t)) ∙ first-none))
 
 -- ---- what an operation that is done leaves: the bytes of the rule's tables, and its storage

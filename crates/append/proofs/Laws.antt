@@ -94,7 +94,7 @@ module _ (p st : List ℕ) (a b : ℕ) where
       left l d c X e s is =
           changed _ (want 0 (if oneEmpty (decode p) a b then 0 else length (notOwn (decode p) a)) 0) 0 (appendAfter a b (stateIn (lent p st))) d refl c
           (record { shaped = is .shaped; is = is .is ∙ ap (λ (Y : State). Y .tables) e }) (sym s ∙ ap (λ (Y : State). Y .storage) e)
-          ∙ perform-all (Append a b) (lent p st) early (omega arith) l (omega arith)
+          ∙ perform-all (Append a b) (lent p st) early (omega arith) (omega (arith, l)) (omega arith)
 
       -- where either chain is empty no piece is wanted
       none-wanted : Is (oneEmpty (decode p) a b) → (if oneEmpty (decode p) a b then 0 else length (notOwn (decode p) a)) ≤ length (freePieces (decode p))

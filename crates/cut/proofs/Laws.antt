@@ -83,7 +83,7 @@ module _ (p st : List ℕ) (s off n : ℕ) where
         -- too few free pieces
         pub cut-pieces : length (freePieces (decode p)) < length (cutOut (spans (decode p) s) off n) → resultOf (Refused Pieces) p st [] noView ≡ perform (Cut s off n) (lent p st)
         unfolding rule
-        cut-pieces l = perform-pieces (Cut s off n) (lent p st) early some l
+        cut-pieces l = perform-pieces (Cut s off n) (lent p st) early some (omega (arith, l))
 
         -- the new pieces under the new slip
         pub cut-done : {o : Outcome} {x : SlipState} {q : List ℕ} {g : Shape} {t : ℕ} {xs : List Stretch} → length (cutOut (spans (decode p) s) off n) ≤ length (freePieces (decode p))
@@ -94,4 +94,4 @@ module _ (p st : List ℕ) (s off n : ℕ) where
             let T = decode p in
             changed _ (want 1 (length (cutOut (spans T s) off n)) 0) (newSlip T) (cutAfter s off n (stateIn (lent p st))) a (sym e) b
             (record { shaped = is .shaped; is = is .is ∙ (λ i. underNew (plain T (sym same i)) (freePieces T) (sym e i)) }) refl
-            ∙ perform-all (Cut s off n) (lent p st) early some l (omega arith)
+            ∙ perform-all (Cut s off n) (lent p st) early some (omega (arith, l)) (omega arith)

@@ -25,20 +25,26 @@ pub fn drop_first(pool: &mut [u8], shape: Shape, s: SlipNumber, n: u32) -> Outco
     if !kinds::state_of(entry).held() {
         return Outcome::Refused(Refusal::Slip);
     }
-    let at = chain::find(pool, shape, entry - 1, n);
+    let head = entry - 1;
+    let at = chain::find(pool, shape, head, n);
     if chain::past_end(at) {
         return Outcome::Refused(Refusal::Range);
     }
     if n == 0 {
         return answer::done(pool, shape, s, 0);
     }
-    let wanted = rest::wanted(at.link, at.into, at.own) as usize;
-    let room = room::piece_room(pool, shape, wanted);
+    let wanted = rest::wanted(at.link, at.into, at.own);
+    if wanted == 0 {
+        rest::move_to(pool, shape, s, at.link, at.into, at.own);
+        return answer::done(pool, shape, s, 0);
+    }
+    let room = front::room_in_front(pool, shape, head, wanted);
     if !room.enough {
         return Outcome::Refused(Refusal::Pieces);
     }
-    let lowest = room.lowest;
-    let rest = rest::settle(pool, shape, at.link, at.into, at.own, lowest);
-    release::turn(pool, shape, s, rest + 1);
+    let from = room.from;
+    let tail = rest::give_back(pool, shape, s, at.link, at.into, at.own);
+    let link = rest::make(pool, shape, tail, from);
+    tables::set_slip(pool, shape, s, link + 1);
     answer::done(pool, shape, s, 0)
 }

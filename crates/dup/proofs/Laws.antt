@@ -97,7 +97,7 @@ module _ (p st : List ℕ) (s : ℕ) where
       -- no free piece for a chain that needs one
       pub dup-pieces : length (freePieces (decode p)) < length (dupPlan (decode p) (headOf (decode p) s) .more) → resultOf (Refused Pieces) p st [] noView ≡ perform (Dup s) (lent p st)
       unfolding rule
-      dup-pieces l = perform-pieces (Dup s) (lent p st) early some l
+      dup-pieces l = perform-pieces (Dup s) (lent p st) early some (omega (arith, l))
 
       -- the plan under the new slip
       pub dup-done : {o : Outcome} {x : SlipState} {q : List ℕ} {h : Shape} {t : ℕ} → length (dupPlan (decode p) (headOf (decode p) s) .more) ≤ length (freePieces (decode p))
@@ -108,4 +108,4 @@ module _ (p st : List ℕ) (s : ℕ) where
           let T = decode p in
           changed _ (want 1 (length (dupPlan T (headOf T s) .more)) 0) (newSlip T) (dupAfter s (stateIn (lent p st))) a (sym e) b
           (record { shaped = is .shaped; is = is .is ∙ ap (underNew (dupPlan T (headOf T s)) (freePieces T)) (sym e) }) refl
-          ∙ perform-all (Dup s) (lent p st) early some l (omega arith)
+          ∙ perform-all (Dup s) (lent p st) early some (omega (arith, l)) (omega arith)

@@ -52,7 +52,7 @@ unfolding ownRun
 own-start n T = let own = ownPieces (pieceTotal T) T n in λ i. record { last = last-none own i; next = follow T (length own) n }
 
 -- no piece is own where the first has another count
-none-own : (k n : ℕ) (T : Tables) → single T n ≡ false → ownPieces k T n ≡ []
+pub none-own : (k n : ℕ) (T : Tables) → single T n ≡ false → ownPieces k T n ≡ []
 unfolding ownPieces if_then_else_
 none-own zero n T e = refl
 none-own (suc k) zero T e = refl

@@ -25,7 +25,7 @@ pub struct OwnPart {
 }
 
 // Whether `link` leads to a piece of count 1: one with a single reference.
-fn single(pool: &[u8], shape: Shape, link: u16) -> bool
+pub fn single(pool: &[u8], shape: Shape, link: u16) -> bool
     requires { ⌜ Opened (now pool) shape × Is (linkOk (decode (now pool)) link) ⌝ }
     ensures { λ r. ⌜ r ≡ single (decode (now (pool .entry))) link ⌝ }
 {

@@ -165,19 +165,22 @@ module _ (p st : List ℕ) (s : ℕ) where
       wants-pieces : packWants (decode p) s .pieces ≡ k
       wants-pieces = ap (λ (w : Wants). w .pieces) wants-fresh
 
+      wants-back : packWants (decode p) s .back ≡ []
+      wants-back = ap (λ (w : Wants). w .back) wants-fresh
+
       wants-buffers : packWants (decode p) s .buffers ≡ k
       wants-buffers = ap (λ (w : Wants). w .buffers) wants-fresh
 
       -- too few free pieces
       pub pack-pieces : length (freePieces (decode p)) < k → resultOf (Refused Pieces) p st [] noView ≡ perform (Pack s) (lent p st)
       unfolding rule
-      pack-pieces l = perform-pieces (Pack s) (lent p st) early (omega (arith, wants-slips)) (omega (arith, wants-pieces))
+      pack-pieces l = perform-pieces (Pack s) (lent p st) early (omega (arith, wants-slips)) (omega (arith, wants-pieces, ap length wants-back))
 
       module _ (enough : k ≤ length (freePieces (decode p))) where
         -- too few free buffers
         pub pack-buffers : length (freeBuffers (decode p)) < k → resultOf (Refused Buffers) p st [] noView ≡ perform (Pack s) (lent p st)
         unfolding rule
-        pack-buffers l = perform-buffers (Pack s) (lent p st) early (omega (arith, wants-slips)) (omega (arith, wants-pieces)) (omega (arith, wants-buffers))
+        pack-buffers l = perform-buffers (Pack s) (lent p st) early (omega (arith, wants-slips)) (omega (arith, wants-pieces, ap length wants-back)) (omega (arith, wants-buffers))
 
         -- the new pieces under the same slip, and the bytes in the new buffers
         pub pack-done : {o : Outcome} {x : SlipState} {q after : List ℕ} {h : Shape} → k ≤ length (freeBuffers (decode p)) → o ≡ Done (record { state = x; number = 0 }) → AllBytes q
@@ -192,4 +195,4 @@ module _ (p st : List ℕ) (s : ℕ) where
             changed _ (packWants T s) 0 (packAfter s S) a refl b
             (record { shaped = is .shaped; is = is .is ∙ ap (λ (Y : State). Y .tables) same })
             (sym (old-storage _ (plain T (packed T s)) (freePieces T) s) ∙ ap (λ (Y : State). Y .storage) same)
-            ∙ perform-all (Pack s) (lent p st) early (omega (arith, wants-slips)) (omega (arith, wants-pieces)) (omega (arith, wants-buffers))
+            ∙ perform-all (Pack s) (lent p st) early (omega (arith, wants-slips)) (omega (arith, wants-pieces, ap length wants-back)) (omega (arith, wants-buffers))

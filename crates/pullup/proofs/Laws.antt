@@ -1,7 +1,7 @@
 -- What pullup answers and leaves: the rule's result. Assumes nothing.
 use mathlib.Core.Path.{_≡_, refl, sym, ap, _∙_}
 use mathlib.Core.List.{List, []}
-use Prim.Native.Nat.{ℕ, suc, _≤_, _<_}
+use Prim.Native.Nat.{ℕ, suc, _+_, _≤_, _<_}
 use native.Mathlib.Omega.{arith}
 use lib.ListN.{length}
 use lib.Dec.{ltb, ltb→lt, lt→ltb, leb, leb→le}
@@ -15,8 +15,8 @@ use Rattle.rules.specs.Bytes.{decode}
 use Rattle.rules.specs.Chain.{State, spans, firstLength, lengthOf}
 use Rattle.rules.specs.Sound.{lent}
 use Rattle.rules.specs.Room.{freePieces, freeBuffers}
-use Rattle.rules.specs.Rule.{_⇐_, firstCode, unnamed, Wants, want, noView}
-use Rattle.rules.specs.Drop.{dropped}
+use Rattle.rules.specs.Rule.{_⇐_, firstCode, unnamed, Wants, giving, noView}
+use Rattle.rules.specs.Drop.{dropped, dropBack}
 use Rattle.rules.specs.Pullup.{pullupAfter, pullupWants}
 use Rattle.rules.specs.Step.{Pullup, rule, stateIn, perform}
 use Rattle.rules.proofs.Logic.{if-T, if-F}
@@ -73,21 +73,21 @@ module _ (p st : List ℕ) (s n : ℕ) where
             ∙ perform-none (Pullup s n) (lent p st) (if-T (leb n (firstLength (spans T s))) _ _ t) early
 
         module _ (scattered : firstLength (spans (decode p) s) < n) where
-          -- a piece more than drop takes, and a buffer
-          wants : rule (Pullup s n) (stateIn (lent p st)) .wants ≡ want 0 (suc (length (dropped (decode p) s n .more))) 1
+          -- a piece more than drop takes, and a buffer; what drop gives back is given back first
+          wants : rule (Pullup s n) (stateIn (lent p st)) .wants ≡ giving (dropBack (decode p) s n) (suc (length (dropped (decode p) s n .more))) 1
           unfolding rule pullupWants
-          wants = if-F (leb n (firstLength (spans (decode p) s))) _ _ (λ t. omega (arith, leb→le n (firstLength (spans (decode p) s)) t))
+          wants = if-F (leb n (firstLength (spans (decode p) s))) _ (giving (dropBack (decode p) s n) (suc (length (dropped (decode p) s n .more))) 1) (λ t. omega (arith, leb→le n (firstLength (spans (decode p) s)) t))
 
-          -- no free piece for the first bytes or for what stays
-          pub pullup-pieces : length (freePieces (decode p)) ≤ length (dropped (decode p) s n .more) → resultOf (Refused Pieces) p st [] noView ≡ perform (Pullup s n) (lent p st)
+          -- no piece for the first bytes or for what stays, with those given back
+          pub pullup-pieces : length (dropBack (decode p) s n) + length (freePieces (decode p)) ≤ length (dropped (decode p) s n .more) → resultOf (Refused Pieces) p st [] noView ≡ perform (Pullup s n) (lent p st)
           pullup-pieces l =
-              perform-pieces (Pullup s n) (lent p st) early (omega (arith, ap (λ (w : Wants). w .slips) wants)) (omega (arith, ap (λ (w : Wants). w .pieces) wants))
+              perform-pieces (Pullup s n) (lent p st) early (omega (arith, ap (λ (w : Wants). w .slips) wants)) (omega (arith, ap (λ (w : Wants). w .pieces) wants, ap (λ (w : Wants). length (w .back)) wants))
 
-          module _ (room : length (dropped (decode p) s n .more) < length (freePieces (decode p))) where
+          module _ (room : length (dropped (decode p) s n .more) < length (dropBack (decode p) s n) + length (freePieces (decode p))) where
             -- no free buffer
             pub pullup-buffers : length (freeBuffers (decode p)) ≡ 0 → resultOf (Refused Buffers) p st [] noView ≡ perform (Pullup s n) (lent p st)
             pullup-buffers z =
-                perform-buffers (Pullup s n) (lent p st) early (omega (arith, ap (λ (w : Wants). w .slips) wants)) (omega (arith, ap (λ (w : Wants). w .pieces) wants))
+                perform-buffers (Pullup s n) (lent p st) early (omega (arith, ap (λ (w : Wants). w .slips) wants)) (omega (arith, ap (λ (w : Wants). w .pieces) wants, ap (λ (w : Wants). length (w .back)) wants))
                 (omega (arith, z, ap (λ (w : Wants). w .buffers) wants))
 
             -- the bytes are in one new piece
@@ -96,5 +96,5 @@ module _ (p st : List ℕ) (s n : ℕ) where
             unfolding rule
             pullup-done l a b is =
                 changed _ (pullupWants (decode p) s n) 0 (pullupAfter s n (stateIn (lent p st))) a refl b (is .tables-are) (is .storage-is)
-                ∙ perform-all (Pullup s n) (lent p st) early (omega (arith, ap (λ (w : Wants). w .slips) wants)) (omega (arith, ap (λ (w : Wants). w .pieces) wants))
+                ∙ perform-all (Pullup s n) (lent p st) early (omega (arith, ap (λ (w : Wants). w .slips) wants)) (omega (arith, ap (λ (w : Wants). w .pieces) wants, ap (λ (w : Wants). length (w .back)) wants))
                 (omega (arith, ap (λ (w : Wants). w .buffers) wants))

@@ -1,103 +1,104 @@
 -- The first bytes of a chain in one new piece: the plan, and what it leaves. Assumes nothing.
-use mathlib.Core.Path.{_≡_, sym, ap, subst, _∙_}
-use mathlib.Core.Bool.{Bool}
+use mathlib.Core.Path.{_≡_, refl, sym, ap, subst, _∙_}
 use mathlib.Core.List.{List, [], _∷_, _++_}
-use Prim.Native.Nat.{ℕ, zero, suc, _+_, _-_, _≤_, _<_, min}
+use Prim.Native.Nat.{ℕ, suc, _+_, _-_, _≤_, _<_, min, max}
 use native.Mathlib.Numerals.{add-one}
-use native.Mathlib.Decide.{decLt}
+use native.Mathlib.Decide.{ℕ-discrete}
 use native.Mathlib.Omega.{arith}
 use lib.ListN.{length, take}
-use lib.Dec.{leb, leb→le}
+use lib.Dec.{leb, leb→le, le→leb}
 use Rattle.kinds.specs.Sizes.{sizeOf}
 use Rattle.kinds.proofs.Sizes.{size-one}
 use Rattle.rules.specs.Basics.{Is, places}
-use Rattle.rules.specs.Tables.{Tables, piece, pieceTotal, bufferTotal, bufferCount}
+use Rattle.rules.specs.Tables.{Tables, bufferCount, pieceTotal, bufferTotal}
 use Rattle.rules.specs.Bytes.{decode}
-use Rattle.rules.specs.Chain.{State, Stretch, spans, firstLength, total, contents, reads, stateOf}
-use Rattle.rules.specs.Sound.{linkOk, SoundTables}
-use Rattle.rules.specs.Room.{isFree, isUnheld, freePieces, freeBuffers, newBuffers}
-use Rattle.rules.specs.Build.{fresh, taken, built, builtLink, Plan, made, madeLink, underOld, buffersFor, laid, stored}
+use Rattle.rules.specs.Chain.{State, Stretch, spans, firstLength, total, contents, reads, stateOf, ownOf}
+use Rattle.rules.specs.Room.{isFree, isUnheld, freePieces, freeFrom, freeBuffers, newBuffers}
+use Rattle.rules.specs.Build.{fresh, taken, built, builtLink, Plan, underFreed, buffersFor, laid, stored}
+use Rattle.rules.specs.Drop.{dropped, dropBack}
 use Rattle.rules.specs.Pullup.{pulled, pullupAfter}
 use Rattle.rules.proofs.Logic.{if-F}
-use Rattle.rules.proofs.Build.{Free, Planned, plain-planned, plan-built}
-use Rattle.rules.proofs.Room.{free-pieces}
-use Rattle.rules.proofs.Audit.{tables-now}
-use Rattle.rules.proofs.Writes.{old-storage}
-use Rattle.rules.proofs.Drop.{drop-here}
+use Rattle.rules.proofs.Moves.{SoundNow, by-place}
+use Rattle.rules.proofs.Writes.{freed-storage}
+use Rattle.rules.proofs.Build.{Planned}
+use Rattle.rules.proofs.Back.{pullup-room, back-own}
 use Rattle.layout.specs.declared.Shape.{Shape}
 use Rattle.tables.specs.Shape.{Holds}
-use Rattle.tables.proofs.Laws.{total-pieces, onward}
+use Rattle.tables.proofs.Laws.{onward}
 use Rattle.chain.specs.declared.Spot.{Spot}
 use Rattle.chain.specs.Length.{stretchesFrom}
-use Rattle.chain.proofs.Links.{link-leads}
 use Rattle.room.specs.Free.{firstFrom, lowestFor}
-use Rattle.room.proofs.Free.{lowest-some, piece-first, no-piece, first-lies, buffer-first}
-use Rattle.build.proofs.Laws.{buffer-room}
-use Rattle.build.proofs.Line.{freeFrom}
-use Rattle.rest.specs.Rest.{restFrom}
-use Rattle.rest.proofs.Dropped.{dropped-at}
+use Rattle.room.proofs.Free.{lowest-some, buffer-first, places-between}
+use Rattle.build.proofs.Line.{First, from-first}
+use Rattle.rest.specs.declared.Tail.{Tail}
+use Rattle.rest.specs.Rest.{restFrom, newOf, Stays, Makable}
+use Rattle.rest.proofs.Rest.{new-none, new-one}
+use Rattle.rest.proofs.Dropped.{dropped-at, more-dropped, next-dropped, buffer-dropped}
+use Rattle.rest.proofs.Freed.{emptiedTo, freed-buffers, freed-count, freed-free, freed-from, freed-counts}
 use Rattle.transfer.proofs.Fill.{for-one}
-use Rattle.pullup.specs.Pull.{pulledFrom, Pullable, Pulled}
+use Rattle.pullup.specs.Pull.{firstOn, FirstMakable, Pullable, Pulled}
 
--- ---- what stays from a place
+-- ---- a first piece before what stays
 
--- its plan
-abbrev restAt : Tables → Spot → Plan
-restAt T at = restFrom T (at .own) (at .link) (at .into)
+-- a new piece raises a buffer's count by one at the most
+built-most : (T : Tables) (x : Stretch) (fs : List ℕ) (n b : ℕ) → x .buffer < bufferTotal T → bufferCount (built T fs (x ∷ []) n) b ≤ bufferCount T b + 1
+unfolding built
+built-most T x [] n b l = omega arith
+built-most T x (f ∷ fs) n b l =
+    by-place (T .counts) (x .buffer) (suc (bufferCount T (x .buffer))) 0 l (λ k j. k ≤ bufferCount T j + 1) (omega arith) (λ j _. omega arith) b
 
--- from a place inside a piece in use, or past the end, it can be carried out
-pub rest-planned : (T : Tables) (own : Bool) (n r : ℕ) → SoundTables T → Is (linkOk T n) → ((n ≡ 0 → ⊥) → r < piece T (n - 1) .len) → Planned T (restFrom T own n r)
-unfolding restFrom
-rest-planned T own zero r S t i = plain-planned T [] tt (tables-now T S)
-rest-planned T own (suc d) r S t i =
-    let b : suc d - 1 ≡ d = omega arith in
-    let u : 0 < piece T d .count = rw b at (link-leads T (suc d) S t (omega arith) .used) in
-    drop-here T own d r (rw b at (i (omega arith))) u (tables-now T S)
+one-most : (T : Tables) (t : Tail) (fs : List ℕ) (b : ℕ) → ((t .length ≡ 0 → ⊥) → t .buffer .0 < bufferTotal T)
+    → bufferCount (built T fs (newOf t) (t .next)) b ≤ bufferCount T b + 1
+unfolding built
+one-most T t fs b l =
+    elim (ℕ-discrete (t .length) 0) [
+      | yes z ↦ rw (new-none t z) (omega arith)
+      | no z ↦ rw (new-one t z) (built-most T (record { buffer = t .buffer .0; offset = t .offset; len = t .length }) fs (t .next) b (l z))
+    ]
 
--- ---- the new first piece: the lowest free one
+module _ (T : Tables) (t : Tail) (i j b : ℕ) (ok : FirstMakable T t i j b) {f : ℕ} (lowest : f ≡ firstFrom (isFree T) i (pieceTotal T)) where
+  -- it is of the lowest free piece, before the others
+  first-free : First (isFree T) (pieceTotal T) i f
+  first-free = rw lowest (from-first (isFree T) (pieceTotal T) i (omega (arith, ok .room)))
 
-module _ (T : Tables) {f : ℕ} (lowest : f ≡ firstFrom (isFree T) 0 (pieceTotal T)) (some : 0 < length (freePieces T)) where
-  -- it is one of the pieces
   pub first-below : f < pieceTotal T
-  first-below =
-      let most = first-lies (isFree T) 0 (pieceTotal T) .0 in
-      elim (decLt f (pieceTotal T)) [ yes l ↦ l | no l ↦ absurd (omega (arith, ap length (no-piece T lowest (omega arith)))) ]
+  first-below = first-free .below
 
-  -- before the other free pieces
-  pub first-split : freePieces T ≡ f ∷ freeFrom T (f + 1)
-  first-split = piece-first T lowest first-below ∙ ap (λ (i : ℕ). f ∷ freeFrom T i) (sym (add-one f))
+  -- from k on, after it, none is passed over
+  module _ {k : ℕ} (on : (f < k) × (k ≤ max (f + 1) j)) where
+    second-free : freeFrom T k ≡ freeFrom T (f + 1)
+    second-free =
+        places-between (isFree T) (f + 1) k (pieceTotal T) (omega (arith, on .0)) (λ d l m. ok .none-between d (omega (arith, first-free .low)) (omega (arith, on .1)))
 
-  -- of which there is one fewer
-  pub first-room : (k : ℕ) → k < length (freePieces T) → k ≤ length (freeFrom T (f + 1))
-  first-room k h = omega (arith, ap length first-split)
+    first-split : freeFrom T i ≡ f ∷ freeFrom T k
+    first-split = first-free .split ∙ ap (λ (x : ℕ). f ∷ freeFrom T x) (sym (add-one f)) ∙ ap (λ (fs : List ℕ). f ∷ fs) (sym second-free)
 
-  -- and are free
-  others-free : Free T (freeFrom T (f + 1))
-  others-free = subst (Free T) first-split (free-pieces T) .3
+    -- what stays can be made of these
+    pub rest-makable : Makable T t k
+    rest-makable = record { room = omega (arith, ok .room, ap length first-split); in-store = ok .in-store; counted = omega (arith, ok .counted (t .buffer .0)) }
 
-  module _ (at : Spot) {h : Shape} {q : List ℕ} where
-    -- once what stays is made, the buffers' counts can rise
-    pub first-count : (b : ℕ) → Planned T (restAt T at) → h .pieces < 65535 → Holds q h (made (restAt T at) (freeFrom T (f + 1))) → bufferCount (decode q) b < 65535
-    first-count b ok few is =
-        let U = made (restAt T at) (freeFrom T (f + 1)) in
-        subst (λ (X : Tables). bufferCount X b < 65535) (sym (is .is)) (buffer-room U (plan-built (restAt T at) (freeFrom T (f + 1)) ok others-free) (omega (arith, total-pieces is)) b)
+    -- then no buffer's count is too high
+    pub first-counts : {h : Shape} {q : List ℕ} → Holds q h (built T (freeFrom T k) (newOf t) (t .next)) → bufferCount (decode q) b < 65535
+    first-counts is = subst (λ (X : Tables). bufferCount X b < 65535) (sym (is .is)) (omega (arith, ok .counted b, one-most T t (freeFrom T k) b (ok .in-store)))
 
-    -- the piece before it is the plan carried out
-    pub first-made : (b n : ℕ) {r : List ℕ} {m : ℕ} → Holds q h (made (restAt T at) (freeFrom T (f + 1))) × (m ≡ madeLink (restAt T at) (freeFrom T (f + 1)))
+    -- the piece before it
+    pub first-made : (n : ℕ) {h : Shape} {q r : List ℕ} {m : ℕ} → Holds q h (built T (freeFrom T k) (newOf t) (t .next)) × (m ≡ builtLink (freeFrom T k) (newOf t) (t .next))
         → Holds r h (taken (decode q) f (fresh (record { buffer = b; offset = 0; len = n }) m))
-        → Holds r h (made (pulledFrom T at b n) (freePieces T)) × (f + 1 ≡ madeLink (pulledFrom T at b n) (freePieces T))
+        → Holds r h (built T (freeFrom T i) (firstOn b n t) (t .next)) × (f + 1 ≡ builtLink (freeFrom T i) (firstOn b n t) (t .next))
     unfolding built builtLink
-    first-made b n {m = m} (was, e) is =
+    first-made n {m = m} (was, e) is =
         let x : Stretch = record { buffer = b; offset = 0; len = n } in
-        let now = onward was (λ (U : Tables). taken U f (fresh x m)) is in
-        let p = pulledFrom T at b n in (
-          record { shaped = now .shaped; is = now .is ∙ ap (λ (k : ℕ). taken (made (restAt T at) (freeFrom T (f + 1))) f (fresh x k)) e ∙ ap (made p) (sym first-split) },
-          add-one f ∙ ap (madeLink p) (sym first-split),
+        let now = onward was (λ (U : Tables). taken U f (fresh x m)) is in (
+          record {
+            shaped = now .shaped;
+            is = now .is ∙ ap (λ (l : ℕ). taken (built T (freeFrom T k) (newOf t) (t .next)) f (fresh x l)) e ∙ ap (λ (fs : List ℕ). built T fs (firstOn b n t) (t .next)) (sym first-split);
+          },
+          add-one f ∙ ap (λ (fs : List ℕ). builtLink fs (firstOn b n t) (t .next)) (sym first-split),
         )
 
 -- ---- the bytes on their buffer
 
-module _ {T : Tables} {s n head : ℕ} {at : Spot} {f b : ℕ} (h : Pullable T s n head at f b) where
+module _ {T : Tables} {s n head : ℕ} {at : Spot} {from beyond b : ℕ} (h : Pullable T s n head at from beyond b) where
   -- some bytes
   pub some-bytes : 1 ≤ n
   some-bytes = omega (arith, h .scattered)
@@ -127,39 +128,70 @@ module _ {T : Tables} {s n head : ℕ} {at : Spot} {f b : ℕ} (h : Pullable T s
       let e : min (sizeOf (T .stock) b) n ≡ n = omega (arith, h .fits, size-one (T .stock) b) in
       ap (λ (l : List ℕ). laid (T .stock) l n) new-buffer ∙ ap (λ (k : ℕ). record { buffer = b; offset = 0; len = k } ∷ []) e
 
-  -- so the plan is that from the place found
-  pub pulled-from : pulled T s n ≡ pulledFrom T at b n
-  pulled-from =
-      let e = dropped-at T s n (h .starts) (h .place) in
-      ap (λ (p : Plan). record { base = p .base; more = laid (T .stock) (newBuffers T 1) n ++ p .more; tail = p .tail }) e
-      ∙ (let p = restAt T at in ap (λ (xs : List Stretch). record { base = p .base; more = xs ++ p .more; tail = p .tail }) laid-one)
-
-  -- and what is made by it is made by the plan
-  pub pulled-made : {g : Shape} {q : List ℕ} {r : ℕ} → Holds q g (made (pulledFrom T at b n) (freePieces T)) × (r ≡ madeLink (pulledFrom T at b n) (freePieces T))
-      → Holds q g (made (pulled T s n) (freePieces T)) × (r ≡ madeLink (pulled T s n) (freePieces T))
-  pulled-made {g} {q} {r} = subst (λ (p : Plan). Holds q g (made p (freePieces T)) × (r ≡ madeLink p (freePieces T))) (sym pulled-from)
-
   -- the chain from the head has the bytes
   pub head-enough : n ≤ total (stretchesFrom T head)
   head-enough = rw (h .starts) (h .enough)
 
-  -- and what stays takes fewer pieces than are free
-  pub rest-room : length (restAt T at .more) < length (freePieces T)
-  rest-room = rw (dropped-at T s n (h .starts) (h .place)) at (h .room)
+  -- what drop leaves is what stays from the place behind them
+  abbrev pub dropped-there : dropped T s n ≡ restFrom T (at .own) (at .link) (at .into)
+  dropped-there = dropped-at T s n (h .starts) (h .place)
+
+  module _ (S : SoundNow T) (ok : Planned T (pulled T s n)) {t : Tail} (is : Stays t (restFrom T (at .own) (at .link) (at .into))) where
+    abbrev there : Tables
+    there = emptiedTo (pulled T s n) s
+
+    -- so the new pieces are those of the plan
+    more-pulled : firstOn b n t ≡ pulled T s n .more
+    more-pulled =
+        (λ i. record { buffer = b; offset = 0; len = n } ∷ more-dropped T s n dropped-there is i)
+        ∙ ap (λ (xs : List Stretch). xs ++ dropped T s n .more) (sym laid-one)
+
+    next-pulled : t .next ≡ pulled T s n .tail
+    next-pulled = next-dropped T s n dropped-there is
+
+    -- the free pieces from the number found on are all
+    pub pulled-free : freeFrom there from ≡ freePieces there
+    pulled-free = freed-from (pulled T s n) s ok (h .named) from (λ d l z. h .none-below d l (back-own T s n S d z))
+
+    -- there are enough of them
+    pulled-room : length (dropped T s n .more) < length (freePieces there)
+    pulled-room =
+        let f = length (freePieces T) in
+        let k = length (dropped T s n .more) in
+        let most = leb→le (suc k) (length (dropBack T s n) + f) (subst Is (sym (pullup-room T s n S (h .scattered) f)) (le→leb (suc k) (length (ownOf T s) + f) (omega (arith, h .room)))) in
+        omega (arith, most, freed-count (pulled T s n) s ok (h .named))
+
+    -- and both pieces can be made
+    pub pulled-makable : pieceTotal T < 65534 → FirstMakable there t from beyond b
+    pulled-makable few = record {
+      room = omega (arith, pulled-room, ap length (more-dropped T s n dropped-there is), ap length pulled-free);
+      none-between = λ d l m z. h .none-between d l m (back-own T s n S d (freed-free (pulled T s n) s ok (h .named) d z));
+      in-store = λ z. omega (arith, buffer-dropped T s n dropped-there is S z, freed-buffers (pulled T s n) s ok (h .named));
+      first-in = omega (arith, h .inside, freed-buffers (pulled T s n) s ok (h .named));
+      counted = λ x. omega (arith, few, freed-counts (pulled T s n) s ok (h .named) x);
+    }
+
+    -- what is made of them is what the plan makes
+    pub pulled-made : {g : Shape} {q : List ℕ} {r : ℕ} → Holds q g (built there (freeFrom there from) (firstOn b n t) (t .next)) × (r ≡ builtLink (freeFrom there from) (firstOn b n t) (t .next))
+        → Holds q g (built there (freePieces there) (pulled T s n .more) (pulled T s n .tail)) × (r ≡ builtLink (freePieces there) (pulled T s n .more) (pulled T s n .tail))
+    pulled-made (was, l) = (
+      record { shaped = was .shaped; is = was .is ∙ (λ j. built there (pulled-free j) (more-pulled j) (next-pulled j)) },
+      l ∙ (λ j. builtLink (pulled-free j) (more-pulled j) (next-pulled j)),
+    )
 
 -- the plan under the slip, and the bytes on their buffer, are what pullup leaves
-pub pull-done : (p st : List ℕ) {g : Shape} {s n head : ℕ} {at : Spot} {f b : ℕ} {q st′ : List ℕ} → Pullable (decode p) s n head at f b
-    → ((S : State) → Holds q g (underOld S (pulled (decode p) s n) (freePieces (decode p)) s .tables))
+pub pull-done : (p st : List ℕ) {g : Shape} {s n head : ℕ} {at : Spot} {from beyond b : ℕ} {q st′ : List ℕ} → Pullable (decode p) s n head at from beyond b
+    → ((S : State) → Holds q g (underFreed S (pulled (decode p) s n) s .tables))
     → st′ ≡ stored (decode p .stock) st (newBuffers (decode p) (buffersFor n)) (take n (contents (decode p .stock) st (stretchesFrom (decode p) head))) → Pulled p st g s n q st′
 unfolding pullupAfter
 pull-done p st {s = s} {n = n} h is e =
     let T = decode p in
     let S = stateOf T st in
     let S₁ = stateOf T (stored (T .stock) st (newBuffers T 1) (take n (reads S s))) in
-    let after : pullupAfter s n S ≡ underOld S₁ (pulled T s n) (freePieces T) s = if-F (leb n (firstLength (spans T s))) _ _ (λ t. omega (arith, leb→le n (firstLength (spans T s)) t, h .scattered)) in
+    let after : pullupAfter s n S ≡ underFreed S₁ (pulled T s n) s = if-F (leb n (firstLength (spans T s))) _ _ (λ t. omega (arith, leb→le n (firstLength (spans T s)) t, h .scattered)) in
     let now = is S₁ in
     record {
       tables-are = record { shaped = now .shaped; is = now .is ∙ sym (ap (λ (X : State). X .tables) after) };
       storage-is = e ∙ (λ i. stored (T .stock) st (newBuffers T (one-buffer h i)) (take n (contents (T .stock) st (stretchesFrom T (h .starts i)))))
-          ∙ sym (ap (λ (X : State). X .storage) after ∙ old-storage S₁ (pulled T s n) (freePieces T) s);
+          ∙ sym (ap (λ (X : State). X .storage) after ∙ freed-storage S₁ (pulled T s n) s);
     }

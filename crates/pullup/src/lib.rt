@@ -6,50 +6,56 @@ use kinds::PieceNumber;
 use kinds::Refusal;
 use kinds::SlipNumber;
 use layout::Shape;
+use rest::Tail;
 ghost use mathlib.Core.Path.{_≡_};
 ghost use mathlib.Core.List.{[]};
-ghost use Prim.Native.Nat.{_-_, _<_};
+ghost use Prim.Native.Nat.{_<_, max};
 ghost use lib.ListN.{length};
 ghost use Rattle.kinds.specs.SlipState.{stateOf};
-ghost use Rattle.rules.specs.Basics.{Is};
 ghost use Rattle.rules.specs.Layout.{storageLength};
-ghost use Rattle.rules.specs.Tables.{slip, piece, pieceTotal};
+ghost use Rattle.rules.specs.Tables.{slip};
 ghost use Rattle.rules.specs.Bytes.{decode};
-ghost use Rattle.rules.specs.Sound.{linkOk, lent};
-ghost use Rattle.rules.specs.Room.{isFree, freePieces};
-ghost use Rattle.rules.specs.Build.{made, madeLink};
+ghost use Rattle.rules.specs.Sound.{lent};
+ghost use Rattle.rules.specs.Room.{freeFrom};
+ghost use Rattle.rules.specs.Build.{built, builtLink};
 ghost use Rattle.rules.specs.Rule.{noView};
 ghost use Rattle.rules.specs.Step.{Pullup, perform};
-ghost use Rattle.tables.specs.Shape.{Becomes, stockOf};
+ghost use Rattle.tables.specs.Shape.{Shaped, Becomes, stockOf};
 ghost use Rattle.chain.specs.Opened.{Opened};
-ghost use Rattle.room.specs.Free.{firstFrom};
 ghost use Rattle.answer.specs.Result.{resultOf, Leaves};
-ghost use Rattle.rest.specs.Rest.{restFrom};
-ghost use Rattle.pullup.specs.Pull.{pulledFrom, Pullable, Pulled};
+ghost use Rattle.pullup.specs.Pull.{firstOn, FirstMakable, Pullable, Pulled};
 
-// Makes a first piece for the `n` bytes of buffer `b`, before what stays from the place `at`; answers the link to it: a new head descriptor.
+// The higher of two numbers: a maximum.
+fn higher(a: u16, b: u16) -> u16
+    ensures { λ r. ⌜ r ≡ max a b ⌝ }
+{
+    if a < b { b } else { a }
+}
+
+// Makes a first piece for the `n` bytes of buffer `b`, before what stays, each of the lowest free piece from `from` on; answers its link: a head descriptor.
 fn make_first(
     pool: &mut [u8],
     shape: Shape,
-    at: Spot,
-    f: PieceNumber,
+    tail: Tail,
+    from: PieceNumber,
+    beyond: PieceNumber,
     b: BufferNumber,
     n: u16,
 ) -> u16
-    requires { ⌜ Opened (now pool) shape × Is (linkOk (decode (now pool)) (at .link)) × (b .0 < shape .buffers) ⌝ }
-    requires { ⌜ ((at .link ≡ 0 → ⊥) → at .into < piece (decode (now pool)) (at .link - 1) .len) ⌝ }
-    requires { ⌜ (length (restFrom (decode (now pool)) (at .own) (at .link) (at .into) .more) < length (freePieces (decode (now pool))))
-        × (f .0 ≡ firstFrom (isFree (decode (now pool))) 0 (pieceTotal (decode (now pool)))) ⌝ }
-    ensures { λ r. ⌜ Becomes (now (pool .entry)) (now (pool .exit)) shape (λ T. made (pulledFrom T at (b .0) n) (freePieces T))
-        × (r ≡ madeLink (pulledFrom (decode (now (pool .entry))) at (b .0) n) (freePieces (decode (now (pool .entry))))) ⌝ }
+    requires { ⌜ Shaped (now pool) shape × (shape .pieces < 65535) × FirstMakable (decode (now pool)) tail (from .0) (beyond .0) (b .0) ⌝ }
+    ensures { λ r. ⌜ Becomes (now (pool .entry)) (now (pool .exit)) shape (λ T. built T (freeFrom T (from .0)) (firstOn (b .0) n tail) (tail .next))
+        × (r ≡ builtLink (freeFrom (decode (now (pool .entry))) (from .0)) (firstOn (b .0) n tail) (tail .next)) ⌝ }
 {
-    let rest = rest::settle(pool, shape, at.link, at.into, at.own, PieceNumber(f.0 + 1));
-    build::take_piece(pool, shape, f, b, 0, n, rest);
+    let f = room::next_free_piece(pool, shape, from);
+    // none between `from` and `beyond` is free: that stretch is not scanned again
+    let second = higher(f.0 + 1, beyond.0);
+    let link = rest::make(pool, shape, tail, PieceNumber(second));
+    build::take_piece(pool, shape, f, b, 0, n, link);
     f.0 + 1
 }
 
-// Copies the first `n` bytes of the chain of slip `s`, which starts at `head`, to buffer `b`,
-// and puts a piece for them in their place: a gather into a new head segment.
+// Copies the first `n` bytes of the chain of slip `s`, which starts at `head`, to buffer `b`, gives back what stands before the place `at` behind them,
+// and puts a piece for them in its place: a gather into a new head segment.
 fn pull(
     pool: &mut [u8],
     shape: Shape,
@@ -58,16 +64,18 @@ fn pull(
     n: u32,
     head: u16,
     at: Spot,
-    f: PieceNumber,
+    from: PieceNumber,
+    beyond: PieceNumber,
     b: BufferNumber,
 )
     requires { ⌜ Opened (now pool) shape × (length (now storage) ≡ storageLength (stockOf shape) (shape .buffers)) ⌝ }
-    requires { ⌜ Pullable (decode (now pool)) (s .0) n head at (f .0) (b .0) ⌝ }
+    requires { ⌜ Pullable (decode (now pool)) (s .0) n head at (from .0) (beyond .0) (b .0) ⌝ }
     ensures { λ _. ⌜ Pulled (now (pool .entry)) (now (storage .entry)) shape (s .0) n (now (pool .exit)) (now (storage .exit)) ⌝ }
 {
     transfer::refill(pool, shape, storage, head, n, b);
-    let first = make_first(pool, shape, at, f, b, n as u16);
-    release::turn(pool, shape, s, first + 1);
+    let tail = rest::give_back(pool, shape, s, at.link, at.into, at.own);
+    let first = make_first(pool, shape, tail, from, beyond, b, n as u16);
+    tables::set_slip(pool, shape, s, first + 1);
 }
 
 // Brings the first `n` bytes of the chain of slip `s` into one piece; they are copied only where the first piece has fewer: m_pullup of a handle's chain.
@@ -92,16 +100,17 @@ pub fn pullup(pool: &mut [u8], shape: Shape, storage: &mut [u8], s: SlipNumber, 
     if chain::in_first(pool, shape, head, n) {
         return answer::done(pool, shape, s, 0);
     }
-    let wanted = rest::wanted(at.link, at.into, at.own) as usize + 1;
-    let pieces = room::piece_room(pool, shape, wanted);
-    if !pieces.enough {
+    let wanted = rest::wanted(at.link, at.into, at.own) + 1;
+    let room = front::room_in_front(pool, shape, head, wanted);
+    if !room.enough {
         return Outcome::Refused(Refusal::Pieces);
     }
-    let f = pieces.lowest;
+    let from = room.from;
+    let beyond = room.beyond;
     let b = room::next_free_buffer(pool, shape, BufferNumber(0));
     if b.0 == shape.buffers {
         return Outcome::Refused(Refusal::Buffers);
     }
-    pull(pool, shape, storage, s, n, head, at, f, b);
+    pull(pool, shape, storage, s, n, head, at, from, beyond, b);
     answer::done(pool, shape, s, 0)
 }

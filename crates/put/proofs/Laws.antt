@@ -37,13 +37,13 @@ module _ (p st input : List ℕ) where
     -- too few free pieces
     pub put-pieces : length (freePieces (decode p)) < buffersFor (length input) → resultOf (Refused Pieces) p st [] noView ≡ perform (Put input) (lent p st)
     unfolding rule
-    put-pieces l = perform-pieces (Put input) (lent p st) early some l
+    put-pieces l = perform-pieces (Put input) (lent p st) early some (omega (arith, l))
 
     module _ (enough : buffersFor (length input) ≤ length (freePieces (decode p))) where
       -- too few free buffers
       pub put-buffers : length (freeBuffers (decode p)) < buffersFor (length input) → resultOf (Refused Buffers) p st [] noView ≡ perform (Put input) (lent p st)
       unfolding rule
-      put-buffers l = perform-buffers (Put input) (lent p st) early some enough l
+      put-buffers l = perform-buffers (Put input) (lent p st) early some (omega (arith, enough)) l
 
       -- the new pieces under the new slip, and the bytes in the new buffers
       pub put-done : {o : Outcome} {x : SlipState} {q after : List ℕ} {h : Shape} {t : ℕ} → buffersFor (length input) ≤ length (freeBuffers (decode p)) → newSlip (decode p) ≡ t
@@ -56,4 +56,4 @@ module _ (p st input : List ℕ) where
           let k = buffersFor (length input) in
           changed _ (want 1 k k) (newSlip T) (putAfter input (stateIn (lent p st))) a (sym e) b
           (record { shaped = is .shaped; is = is .is ∙ ap (underNew (plain T (laid (T .stock) (newBuffers T k) (length input))) (freePieces T)) (sym e) }) f
-          ∙ perform-all (Put input) (lent p st) early some enough most
+          ∙ perform-all (Put input) (lent p st) early some (omega (arith, enough)) most

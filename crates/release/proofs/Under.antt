@@ -18,7 +18,7 @@ use Rattle.release.specs.Release.{Releasable, turnedTo}
 use Rattle.release.proofs.Laws.{turned-tables}
 
 -- a held link leads nowhere, or to one of the pieces
-held-below : {rank : ℕ → ℕ} {fl : List ℕ} (T : Tables) (n : ℕ) → SoundBy rank (n ∷ fl) T → n ≤ pieceTotal T
+pub held-below : {rank : ℕ → ℕ} {fl : List ℕ} (T : Tables) (n : ℕ) → SoundBy rank (n ∷ fl) T → n ≤ pieceTotal T
 held-below T zero S = omega arith
 held-below T (suc d) S = used-in-range T d (held-pos d S)
 

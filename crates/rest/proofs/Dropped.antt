@@ -1,15 +1,20 @@
 -- What drop leaves of a chain is what stays from the place found. Assumes nothing.
-use mathlib.Core.Path.{_≡_, refl, sym, ap, _∙_}
+use mathlib.Core.Path.{_≡_, refl, sym, ap, subst, _∙_}
 use mathlib.Core.Bool.{Bool, true, false}
-use Prim.Native.Nat.{ℕ, zero, suc, _-_}
+use Prim.Native.Nat.{ℕ, zero, suc, _-_, _<_}
 use Rattle.rules.specs.Basics.{if_then_else_}
-use Rattle.rules.specs.Tables.{Tables, piece, headOf, pieceTotal}
+use Rattle.rules.specs.Tables.{Tables, piece, headOf, pieceTotal, bufferTotal}
 use Rattle.rules.specs.Chain.{walk, ownAt}
 use Rattle.rules.specs.Build.{Plan}
 use Rattle.rules.specs.Drop.{dropPlan, dropped}
+use Rattle.rules.proofs.Moves.{SoundNow}
+use Rattle.rules.proofs.Build.{Good}
+use Rattle.rules.proofs.Drop.{dropped-planned}
 use Rattle.chain.specs.declared.Spot.{Spot}
 use Rattle.chain.specs.Find.{spotOf}
-use Rattle.rest.specs.Rest.{restFrom}
+use Rattle.rest.specs.declared.Tail.{Tail}
+use Rattle.rest.specs.Rest.{restFrom, newOf, Stays}
+use Rattle.rest.proofs.Rest.{new-one}
 
 -- what stays from a place
 abbrev restAt : Tables → Spot → Plan
@@ -37,3 +42,15 @@ module _ (T : Tables) (s off : ℕ) {head : ℕ} {at : Spot} (from : head ≡ he
   dropped-at =
       let e : spotOf (pieceTotal T) T true (headOf T s) off ≡ at = ap (λ (n : ℕ). spotOf (pieceTotal T) T true n off) (sym from) ∙ sym is in
       drop-plan-at (pieceTotal T) T true (headOf T s) off ∙ ap (λ (x : Spot). restFrom T (x .own) (x .link) (x .into)) e
+
+module _ (T : Tables) (s n : ℕ) {p : Plan} {t : Tail} (e : dropped T s n ≡ p) (is : Stays t p) where
+  -- what is still to be made is what drop makes
+  pub more-dropped : newOf t ≡ dropped T s n .more
+  more-dropped = is .more-is ∙ ap (λ (x : Plan). x .more) (sym e)
+
+  pub next-dropped : t .next ≡ dropped T s n .tail
+  next-dropped = is .tail-is ∙ ap (λ (x : Plan). x .tail) (sym e)
+
+  -- the buffer of a new piece is one of the pool's
+  pub buffer-dropped : SoundNow T → (t .length ≡ 0 → ⊥) → t .buffer .0 < bufferTotal T
+  buffer-dropped h z = subst (Good (T .stock) (bufferTotal T)) (sym more-dropped ∙ new-one t z) (dropped-planned T s n h .good) .0

@@ -1,3 +1,4 @@
 -- The laws of rest.
 pub mod Rest
 pub mod Dropped
+pub mod Freed

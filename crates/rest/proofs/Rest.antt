@@ -1,26 +1,37 @@
 -- What drop leaves from a place on, case by case. Assumes nothing.
-use mathlib.Core.Path.{_≡_, refl, sym, ap, _∙_}
+use mathlib.Core.Path.{_≡_, refl, sym, ap, subst, _∙_}
 use mathlib.Core.Bool.{Bool, true, false}
 use mathlib.Core.List.{List, [], _∷_}
-use Prim.Native.Nat.{ℕ, zero, suc, _+_, _-_, _≤_, _<_}
+use Prim.Native.Nat.{ℕ, zero, suc, pred, _+_, _-_, _≤_, _<_}
 use native.Mathlib.Numerals.{add-one}
 use native.Mathlib.Omega.{arith}
 use lib.ListN.{length}
 use lib.Seq.{getD-set-same}
-use Rattle.rules.specs.Basics.{if_then_else_}
+use lib.Dec.{eqb, eqb→eq}
+use Rattle.rules.specs.Basics.{Is, if_then_else_}
 use Rattle.rules.specs.Tables.{Piece, Tables, blank, piece, bufferCount, pieceTotal, setPiece, withCount, withPlace}
 use Rattle.rules.specs.Bytes.{decode}
 use Rattle.rules.specs.Chain.{Stretch, stretch}
+use Rattle.rules.specs.Sound.{linkOk, SoundTables}
 use Rattle.rules.specs.Room.{isFree}
 use Rattle.rules.specs.Release.{raised, shared}
-use Rattle.rules.specs.Build.{fresh, taken, built, builtLink, Plan, plain, made, madeLink}
+use Rattle.rules.specs.Build.{fresh, taken, built, builtLink, Plan, plain}
 use Rattle.rules.specs.Drop.{shorter, dropHere}
+use Rattle.rules.proofs.Logic.{if-T, if-F, eq→eqb}
+use Rattle.rules.proofs.Moves.{SoundWith, reorder}
+use Rattle.rules.proofs.Build.{Planned, plain-planned}
+use Rattle.rules.proofs.Audit.{tables-now}
+use Rattle.rules.proofs.Drop.{drop-here}
 use Rattle.layout.specs.declared.Shape.{Shape}
 use Rattle.tables.specs.Shape.{Holds}
-use Rattle.tables.proofs.Laws.{onward}
+use Rattle.tables.proofs.Laws.{total-pieces, onward}
+use Rattle.chain.proofs.Links.{link-leads}
 use Rattle.room.specs.Free.{firstFrom}
+use Rattle.release.specs.Release.{Releasable}
+use Rattle.release.proofs.Under.{held-below}
 use Rattle.build.proofs.Line.{First, freeFrom, from-first}
-use Rattle.rest.specs.Rest.{restFrom}
+use Rattle.rest.specs.declared.Tail.{Tail}
+use Rattle.rest.specs.Rest.{restFrom, newOf, copyOf, Stays}
 
 -- ---- the plan
 
@@ -58,24 +69,76 @@ module _ (T : Tables) (own : Bool) where
   rest-copy (suc d) zero i z e = absurd (z refl)
   rest-copy (suc d) (suc r) i z e = let b : suc d - 1 ≡ d = omega arith in rw (e, b)
 
--- ---- the plan carried out
+-- ---- the plan held
 
-module _ (fs : List ℕ) {h : Shape} {q : List ℕ} where
-  -- where no new piece is wanted
-  pub made-plain : (p : Plan) {base : Tables} {tail : ℕ} → p ≡ record { base = base; more = []; tail = tail } → Holds q h base → Holds q h (made p fs) × (tail ≡ madeLink p fs)
-  unfolding built builtLink
-  made-plain p e is = rw e (is, refl)
+-- from a place inside a piece in use, or past the end, it can be carried out
+pub rest-planned : (T : Tables) (own : Bool) (n r : ℕ) → SoundTables T → Is (linkOk T n) → ((n ≡ 0 → ⊥) → r < piece T (n - 1) .len) → Planned T (restFrom T own n r)
+unfolding restFrom
+rest-planned T own zero r S t i = plain-planned T [] tt (tables-now T S)
+rest-planned T own (suc d) r S t i =
+    let b : suc d - 1 ≡ d = omega arith in
+    let u : 0 < piece T d .count = rw b at (link-leads T (suc d) S t (omega arith) .used) in
+    drop-here T own d r (rw b at (i (omega arith))) u (tables-now T S)
 
-  -- where one is
-  pub made-one : (p : Plan) {base : Tables} {x : Stretch} {tail f : ℕ} {more : List ℕ} → p ≡ record { base = base; more = x ∷ []; tail = tail } → fs ≡ f ∷ more
-      → Holds q h (taken base f (fresh x tail)) → Holds q h (made p fs) × (f + 1 ≡ madeLink p fs)
+-- so a slip can be emptied then
+pub held-asks : {T : Tables} {p : Plan} {h : Shape} {q : List ℕ} → Planned T p → Holds q h (p .base) → Releasable (decode q) 0
+held-asks {p = p} d is = record {
+  others = p .tail ∷ [];
+  sound = subst (λ (X : Tables). SoundWith (0 ∷ p .tail ∷ []) X) (sym (is .is)) (d .held .0, reorder (λ x. omega arith) (d .held .1));
+}
+
+-- or take what is held, which leads nowhere or to one of the pieces
+module _ {T : Tables} {p : Plan} {h : Shape} {q : List ℕ} (d : Planned T p) (is : Holds q h (p .base)) {n : ℕ} (e : n ≡ p .tail) where
+  pub held-takes : Releasable (decode q) (pred (n + 1))
+  held-takes =
+      let k : p .tail ≡ pred (n + 1) = omega (arith, e) in
+      rw (is .is, ← k) (record { others = []; sound = d .held })
+
+  pub held-small : n ≤ h .pieces
+  held-small = omega (arith, e, held-below (p .base) (p .tail) (d .held .1), total-pieces is)
+
+-- ---- what is still to be made of it
+
+module _ {h : Shape} {q : List ℕ} (p : Plan) {t : Tail} where
+  -- nothing, where the first piece is there
+  pub held-plain : {base : Tables} {n : ℕ} → p ≡ record { base = base; more = []; tail = n } → t ≡ record { buffer = record { 0 = 0 }; offset = 0; length = 0; next = n }
+      → Holds q h base → Holds q h (p .base) × Stays t p
+  unfolding newOf if_then_else_
+  held-plain e s is = rw (e, s) (is, record { tail-is = refl; more-is = refl })
+
+  -- the new piece
+  pub held-copy : (T : Tables) (d r : ℕ) → p ≡ copyPlan T d r → r < piece T d .len → Holds q h (shared T (piece T d .next)) × (t ≡ copyOf T d r) → Holds q h (p .base) × Stays t p
+  unfolding newOf
+  held-copy T d r e l (is, s) =
+      let some = if-F (eqb (piece T d .len - r) 0) [] (stretch (shorter (piece T d) r) ∷ []) (λ z. omega (arith, eqb→eq (piece T d .len - r) 0 z)) in
+      rw (e, s) (is, record { tail-is = refl; more-is = some })
+
+-- ---- the new piece made
+
+-- a tail of no length has no new piece
+pub new-none : (t : Tail) → t .length ≡ 0 → newOf t ≡ []
+unfolding newOf
+new-none t z = if-T (eqb (t .length) 0) [] _ (eq→eqb (t .length) 0 z)
+
+pub new-one : (t : Tail) → (t .length ≡ 0 → ⊥) → newOf t ≡ record { buffer = t .buffer .0; offset = t .offset; len = t .length } ∷ []
+unfolding newOf
+new-one t z = if-F (eqb (t .length) 0) [] (record { buffer = t .buffer .0; offset = t .offset; len = t .length } ∷ []) (λ y. z (eqb→eq (t .length) 0 y))
+
+module _ (T : Tables) (fs : List ℕ) (xs : List Stretch) (n : ℕ) {h : Shape} {q : List ℕ} where
+  -- where there is none
+  pub built-none : xs ≡ [] → Holds q h T → Holds q h (built T fs xs n) × (n ≡ builtLink fs xs n)
   unfolding built builtLink
-  made-one p {f = f} e s is = rw (e, s) (is, add-one f)
+  built-none e is = rw e (is, refl)
+
+  -- where there is one
+  pub built-one : {x : Stretch} {f : ℕ} {more : List ℕ} → xs ≡ x ∷ [] → fs ≡ f ∷ more → Holds q h (taken T f (fresh x n)) → Holds q h (built T fs xs n) × (f + 1 ≡ builtLink fs xs n)
+  unfolding built builtLink
+  built-one {f = f} e s is = rw (e, s) (is, add-one f)
 
 -- the first free piece is there to take then
-pub one-free : (T : Tables) (from : ℕ) (p : Plan) {base : Tables} {x : Stretch} {tail f : ℕ} → p ≡ record { base = base; more = x ∷ []; tail = tail }
-    → length (p .more) ≤ length (freeFrom T from) → f ≡ firstFrom (isFree T) from (pieceTotal T) → First (isFree T) (pieceTotal T) from f
-one-free T from p e h ef = rw ef (from-first (isFree T) (pieceTotal T) from (omega (arith, ap (λ (q : Plan). length (q .more)) e)))
+pub one-free : (T : Tables) (from : ℕ) (t : Tail) {f : ℕ} → (t .length ≡ 0 → ⊥) → length (newOf t) ≤ length (freeFrom T from)
+    → f ≡ firstFrom (isFree T) from (pieceTotal T) → First (isFree T) (pieceTotal T) from f
+one-free T from t z h ef = rw ef (from-first (isFree T) (pieceTotal T) from (omega (arith, ap length (new-one t z))))
 
 -- ---- the stores, from the numbers that the code has
 
@@ -112,9 +175,10 @@ short-done T (suc d) r z was is =
     }
 
 -- the further reference, then the new piece
-pub rest-done : (T : Tables) (d n f : ℕ) {h : Shape} {p q : List ℕ} {b o l x : ℕ} → b ≡ piece T d .buffer → o ≡ piece T d .offset → l ≡ piece T d .len → x ≡ piece T d .next
-    → Holds p h (shared T x) → Holds q h (taken (decode p) f (fresh (record { buffer = b; offset = o + n; len = l - n }) x))
+pub rest-done : (T : Tables) (d n f : ℕ) {h : Shape} {p q : List ℕ} {t : Tail} → Holds p h (shared T (piece T d .next)) × (t ≡ copyOf T d n)
+    → Holds q h (taken (decode p) f (fresh (record { buffer = t .buffer .0; offset = t .offset; len = t .length }) (t .next)))
     → Holds q h (taken (shared T (piece T d .next)) f (fresh (stretch (shorter (piece T d) n)) (piece T d .next)))
-rest-done T d n f {b = b} {o = o} {l = l} {x = x} eb eo el ex was is =
-    let now = onward was (λ (U : Tables). taken U f (fresh (record { buffer = b; offset = o + n; len = l - n }) x)) is in
-    record { shaped = now .shaped; is = now .is ∙ rw (eb, eo, el, ex) }
+rest-done T d n f {t = t} (was, e) is =
+    let put : Tables → Tail → Tables = λ U x. taken U f (fresh (record { buffer = x .buffer .0; offset = x .offset; len = x .length }) (x .next)) in
+    let now = onward was (λ (U : Tables). put U t) is in
+    record { shaped = now .shaped; is = now .is ∙ ap (put (shared T (piece T d .next))) e }

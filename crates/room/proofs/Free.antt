@@ -218,3 +218,22 @@ module _ (f : ℕ → Bool) (k n : ℕ) where
   -- some are: none that passes is below the lowest
   pub room-some : {r : ℕ} {b : Bool} → (k ≡ 0 → ⊥) → r ≡ firstFrom f 0 n → b ≡ enoughFrom f k r n → RoomFor f k n r b
   room-some h e w = (e ∙ sym (lowest-some f k n h), w ∙ ap (λ (l : List ℕ). leb k (length l)) (places-skip f n e))
+
+-- where i does not pass, those from i on are those after it
+under-from : (f : ℕ → Bool) (i k j : ℕ) → (Is (f i) → ⊥) → j ≡ k - 1 → places f i k ≡ places f (suc i) j
+unfolding places
+under-from f i zero j h e = let z : j ≡ 0 = omega arith in ap (places f (suc i)) (sym z)
+under-from f i (suc k) j h e = let z : j ≡ k = omega arith in if-F (f i) (i ∷ places f (suc i) k) (places f (suc i) k) h ∙ ap (places f (suc i)) (sym z)
+
+-- where none from i on and below j passes, those from j on are those from i on
+pub places-between : (f : ℕ → Bool) (i j n : ℕ) → i ≤ j → ((d : ℕ) → i ≤ d → d < j → Is (f d) → ⊥) → places f j (n - j) ≡ places f i (n - i)
+places-between f i zero n l h = let z : 0 ≡ i = omega arith in ap (λ (x : ℕ). places f x (n - x)) z
+places-between f i (suc j) n l h =
+    elim (decLt j i) [
+      | yes k ↦ (let z : suc j ≡ i = omega arith in ap (λ (x : ℕ). places f x (n - x)) z)
+      | no k ↦ (sym (under-from f j (n - j) (n - suc j) (h j (omega arith) (omega arith)) (omega arith)) ∙ places-between f i j n (omega arith) (λ d a b. h d a (omega arith)))
+    ]
+
+-- so where none below i passes, those from i on are all
+pub places-under : (f : ℕ → Bool) (i n : ℕ) → ((d : ℕ) → d < i → Is (f d) → ⊥) → places f i (n - i) ≡ places f 0 n
+places-under f i n h = let z : n - 0 ≡ n = omega arith in places-between f 0 i n (omega arith) (λ d _ l. h d l) ∙ ap (places f 0) z

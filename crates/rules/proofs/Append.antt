@@ -298,7 +298,7 @@ module _ (a b : ℕ) (S : State) (la : a < slipTotal (S .tables)) (za : 0 < slip
       let g = joined-gives a b S ne la lb za h r in
       let own = ownOf T a in
       let new = take (length (notOwn T a)) (freePieces T) in
-      took T T′ (want 0 (length (notOwn T a)) 0) a h′ (omega arith)
+      took T T′ 0 (length (notOwn T a)) 0 a h′ (omega arith)
       (λ u n. elim (ℕ-discrete u b) [
         | yes e ↦ old-none T T′ u h′ (g .entries u n ∙ ap (slip T₁) e ∙ gone)
         | no e ↦
@@ -333,7 +333,7 @@ append-leaves a b S h f al =
     (λ e h′. then-reading refl r (taker-reading a b S la za lb zb ne h (eqb→eq (headOf T a) 0 e) h′))
     (λ na. if-either P (eqb (headOf T b) 0) _ _
     (λ e _. then-reading refl r (stayer-reading a b S la za lb zb ne h (eqb→eq (headOf T b) 0 e)))
-    (λ nb h′. then-reading refl r (joined-reading a b S la za lb zb ne h f h′ (wanted-rest T a b (al .pieces-room) na nb))))
+    (λ nb h′. then-reading refl r (joined-reading a b S la za lb zb ne h f h′ (wanted-rest T a b (omega (arith, al .pieces-room)) na nb))))
 
 -- a chain is empty where it has no bytes
 meets-none : (T : Tables) (n : ℕ) (l : List ℕ) → Meets T n l → Good (T .stock) (bufferTotal T) (stretches T l)
@@ -377,5 +377,5 @@ append-lawful a b = record {
   known = λ S _. (inl (inl refl), (inl (inr refl), tt));
   caused = append-caused a b;
   leaves = append-leaves a b;
-  takes = λ S h al h′. (let ((la, za), (lb, zb), ne) = both-named (S .tables) a b (al .early) in append-takes a b S la za lb zb ne h h′ (al .pieces-room));
+  takes = λ S h al h′. (let ((la, za), (lb, zb), ne) = both-named (S .tables) a b (al .early) in append-takes a b S la za lb zb ne h h′ (omega (arith, al .pieces-room)));
 }

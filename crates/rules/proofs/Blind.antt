@@ -11,7 +11,7 @@ use Rattle.rules.specs.Basics.{bit, sumTo, anyTo, table, member}
 use Rattle.rules.specs.Tables.{Piece, Tables, blank, piece, headOf, pieceTotal, bufferTotal, withCount, withBoth}
 use Rattle.rules.specs.Chain.{walk, chain}
 use Rattle.rules.specs.Sound.{leads, heads}
-use Rattle.rules.specs.Rule.{want}
+use Rattle.rules.specs.Rule.{spare}
 use Rattle.rules.specs.Recount.{reached, references, holders, countedBy, recounted, leaves, Blind}
 use Rattle.rules.proofs.Bytes.{length-table, getD-table, table-same}
 
@@ -51,7 +51,7 @@ module _ {T T′ : Tables} (a : Alike T T′) where
   leaves-alike : leaves T ≡ leaves T′
   unfolding leaves
   leaves-alike =
-      λ i. want (sumTo (length (a .slips i)) (λ s. bit (eqb (getD (a .slips i) s 0) 0)))
+      λ i. spare (sumTo (length (a .slips i)) (λ s. bit (eqb (getD (a .slips i) s 0) 0)))
       (sumTo (a .pieces i) (λ d. bit (not (reached-alike d i))))
       (sumTo (a .buffers i) (λ b. bit (eqb (holders-alike b i) 0)))
 

@@ -14,7 +14,7 @@ use Rattle.rules.specs.Chain.{Stretch, State, ownPieces, withTables}
 use Rattle.rules.specs.Release.{shared, relinked}
 use Rattle.rules.specs.Build.{fresh, built, builtLink, Plan, plain, made, madeLink, underNew, underOld, behindOwn}
 use Rattle.rules.proofs.Logic.{if-either}
-use Rattle.rules.proofs.Moves.{SoundBy, SoundWith, SoundNow, hit, used-in-range, reorder, slip-move, share-move, take-move, above, relink-move}
+use Rattle.rules.proofs.Moves.{SoundBy, SoundWith, SoundNow, hit, by-place, used-in-range, reorder, slip-move, share-move, take-move, above, relink-move}
 use Rattle.rules.proofs.Release.{release-sound, turned-sound}
 
 -- ---- a further reference to a link
@@ -122,26 +122,32 @@ relink-deep (suc k) T n l m {fl} (d, e, c, o) (rank, S) =
     (λ x. omega (arith, ap (λ y. hit y x) e, ap (λ (q : Piece). hit (q .next) x) here, ap (λ (q : Piece). hit (q .next) x) pl)) S₂ in
     subst (λ q. SoundWith (n ∷ piece T l .next ∷ fl) (withPieces T q)) same (above (r .0) d (pd .next), S₃)
 
--- ---- what an operation's first steps leave alone: sizes, slips, buffers' counts, and which pieces are free
+-- ---- what an operation's first steps leave alone: sizes, slips, buffers' counts, which pieces are free, and on which buffer each lies
 
 pub record Still (T T′ : Tables) : Type 0 where
   pub kept : Kept T T′
   pub counts-still : T′ .counts ≡ T .counts
   pub free-still : (d : ℕ) → piece T d .count ≡ 0 → piece T′ d .count ≡ 0
+  pub used-still : (d : ℕ) → 0 < piece T d .count → 0 < piece T′ d .count
+  pub on-still : (d : ℕ) → piece T′ d .buffer ≡ piece T d .buffer
 
 pub still-refl : (T : Tables) → Still T T
 still-refl T = record {
   kept = record { slips-kept = refl; pieces-size = refl; counts-size = refl; stock-kept = refl };
   counts-still = refl;
   free-still = λ d e. e;
+  used-still = λ d u. u;
+  on-still = λ d. refl;
 }
 
--- a store to a piece in use
-pub still-store : (T : Tables) (d : ℕ) (p : Piece) → 0 < piece T d .count → Still T (setPiece T d p)
-still-store T d p h = record {
+-- a store to a piece in use, which stays so on its buffer
+pub still-store : (T : Tables) (d : ℕ) (p : Piece) → 0 < piece T d .count → 0 < p .count → p .buffer ≡ piece T d .buffer → Still T (setPiece T d p)
+still-store T d p h u o = record {
   kept = record { slips-kept = refl; pieces-size = length-set (T .pieces) d p; counts-size = refl; stock-kept = refl };
   counts-still = refl;
   free-still = λ x e. ap (λ (q : Piece). q .count) (getD-set-other (T .pieces) d x p blank (λ y. (let q = ap (λ z. piece T z .count) y in omega arith))) ∙ e;
+  used-still = by-place (T .pieces) d p blank (used-in-range T d h) (λ q x. 0 < piece T x .count → 0 < q .count) (λ _. u) (λ x _ k. k);
+  on-still = by-place (T .pieces) d p blank (used-in-range T d h) (λ q x. q .buffer ≡ piece T x .buffer) o (λ x _. refl);
 }
 
 pub still-trans : {A B C : Tables} → Still A B → Still B C → Still A C
@@ -154,11 +160,13 @@ still-trans s t = record {
   };
   counts-still = t .counts-still ∙ s .counts-still;
   free-still = λ d e. t .free-still d (s .free-still d e);
+  used-still = λ d u. t .used-still d (s .used-still d u);
+  on-still = λ d. t .on-still d ∙ s .on-still d;
 }
 
 pub still-shared : (T : Tables) (n : ℕ) → ((d : ℕ) → n ≡ suc d → 0 < piece T d .count) → Still T (shared T n)
 still-shared T zero h = still-refl T
-still-shared T (suc d) h = still-store T d (withCount (piece T d) (suc (piece T d .count))) (h d refl)
+still-shared T (suc d) h = still-store T d (withCount (piece T d) (suc (piece T d .count))) (h d refl) (omega arith) refl
 
 pub free-of-still : {T T′ : Tables} (fs : List ℕ) → Still T T′ → Free T fs → Free T′ fs
 free-of-still [] s f = tt
@@ -178,13 +186,13 @@ plan-built {T} p fs h f =
 pub made-slips : {T : Tables} (p : Plan) (fs : List ℕ) → Planned T p → made p fs .slips ≡ T .slips
 made-slips {T} p fs h = built-kept (p .base) fs (p .more) (p .tail) .slips-kept ∙ h .still .kept .slips-kept
 
-pub new-sound : {T : Tables} (p : Plan) (fs : List ℕ) (t : ℕ) → Planned T p → Free T fs → t < length (T .slips) → slip T t ≡ 0 → SoundNow (underNew p fs t)
+pub new-sound : {T : Tables} (p : Plan) (fs : List ℕ) (t : ℕ) → Planned T p → Free T fs → t < length (T .slips) → headOf T t ≡ 0 → SoundNow (underNew p fs t)
 unfolding underNew
 new-sound {T} p fs t h f l z =
     let e = made-slips p fs h in
     let r = plan-built p fs h f in (
       r .0,
-      reorder (λ d. omega (arith, ap (λ (q : List ℕ). hit (pred (getD q t 0)) d) e, ap (λ v. hit (pred v) d) z))
+      reorder (λ d. omega (arith, ap (λ (q : List ℕ). hit (pred (getD q t 0)) d) e, ap (λ v. hit v d) z))
           (slip-move t (holding (madeLink p fs)) (subst (λ (q : List ℕ). t < length q) (sym e) l) (r .1)),
     )
 

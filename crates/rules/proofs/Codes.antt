@@ -3,16 +3,17 @@ use mathlib.Core.Path.{_≡_, refl, sym, ap, subst, _∙_}
 use mathlib.Core.Logic.{_≢_, _↔_, ⊎-elim}
 use mathlib.Core.Bool.{Bool, true, false, not, _&&_, _||_}
 use mathlib.Core.List.{List, [], _∷_, _++_, List·Memᴰ, List·Memᴰ·not-nil, List·Memᴰ·cases-cons}
-use Prim.Native.Nat.{ℕ, _≤_, _<_}
+use Prim.Native.Nat.{ℕ, _+_, _≤_, _<_}
 use native.Mathlib.Decide.{ℕ-discrete, decLt}
 use native.Mathlib.Omega.{arith}
+use lib.ListN.{length}
 use lib.Dec.{T-not, not-T, leb, leb→le, ltb, ltb→lt, lt→ltb, eqb, eqb→eq}
 use Rattle.kinds.specs.declared.Refusal.{Refusal}
 use Rattle.kinds.specs.declared.Refusal.the-variants.{Counts, Torn, Slip, Same, Long, Range, Narrow, Slips, Pieces, Buffers, WireList}
 use Rattle.kinds.specs.Refusal.{refusalCode}
 use Rattle.rules.specs.Basics.{Is, if_then_else_}
 use Rattle.rules.specs.Tables.{Tables, slip, slipTotal}
-use Rattle.rules.specs.Rule.{Judged, _⇐_, firstCode, unnamed, Wants, want, room, Rule, full, codeIn}
+use Rattle.rules.specs.Rule.{Judged, _⇐_, firstCode, unnamed, Wants, want, Spare, room, Rule, full, codeIn}
 use Rattle.rules.proofs.Logic.{if-T, if-F, if-either, and-0, and-1, not-not, not-zero, not-most, eq→eqb, or-none}
 
 pub refusal-pos : (r : Refusal) → 0 < refusalCode r
@@ -57,11 +58,12 @@ first-append (j ∷ js) ks =
 
 -- ---- "full"
 
-pub record Full (w r : Wants) : Type 0 where
-  pub none : firstCode (full w r) ≡ 0 → (w .slips ≤ r .slips) × (w .pieces ≤ r .pieces) × (w .buffers ≤ r .buffers)
+pub record Full (w : Wants) (r : Spare) : Type 0 where
+  pub none : firstCode (full w r) ≡ 0 → (w .slips ≤ r .slips) × (w .pieces ≤ length (w .back) + r .pieces) × (w .buffers ≤ r .buffers)
   pub slips : (firstCode (full w r) ≡ refusalCode Slips) ↔ (r .slips < w .slips)
-  pub pieces : (firstCode (full w r) ≡ refusalCode Pieces) ↔ ((w .slips ≤ r .slips) × (r .pieces < w .pieces))
-  pub buffers : (firstCode (full w r) ≡ refusalCode Buffers) ↔ ((w .slips ≤ r .slips) × (w .pieces ≤ r .pieces) × (r .buffers < w .buffers))
+  pub pieces : (firstCode (full w r) ≡ refusalCode Pieces) ↔ ((w .slips ≤ r .slips) × (length (w .back) + r .pieces < w .pieces))
+  pub buffers : (firstCode (full w r) ≡ refusalCode Buffers)
+      ↔ ((w .slips ≤ r .slips) × (w .pieces ≤ length (w .back) + r .pieces) × (r .buffers < w .buffers))
   pub others : (firstCode (full w r) ≡ 0 → ⊥) → refusalCode Slips ≤ firstCode (full w r)
 
 pub first-yes : (j : Judged) (js : List Judged) → Is (j .applies) → firstCode (j ∷ js) ≡ refusalCode (j .refusal)
@@ -79,19 +81,20 @@ first-none = refl
 less-no : (m n : ℕ) → ¬ (m < n) → Is (ltb m n) → ⊥
 less-no m n h t = h (ltb→lt m n t)
 
-pub full-facts : (w r : Wants) → Full w r
+pub full-facts : (w : Wants) (r : Spare) → Full w r
 full-facts w r =
+    let p = length (w .back) + r .pieces in
     let a : Judged = Slips ⇐ ltb (r .slips) (w .slips) in
-    let b : Judged = Pieces ⇐ ltb (r .pieces) (w .pieces) in
+    let b : Judged = Pieces ⇐ ltb p (w .pieces) in
     let c : Judged = Buffers ⇐ ltb (r .buffers) (w .buffers) in
     elim (decLt (r .slips) (w .slips)) [
       | yes h ↦ omega (arith, first-yes a (b ∷ c ∷ []) (lt→ltb (r .slips) (w .slips) h))
       | no h ↦ (
           let e = first-no a (b ∷ c ∷ []) (less-no (r .slips) (w .slips) h) in
-          elim (decLt (r .pieces) (w .pieces)) [
-            | yes k ↦ omega (arith, first-yes b (c ∷ []) (lt→ltb (r .pieces) (w .pieces) k))
+          elim (decLt p (w .pieces)) [
+            | yes k ↦ omega (arith, first-yes b (c ∷ []) (lt→ltb p (w .pieces) k))
             | no k ↦ (
-                let f = first-no b (c ∷ []) (less-no (r .pieces) (w .pieces) k) in
+                let f = first-no b (c ∷ []) (less-no p (w .pieces) k) in
                 elim (decLt (r .buffers) (w .buffers)) [
                   | yes l ↦ omega (arith, first-yes c [] (lt→ltb (r .buffers) (w .buffers) l))
                   | no l ↦ omega (arith, first-no c [] (less-no (r .buffers) (w .buffers) l), first-none)
@@ -100,10 +103,10 @@ full-facts w r =
     ]
 
 -- nothing wanted is never too much
-pub none-full : (r : Wants) → firstCode (full (want 0 0 0) r) ≡ 0
+pub none-full : (r : Spare) → firstCode (full (want 0 0 0) r) ≡ 0
 none-full r =
     first-no (Slips ⇐ ltb (r .slips) 0) _ (λ t. omega (arith, ltb→lt (r .slips) 0 t))
-    ∙ first-no (Pieces ⇐ ltb (r .pieces) 0) _ (λ t. omega (arith, ltb→lt (r .pieces) 0 t))
+    ∙ first-no (Pieces ⇐ ltb (0 + r .pieces) 0) _ (λ t. omega (arith, ltb→lt (0 + r .pieces) 0 t))
     ∙ first-no (Buffers ⇐ ltb (r .buffers) 0) [] (λ t. omega (arith, ltb→lt (r .buffers) 0 t)) ∙ first-none
 
 -- ---- a call that is done
@@ -112,7 +115,7 @@ none-full r =
 pub record Allowed (r : Rule) (T : Tables) : Type 0 where
   pub early : firstCode (r .judged) ≡ 0
   pub slips-room : r .wants .slips ≤ room T .slips
-  pub pieces-room : r .wants .pieces ≤ room T .pieces
+  pub pieces-room : r .wants .pieces ≤ length (r .wants .back) + room T .pieces
   pub buffers-room : r .wants .buffers ≤ room T .buffers
 
 pub allowed : (r : Rule) (T : Tables) → codeIn r T ≡ 0 → Allowed r T

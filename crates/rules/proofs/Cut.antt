@@ -2,7 +2,7 @@
 use mathlib.Core.Path.{_≡_, refl, ap}
 use mathlib.Core.Logic.{inr}
 use mathlib.Core.List.{[], append-nil}
-use Prim.Native.Nat.{ℕ, _<_, _≤_, _+_}
+use Prim.Native.Nat.{ℕ, _<_, _≤_, _+_, pred}
 use native.Mathlib.Omega.{arith}
 use lib.ListN.{length, take, drop, length-take, length-drop}
 use Rattle.rules.specs.Basics.{if_then_else_}
@@ -34,7 +34,7 @@ unfolding cutAfter
 cut-sound s off n S h g =
     let T = S .tables in
     let xs = cutOut (spans T s) off n in
-    new-sound (plain T xs) (freePieces T) (newSlip T) (plain-planned T xs (cutOut-good (T .stock) (bufferTotal T) (spans T s) off n (spans-good T s g)) g) (free-pieces T) (new-slip-ok T h .0) (new-slip-ok T h .1)
+    new-sound (plain T xs) (freePieces T) (newSlip T) (plain-planned T xs (cutOut-good (T .stock) (bufferTotal T) (spans T s) off n (spans-good T s g)) g) (free-pieces T) (new-slip-ok T h .0) (ap pred (new-slip-ok T h .1))
 
 -- what cut leaves: the new slip holds one new piece for each stretch of the range
 pub cut-gives : (s off n : ℕ) (S : State) → SoundNow (S .tables) → 0 < length (vacantSlips (S .tables)) → length (cutOut (spans (S .tables) s) off n) ≤ length (freePieces (S .tables))
@@ -60,7 +60,7 @@ cut-exact s off n S h f a =
 cut-leaves : (s off n : ℕ) → Leaving (cutCall s off n)
 unfolding cutAfter
 cut-leaves s off n S h f a h′ =
-    gives-reading S (cutAfter s off n S) (S .storage) (newSlip (S .tables)) _ _ _ (cut-gives s off n S h (a .slips-room) (a .pieces-room)) h h′
+    gives-reading S (cutAfter s off n S) (S .storage) (newSlip (S .tables)) _ _ _ (cut-gives s off n S h (a .slips-room) (omega (arith, a .pieces-room))) h h′
     (λ u. refl) (λ u. refl)
     (cutOut-contents (S .tables .stock) (bufferTotal (S .tables)) (S .storage) (spans (S .tables) s) off n f (spans-good (S .tables) s h))
 
@@ -68,7 +68,7 @@ cut-takes : (s off n : ℕ) → Taking (cutCall s off n)
 cut-takes s off n S h a h′ =
     let T = S .tables in
     let xs = cutOut (spans T s) off n in
-    took-new T _ _ _ h h′ (cut-gives s off n S h (a .slips-room) (a .pieces-room)) (length xs) 0 (roomy a)
+    took-new T _ _ _ h h′ (cut-gives s off n S h (a .slips-room) (omega (arith, a .pieces-room))) (length xs) 0 (roomy a)
     (new-pass (isFree T) (pieceTotal T) (length xs)) (passing-none (isUnheld T) (buffersOf xs) (cutOut-none (isUnheld T) (spans T s) off n (spans-none T s h)))
 
 cut-caused : (s off n : ℕ) → Causing (cutCall s off n)

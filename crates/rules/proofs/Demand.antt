@@ -3,9 +3,10 @@ use mathlib.Core.Path.{_≡_, refl, sym, ap, subst, _∙_}
 use mathlib.Core.Logic.{_≢_, _↔_}
 use mathlib.Core.Bool.{not}
 use mathlib.Core.List.{List, [], _∷_}
-use Prim.Native.Nat.{ℕ, _≤_, _<_}
+use Prim.Native.Nat.{ℕ, _+_, _≤_, _<_}
 use native.Mathlib.Decide.{ℕ-discrete}
 use native.Mathlib.Omega.{arith}
+use lib.ListN.{length}
 use lib.Dec.{eqb, eqb→eq, T-not, not-T}
 use Rattle.kinds.specs.declared.Refusal.the-variants.{Counts, Torn, Slips, Pieces, Buffers}
 use Rattle.kinds.specs.Refusal.{refusalCode}
@@ -14,33 +15,35 @@ use Rattle.rules.specs.Tables.{Tables}
 use Rattle.rules.specs.Bytes.{decode}
 use Rattle.rules.specs.Chain.{stateOf, withTables}
 use Rattle.rules.specs.Sound.{Lent, lent, sound}
-use Rattle.rules.specs.Rule.{_⇐_, firstCode, Wants, want, room, full}
+use Rattle.rules.specs.Rule.{_⇐_, firstCode, Wants, want, Spare, room, full}
 use Rattle.rules.specs.Open.{openable}
 use Rattle.rules.specs.Step.{Operation, Call, Open, Do, rule, Result, step, stateIn, next, afterCalls}
 use Rattle.rules.specs.Recount.{countedBy, recounted, leaves}
-use Rattle.rules.specs.Demand.{early, wanted, left, CallOk, Each, DemandThree}
+use Rattle.rules.specs.Demand.{early, wanted, GivesFirstOf, left, CallOk, Each, DemandThree}
+use Rattle.rules.specs.Back.{GivesFirst}
 use Rattle.rules.proofs.Logic.{if-T, if-F, if-either, eq→eqb}
 use Rattle.rules.proofs.Audit.{sound-now}
 use Rattle.rules.proofs.Recount.{recount, recounted-same, leaves-room}
-use Rattle.rules.proofs.Codes.{first-yes, first-no, first-none, first-append, none-full, Full, full-facts, Other}
+use Rattle.rules.proofs.Codes.{first-yes, first-no, first-none, first-zero, first-append, none-full, Full, full-facts, Other}
 use Rattle.rules.proofs.Calls.{judged-early}
 use Rattle.rules.proofs.Causes.{exactly, early-ok}
 use Rattle.rules.proofs.Blind.{blind, recounted-blind}
+use Rattle.rules.proofs.Back.{rule-first}
 use Rattle.rules.proofs.Step.{code-is, opened-sound, step-keeps}
 
 -- ---- one call
 
 -- an early code, and else the code of what lacks room
-record Judging (c e : ℕ) (w r : Wants) : Type 0 where
+record Judging (c e : ℕ) (w : Wants) (r : Spare) : Type 0 where
   when-early : e ≢ 0 → c ≡ e
   when-not : e ≡ 0 → c ≡ firstCode (full w r)
   other : Other e
 
-judging : (c e : ℕ) (w r : Wants) → Judging c e w r
+judging : (c e : ℕ) (w : Wants) (r : Spare) → Judging c e w r
     → (c ≢ refusalCode Torn)
     × ((c ≡ refusalCode Slips) ↔ ((e ≡ 0) × (r .slips < w .slips)))
-    × ((c ≡ refusalCode Pieces) ↔ ((e ≡ 0) × (w .slips ≤ r .slips) × (r .pieces < w .pieces)))
-    × ((c ≡ refusalCode Buffers) ↔ ((e ≡ 0) × (w .slips ≤ r .slips) × (w .pieces ≤ r .pieces) × (r .buffers < w .buffers)))
+    × ((c ≡ refusalCode Pieces) ↔ ((e ≡ 0) × (w .slips ≤ r .slips) × (length (w .back) + r .pieces < w .pieces)))
+    × ((c ≡ refusalCode Buffers) ↔ ((e ≡ 0) × (w .slips ≤ r .slips) × (w .pieces ≤ length (w .back) + r .pieces) × (r .buffers < w .buffers)))
 judging c e w r j =
     elim (ℕ-discrete e 0) [
       | yes z ↦ (
@@ -96,6 +99,16 @@ call-judging : (c : Call) (m : Lent) → Is (sound m) → Judging (step c m .cod
 call-judging (Open B P S) m t = open-judging B P S m
 call-judging (Do o) m t = do-judging o m t
 
+-- what is given back first
+first-ok : (c : Call) (m : Lent) → Is (sound m) → GivesFirstOf c m
+unfolding early wanted
+first-ok (Open B P S) m t = refl
+first-ok (Do o) m t =
+    let T = decode (m .pool) in
+    let h = sound-now m t in
+    λ e. subst (GivesFirst o T) (sym (ap (λ (X : Tables). rule o (withTables (stateIn m) X) .wants) (recounted-same T h)))
+    (rule-first o (stateIn m) h (first-zero (Torn ⇐ not (sound m)) (rule o (stateIn m) .judged) e .1))
+
 -- what is wanted is read from no stored count
 wanted-blind : (c : Call) (m : Lent) (q : List ℕ) (f g : ℕ → ℕ) → decode q ≡ countedBy (decode (m .pool)) f g
     → wanted c (lent q (m .storage)) ≡ wanted c m
@@ -114,6 +127,7 @@ call-ok c m t =
       buffers-full = j .3;
       exactly = exactly c m;
       early-ok = early-ok c m;
+      gives-first = first-ok c m t;
       blind = λ q f g e. (wanted-blind c m q f g e, ap leaves e ∙ blind (decode (m .pool)) f g .same-leaves);
     }
 

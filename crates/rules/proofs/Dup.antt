@@ -2,7 +2,7 @@
 use mathlib.Core.Path.{_≡_, refl, ap, sym, _∙_}
 use mathlib.Core.Logic.{inr}
 use mathlib.Core.List.{[], _∷_, List, _++_}
-use Prim.Native.Nat.{ℕ, zero, suc, _<_, _≤_, min}
+use Prim.Native.Nat.{ℕ, zero, suc, _<_, _≤_, min, pred}
 use native.Mathlib.Omega.{arith}
 use lib.ListN.{length, take, drop}
 use Rattle.rules.specs.Basics.{if_then_else_}
@@ -38,7 +38,7 @@ pub dup-sound : (s : ℕ) (S : State) → 0 < length (vacantSlips (S .tables)) �
 unfolding dupAfter
 dup-sound s S h (rank, g) =
     let T = S .tables in
-    new-sound (dupPlan T (headOf T s)) (freePieces T) (newSlip T) (dup-planned T (headOf T s) (λ d q. head-pos s d g q) (rank, g)) (free-pieces T) (new-slip-ok T h .0) (new-slip-ok T h .1)
+    new-sound (dupPlan T (headOf T s)) (freePieces T) (newSlip T) (dup-planned T (headOf T s) (λ d q. head-pos s d g q) (rank, g)) (free-pieces T) (new-slip-ok T h .0) (ap pred (new-slip-ok T h .1))
 
 -- the chain before the new piece: what is behind the head
 dup-meets : (T : Tables) (n : ℕ) (l : List ℕ) → ((d : ℕ) → n ≡ suc d → 0 < piece T d .count) → SoundNow T → Meets T n l
@@ -79,14 +79,14 @@ dup-leaves : (s : ℕ) → Leaving (dupCall s)
 unfolding dupAfter
 dup-leaves s S h _ a h′ =
     let T = S .tables in
-    gives-reading S (dupAfter s S) (S .storage) (newSlip T) _ (spans T s) (reads S s) (dup-gives s S h (a .slips-room) (a .pieces-room)) h h′
+    gives-reading S (dupAfter s S) (S .storage) (newSlip T) _ (spans T s) (reads S s) (dup-gives s S h (a .slips-room) (omega (arith, a .pieces-room))) h h′
     (λ u. refl) (λ u. refl) refl
 
 dup-takes : (s : ℕ) → Taking (dupCall s)
 dup-takes s S h a h′ =
     let T = S .tables in
     let k = length (dupPlan T (headOf T s) .more) in
-    took-new T _ _ _ h h′ (dup-gives s S h (a .slips-room) (a .pieces-room)) k 0 (roomy a)
+    took-new T _ _ _ h h′ (dup-gives s S h (a .slips-room) (omega (arith, a .pieces-room))) k 0 (roomy a)
     (new-front T k (drop k (chain T s)) (used-drop T k (chain T s) (chain-used T s h))) (passing-none (isUnheld T) (buffersOf (spans T s)) (spans-none T s h))
 
 -- it wants a piece where its chain has bytes

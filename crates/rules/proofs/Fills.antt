@@ -8,7 +8,7 @@ use native.Mathlib.Omega.{arith}
 use lib.ListN.{length, getD, take, drop, replicate, length-append, length-take, length-drop, length-replicate, take-append-drop, getD-replicate}
 use lib.ListN.{replicate-append-replicate, drop-of-length-le, List·getD-append, List·getD-eq-default}
 use lib.Seq.{take-all, take-at, drop-at, getD-take, getD-append-add}
-use lib.Dec.{leb, leb→le, T-not}
+use lib.Dec.{eqb→eq, leb, leb→le, T-not}
 use Rattle.kinds.specs.Limits.{bufferSize}
 use Rattle.kinds.specs.Sizes.{sizeOf, startOf}
 use Rattle.kinds.proofs.Sizes.{start-step, size-one}
@@ -18,9 +18,10 @@ use Rattle.rules.specs.Bytes.{decode}
 use Rattle.rules.specs.Chain.{Stretch, State, chain, spans, total, firstLength, lengthOf, bytesOf, contents, reads, withStorage}
 use Rattle.rules.specs.Sound.{Lent}
 use Rattle.rules.specs.Room.{isUnheld, freePieces, freeBuffers, newBuffers}
-use Rattle.rules.specs.Build.{Plan, plain, underOld, buffersFor, laid, filledAt, filled, stored}
-use Rattle.rules.specs.Rule.{Wants, want}
+use Rattle.rules.specs.Build.{Plan, plain, underOld, underFreed, buffersFor, laid, filledAt, filled, stored}
+use Rattle.rules.specs.Rule.{Wants, want, giving}
 use Rattle.rules.specs.Put.{putAfter}
+use Rattle.rules.specs.Drop.{dropped, dropBack}
 use Rattle.rules.specs.Pullup.{pulled, pullupAfter, pullupWants}
 use Rattle.rules.specs.Pack.{packAfter, packWants}
 use Rattle.rules.specs.Step.{Operation, Audit, Put, Free, Dup, Cut, Append, Drop, Keep, Pullup, Pack, Length, Read, Show, WireList}
@@ -38,6 +39,7 @@ use Rattle.rules.proofs.Codes.{Allowed, allowed, no-cause, first-named}
 use Rattle.rules.proofs.Sizes.{made-sizes, new-length}
 use Rattle.rules.proofs.Storage.{wholeOf, Keeps, old-keeps}
 use Rattle.rules.proofs.After.{reads-length}
+use Rattle.rules.proofs.Freed.{emptied-keeps}
 use Rattle.rules.proofs.Put.{new-good}
 use Rattle.rules.proofs.Pullup.{pulled-planned}
 use Rattle.rules.proofs.Calls.{takes}
@@ -123,15 +125,15 @@ wholes-total Z (b ∷ bs) = omega (arith, size-one Z b, wholes-total Z bs)
 
 -- ---- what a release leaves
 
--- where references are released, the buffers that are held afterwards have the bytes that they had
+-- where references are released, buffers that are not set free have the bytes that they had
 kept-wholes : {S S′ : State} (Z : List ℕ) (f : ℕ → Bool) (i B : ℕ) (bs : List ℕ) → S .tables .stock ≡ Z → bufferTotal (S .tables) ≡ B → Keeps S S′
-    → AllIn f i B bs → ((b : ℕ) → Is (f b) → 0 < bufferCount (S′ .tables) b) → contents Z (S′ .storage) (wholes Z bs) ≡ contents Z (S .storage) (wholes Z bs)
+    → AllIn f i B bs → ((b : ℕ) → Is (f b) → 0 < bufferCount (S .tables) b → 0 < bufferCount (S′ .tables) b) → contents Z (S′ .storage) (wholes Z bs) ≡ contents Z (S .storage) (wholes Z bs)
 unfolding contents wholes
 kept-wholes Z f i B [] e l k a u = refl
 kept-wholes {S} {S′} Z f i B (b ∷ bs) e l k a u =
     ap₂ _++_
     (subst (λ (Y : List ℕ). bytesOf Y (S′ .storage) (wholeOf Y b) ≡ bytesOf Y (S .storage) (wholeOf Y b)) e
-    (k .others b (omega (arith, a .1)) (λ _. u b (a .2))))
+    (k .others b (omega (arith, a .1)) (u b (a .2))))
     (kept-wholes Z f (suc b) B bs e l k (a .3) u)
 
 -- ---- every call
@@ -160,7 +162,20 @@ module _ (S : State) (f : Fit (S .tables .stock) (bufferTotal (S .tables)) (S .s
       kept-wholes (T .stock) taken 0 (bufferTotal T) bs (z .stock-kept) (z .counts-size)
       (old-keeps S₁ p (freePieces T) s h (free-pieces T) b (new-length S k xs f ∙ f))
       (subst (AllIn taken 0 (bufferTotal T)) e (all-free taken (bufferTotal T)))
-      (λ x t. not-zero (bufferCount T′ x) (T-not (isUnheld T′ x) (and-1 (isUnheld T x) _ t)))
+      (λ x t _. not-zero (bufferCount T′ x) (T-not (isUnheld T′ x) (and-1 (isUnheld T x) _ t)))
+      ∙ new-filled k xs r l
+
+  -- or where the old chain is released first
+  freed-filled : (k : ℕ) (xs : List ℕ) (p : Plan) (s : ℕ) → Planned (S .tables) p → s < slipTotal (S .tables) → k ≤ length (freeBuffers (S .tables)) → length xs ≤ bufferSize * k
+      → Filled (S .tables .stock) (underFreed (withStorage S (stored (S .tables .stock) (S .storage) (newBuffers (S .tables) k) xs)) p s .storage) (newBuffers (S .tables) k) xs
+  unfolding underFreed
+  freed-filled k xs p s h b r l =
+      let T = S .tables in
+      let bs = newBuffers T k in
+      let S₁ = withStorage S (stored (T .stock) (S .storage) bs xs) in
+      kept-wholes (T .stock) (isUnheld T) 0 (bufferTotal T) bs (h .still .kept .stock-kept) (h .still .kept .counts-size)
+      (emptied-keeps S₁ p s h b (new-length S k xs f ∙ f)) (new-buffers-in T k)
+      (λ x t u. absurd (omega (arith, eqb→eq (bufferCount T x) 0 t, ap (λ (q : List ℕ). getD q x 0) (h .still .counts-still))))
       ∙ new-filled k xs r l
 
 -- no new buffers hold nothing
@@ -186,13 +201,12 @@ rule-fills (Pullup s k) S h f a n =
     let i = simp no-cause at (a .early) in
     let front = take k (reads S s) in
     if-both
-    (λ (X : State) (w : Wants). tookBuffers T (X .tables) ≡ newBuffers T (w .buffers) → w .buffers ≤ length (freeBuffers T)
-    → Filled (T .stock) (X .storage) (newBuffers T (w .buffers)) front)
-    (leb k (firstLength (spans T s))) _ _ (want 0 0 0) _
+    (λ (X : State) (w : Wants). w .buffers ≤ length (freeBuffers T) → Filled (T .stock) (X .storage) (newBuffers T (w .buffers)) front)
+    (leb k (firstLength (spans T s))) _ _ (want 0 0 0) (giving (dropBack T s k) (suc (length (dropped T s k .more))) 1)
     (λ t. absurd (n (leb→le k (firstLength (spans T s)) t)))
-    (λ t e r. hung-filled S f 1 front (pulled T s k) s (pulled-planned T s k (omega (arith, not-most k (firstLength (spans T s)) t)) h)
-    (first-named T s _ (a .early) .0) e r (omega (arith, length-take k (reads S s))))
-    (takes (Pullup s k) S h a .buffers) (a .buffers-room)
+    (λ t r. freed-filled S f 1 front (pulled T s k) s (pulled-planned T s k (omega (arith, not-most k (firstLength (spans T s)) t)) h)
+    (first-named T s _ (a .early) .0) r (omega (arith, length-take k (reads S s))))
+    (a .buffers-room)
 rule-fills (Pack s) S h f a n =
     let T = S .tables in
     let k = buffersFor (lengthOf T s) in

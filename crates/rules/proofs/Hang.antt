@@ -59,15 +59,16 @@ gives-from {T} {T₁} {T′} e f g = record {
 
 -- ---- under a slip that is turned
 
-module _ (S : State) (s v : ℕ) (b : s < slipTotal (S .tables)) (h : SoundWith (pred v ∷ []) (S .tables)) where
+module _ {fl : List ℕ} (S : State) (s v : ℕ) (b : s < slipTotal (S .tables)) (h : SoundWith (pred v ∷ fl) (S .tables)) where
   abbrev turnedSlip : Tables
   turnedSlip = setSlip (S .tables) s v
 
-  turned-keep : (n : ℕ) → Safe [] turnedSlip n → Same (S .tables) (turned S s v .tables) n
+  -- what is held otherwise is as it was
+  pub turned-keep : (n : ℕ) → Safe fl turnedSlip n → Same (S .tables) (turned S s v .tables) n
   unfolding turned
   turned-keep n f =
       same-trans (slip-same (S .tables) s v n)
-      (release-same {fl = []} (withTables S turnedSlip) (headOf (S .tables) s) n (h .0, slip-move {fl = []} s v b (h .1)) f)
+      (release-same {fl = fl} (withTables S turnedSlip) (headOf (S .tables) s) n (h .0, slip-move {fl = fl} s v b (h .1)) f)
 
   pub turned-entry : slip (turned S s v .tables) s ≡ v
   unfolding turned
@@ -79,11 +80,11 @@ module _ (S : State) (s v : ℕ) (b : s < slipTotal (S .tables)) (h : SoundWith 
 
   -- every other slip's chain is as it was
   pub turned-others : (u : ℕ) → u ≢ s → Same (S .tables) (turned S s v .tables) (headOf (S .tables) u)
-  turned-others u n = turned-keep (headOf (S .tables) u) (subst (λ x. Safe [] turnedSlip (pred x)) (getD-set-other (S .tables .slips) s u v 0 n) (head-safe [] turnedSlip u))
+  turned-others u n = turned-keep (headOf (S .tables) u) (subst (λ x. Safe fl turnedSlip (pred x)) (getD-set-other (S .tables .slips) s u v 0 n) (head-safe fl turnedSlip u))
 
   -- and so is the one that s now holds
   pub turned-mine : Same (S .tables) (turned S s v .tables) (pred v)
-  turned-mine = turned-keep (pred v) (subst (λ x. Safe [] turnedSlip (pred x)) (getD-set-same (S .tables .slips) s v 0 b) (head-safe [] turnedSlip s))
+  turned-mine = turned-keep (pred v) (subst (λ x. Safe fl turnedSlip (pred x)) (getD-set-same (S .tables .slips) s v 0 b) (head-safe fl turnedSlip s))
 
 -- slip s is turned to the held link m, and its old link is released
 pub turned-gives : (S : State) (s m : ℕ) (l : List ℕ) → s < slipTotal (S .tables) → SoundWith (m ∷ []) (S .tables) → Meets (S .tables) m l

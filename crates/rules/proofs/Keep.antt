@@ -371,7 +371,7 @@ keep-takes s n S h a h″ =
     let own = keptOwn T s n in
     if-both (λ (X : State) (j : ℕ). SoundNow (X .tables) → Roomy T (want 0 j 0) → Took T (X .tables) (want 0 j 0) s) (eqb n (lengthOf T s)) _ _ 0 k
     (λ _ _ _. nothing-taken T s h)
-    (λ _ h′ r. took-held T _ s _ _ h h′ (keep-gives s n S b z h (r .1)) z k 0 r
+    (λ _ h′ r. took-held T _ s _ _ h h′ (keep-gives s n S b z h (omega (arith, r .1))) z k 0 r
     (passing-front (isFree T) own (take k (freePieces T)) (used-none T own (ones-used T own (own-ones (length (kept T s n)) (headOf T s) T))) ∙ new-pass (isFree T) (pieceTotal T) k)
     (passing-none (isUnheld T) (buffersOf (kept T s n)) (cutOut-none (isUnheld T) (spans T s) 0 n (spans-none T s h))))
     h″ (roomy a)

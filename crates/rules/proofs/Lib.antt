@@ -24,6 +24,7 @@ pub mod Storage
 pub mod After
 pub mod Takes
 pub mod Stays
+pub mod Freed
 pub mod Caused
 pub mod Lawful
 -- each call that works on a pool, in document 01's order: it is lawful, and what it has besides
@@ -58,8 +59,10 @@ pub mod Answers
 pub mod Still
 pub mod Fills
 pub mod Own
--- demand 3, the most of a pool, lists of calls, the ten rows
+-- what is given back first; demand 3, the most of a pool, lists of calls, the ten rows
+pub mod Back
 pub mod Demand
+pub mod Full
 pub mod Most
 pub mod Lists
 pub mod Settles

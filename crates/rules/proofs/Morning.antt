@@ -1,4 +1,4 @@
--- The ten marked rows and the edges, by computing. Assumes nothing.
+-- The ten marked rows, the edges and the full tables, by computing. Assumes nothing.
 use mathlib.Core.Path.{_≡_, refl, sym, ap, _∙_}
 use mathlib.Core.List.{List, [], _∷_, map}
 use Prim.Native.Nat.{ℕ, zero, suc, _+_, _-_, _%_, _<_}
@@ -6,14 +6,14 @@ use native.Mathlib.Omega.{arith}
 use lib.ListN.{length, getD, take, replicate}
 use Rattle.word.specs.Word.{get16}
 use Rattle.kinds.specs.Sizes.{classOf}
-use Rattle.rules.specs.Basics.{if_then_else_, allTo, places}
+use Rattle.rules.specs.Basics.{if_then_else_, allTo, anyTo, places, member}
 use Rattle.rules.specs.Tables.{pieceTotal}
 use Rattle.rules.specs.Bytes.{decode, encode}
 use Rattle.rules.specs.Chain.{follow, walk, ownPieces, stretches, total, cutOut, contents, reads}
 use Rattle.rules.specs.Sound.{heads, nexts, lying, headerOk, acyclic, soundTables, sound, Lent, lent}
 use Rattle.rules.specs.Room.{freePieces}
 use Rattle.rules.specs.Release.{releaseIn, release, turned, relinked}
-use Rattle.rules.specs.Build.{builtLink, built, underNew, underOld, behindOwn, laid, filledAt, stored}
+use Rattle.rules.specs.Build.{builtLink, built, underNew, underOld, underFreed, behindOwn, laid, filledAt, stored}
 use Rattle.rules.specs.Rule.{firstCode}
 use Rattle.rules.specs.Open.{openable}
 use Rattle.rules.specs.Put.{putAfter}
@@ -25,12 +25,15 @@ use Rattle.rules.specs.Keep.{shortened, keptBy, keepAfter}
 use Rattle.rules.specs.Pullup.{pullupAfter, pullupWants}
 use Rattle.rules.specs.Pack.{packAfter, packWants}
 use Rattle.rules.specs.Step.{Put, Free, Dup, Cut, Append, Drop, Keep, Pullup, Pack}
+use Rattle.rules.specs.Recount.{reached, references, holders, recounted, leaves}
+use Rattle.rules.specs.Demand.{early, wanted, left}
+use Rattle.rules.specs.Full.{owned}
 use Rattle.rules.specs.Step.{Open, Do, rule, done, perform, step, stateIn, leftBy, next, afterCalls}
-use Rattle.rules.specs.Morning.{Row, byteRun, rows, fresh4, given, Edge, edge, edges, tried}
+use Rattle.rules.specs.Morning.{Row, byteRun, rows, fresh4, given, Edge, edge, edges, tried, FullTable, fullTable, put600, fullTables, triedFull}
 
 -- unfolding this unfolds every rule
 every-rule : Unit {0}
-unfolding get16 classOf if_then_else_ allTo places decode encode follow walk ownPieces stretches total cutOut contents heads nexts lying headerOk acyclic soundTables sound releaseIn release turned relinked builtLink built underNew underOld behindOwn laid filledAt stored firstCode putAfter dupPlan dupAfter cutAfter joined appendAfter dropHere dropPlan dropAfter shortened keptBy keepAfter pullupAfter pullupWants packAfter packWants rule done perform step
+unfolding get16 classOf if_then_else_ allTo places decode encode follow walk ownPieces stretches total cutOut contents heads nexts lying headerOk acyclic soundTables sound releaseIn release turned relinked builtLink built underNew underOld underFreed behindOwn laid filledAt stored firstCode putAfter dupPlan dupAfter cutAfter joined appendAfter dropHere dropPlan dropAfter shortened keptBy keepAfter pullupAfter pullupWants packAfter packWants rule done perform step
 every-rule = tt
 
 -- fresh4 is what open 4, 6, 4 leaves of any 87 bytes over storage of bytes 238
@@ -66,6 +69,16 @@ pub ten-rows : (map (λ (r : Row). r .call) rows
     ≡ Put (byteRun 0 600) ∷ Cut 0 500 50 ∷ Dup 0 ∷ Free 0 ∷ Drop 2 520 ∷ Append 1 2 ∷ Keep 1 40 ∷ Pullup 1 20 ∷ Pack 1 ∷ Free 1 ∷ [])
     × (_≡_ {A = List ℕ} (map (λ (r : Row). r .slip) rows) (0 ∷ 1 ∷ 2 ∷ 0 ∷ 2 ∷ 1 ∷ 1 ∷ 1 ∷ 1 ∷ 1 ∷ []))
 ten-rows = (refl, refl)
+
+-- the seven full tables: the calls before each, the call, and its code
+pub seven-full-tables : (map (λ (e : FullTable). e .before) fullTables
+    ≡ (put600 ∷ Cut 0 500 50 ∷ Cut 0 500 50 ∷ []) ∷ (put600 ∷ Put (byteRun 0 10) ∷ Append 0 1 ∷ Dup 0 ∷ Drop 1 512 ∷ Cut 0 0 600 ∷ Dup 1 ∷ [])
+    ∷ (put600 ∷ Cut 0 500 50 ∷ Dup 1 ∷ Dup 0 ∷ []) ∷ (put600 ∷ Cut 0 500 50 ∷ Dup 1 ∷ []) ∷ (put600 ∷ Dup 0 ∷ Cut 0 0 600 ∷ Dup 2 ∷ [])
+    ∷ (put600 ∷ Dup 0 ∷ Drop 1 512 ∷ Cut 0 0 600 ∷ Cut 0 0 600 ∷ []) ∷ (put600 ∷ Dup 0 ∷ Cut 0 0 600 ∷ Dup 2 ∷ []) ∷ [])
+    × (map (λ (e : FullTable). e .call) fullTables
+    ≡ Pullup 1 20 ∷ Pullup 1 98 ∷ Pullup 1 20 ∷ Pullup 1 20 ∷ Drop 0 520 ∷ Drop 1 8 ∷ Drop 0 512 ∷ [])
+    × (_≡_ {A = List ℕ} (map (λ (e : FullTable). e .code) fullTables) (0 ∷ 9 ∷ 9 ∷ 0 ∷ 0 ∷ 9 ∷ 0 ∷ []))
+seven-full-tables = (refl, refl, refl)
 
 -- the nine edges: the calls before each, and the call
 pub nine-edges : (map (λ (e : Edge). e .before) edges
@@ -127,3 +140,39 @@ tried-at (e ∷ es) m (suc i) z l = tried-at es m i z (omega arith)
 -- Edge i is what its call gives.
 pub edge-at : (i : ℕ) (z : Edge) → i < 9 → getD edges i z ≡ edgeAfter (getD edges i z) fresh4
 edge-at i z l = ap (λ (es : List Edge). getD es i z) (sym edges-hold) ∙ tried-at edges fresh4 i z l
+
+-- the rules give every column of the full tables
+pub full-tables-hold : triedFull fullTables fresh4 ≡ fullTables
+unfolding every-rule triedFull
+full-tables-hold = refl
+
+-- full table e with what its call gives in its columns
+abbrev pub fullAfter : FullTable → Lent → FullTable
+fullAfter e m = let a = step (Do (e .call)) (afterCalls (map Do (e .before)) m) in fullTable (e .before) (e .call) (a .code) (decode (a .pool))
+
+full-tried-at : (es : List FullTable) (m : Lent) (i : ℕ) (z : FullTable) → i < length es → getD (triedFull es m) i z ≡ fullAfter (getD es i z) m
+unfolding triedFull
+full-tried-at [] m i z l = absurd (omega arith)
+full-tried-at (e ∷ es) m zero z l = refl
+full-tried-at (e ∷ es) m (suc i) z l = full-tried-at es m i z (omega arith)
+
+-- Full table i is what its call gives.
+pub full-table-at : (i : ℕ) (z : FullTable) → i < 7 → getD fullTables i z ≡ fullAfter (getD fullTables i z) fresh4
+full-table-at i z l = ap (λ (es : List FullTable). getD es i z) (sym full-tables-hold) ∙ full-tried-at fullTables fresh4 i z l
+
+-- Before each of a list of full tables, whose calls name the slips ss: the first code before room, the pieces that the call wants, those it gives back
+-- first, those that the recount leaves, and the own pieces of its slip.
+abbrev asked : List ℕ → List FullTable → List (List ℕ)
+asked [] es = []
+asked (s ∷ ss) [] = []
+asked (s ∷ ss) (e ∷ es) =
+    let m = afterCalls (map Do (e .before)) fresh4 in
+    let w = wanted (Do (e .call)) m in
+    (early (Do (e .call)) m ∷ w .pieces ∷ length (w .back) ∷ left m .pieces ∷ owned s m ∷ []) ∷ asked ss es
+
+-- so each case of when drop and pullup find no piece, and of when they find one, is met
+pub full-tables-ask : asked (1 ∷ 1 ∷ 1 ∷ 1 ∷ 0 ∷ 1 ∷ 0 ∷ []) fullTables
+    ≡ (0 ∷ 1 ∷ 1 ∷ 0 ∷ 2 ∷ []) ∷ (0 ∷ 1 ∷ 0 ∷ 0 ∷ 0 ∷ []) ∷ (0 ∷ 2 ∷ 1 ∷ 0 ∷ 1 ∷ []) ∷ (0 ∷ 2 ∷ 1 ∷ 1 ∷ 1 ∷ [])
+    ∷ (0 ∷ 1 ∷ 1 ∷ 0 ∷ 1 ∷ []) ∷ (0 ∷ 1 ∷ 0 ∷ 0 ∷ 0 ∷ []) ∷ (0 ∷ 0 ∷ 1 ∷ 0 ∷ 1 ∷ []) ∷ []
+unfolding every-rule anyTo member early wanted recounted reached references holders leaves
+full-tables-ask = refl

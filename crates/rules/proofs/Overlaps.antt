@@ -194,6 +194,12 @@ splits-inside x xs a n h =
       splits-none xs (a + x .len) (a + suc n) (omega arith),
     )
 
+-- a byte falls inside a piece that the bytes before it overlap
+pub splits-cut : (Z : List ℕ) (B : ℕ) (xs : List Stretch) (a n : ℕ) → Good Z B xs → splits xs a (a + n) ≤ length (cutOut xs 0 n)
+splits-cut Z B [] a n g = omega (arith, splits-nil a (a + n))
+splits-cut Z B (x ∷ xs) a zero g = omega (arith, splits-none (x ∷ xs) a (a + 0) (omega arith))
+splits-cut Z B (x ∷ xs) a (suc n) g = omega (arith, splits-most (x ∷ xs) a (a + suc n), cut-count x xs (suc n) (g .1) (omega arith))
+
 -- ---- own pieces
 
 -- of fewer pieces the own ones are the first of the own pieces

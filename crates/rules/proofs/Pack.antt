@@ -65,7 +65,7 @@ pack-leaves s S h f al =
     if-either (λ (X : State). SoundNow (X .tables) → Reading S X (reading s (reads S s) ∷ [])) stays _ _ (λ _ _. same-reading S s (reads S s) z refl)
     (λ ne h′. (
     let w = if-F stays (want 0 0 0) (want 0 k k) ne in
-    let rp : k ≤ length (freePieces T) = omega (arith, al .pieces-room, ap (λ (x : Wants). x .pieces) w) in
+    let rp : k ≤ length (freePieces T) = omega (arith, al .pieces-room, ap (λ (x : Wants). x .pieces) w, ap (λ (x : Wants). length (x .back)) w) in
     let rb : k ≤ length (freeBuffers T) = omega (arith, al .buffers-room, ap (λ (x : Wants). x .buffers) w) in
     let bs = newBuffers T k in
     let S₁ = withStorage S (stored (T .stock) (S .storage) bs (reads S s)) in
@@ -85,7 +85,7 @@ pack-takes s S h a h″ =
     let k = buffersFor n in
     if-both (λ (X : State) (w : Wants). SoundNow (X .tables) → Roomy T w → Took T (X .tables) w s) (leb (length (chain T s)) 1) _ _ (want 0 0 0) (want 0 k k)
     (λ _ _ _. nothing-taken T s h)
-    (λ _ h′ r. took-held T _ s _ _ h h′ (pack-gives s S _ b h (r .1) (r .2)) z k k r (new-pass (isFree T) (pieceTotal T) k) (new-laid T k n))
+    (λ _ h′ r. took-held T _ s _ _ h h′ (pack-gives s S _ b h (omega (arith, r .1)) (r .2)) z k k r (new-pass (isFree T) (pieceTotal T) k) (new-laid T k n))
     h″ (roomy a)
 
 pack-caused : (s : ℕ) → Causing (packCall s)

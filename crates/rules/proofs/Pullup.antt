@@ -5,34 +5,36 @@ use mathlib.Core.Bool.{true}
 use mathlib.Core.List.{List, _++_, append-assoc, [], _∷_, map-append}
 use Prim.Native.Nat.{ℕ, _+_, _≤_, _<_, _-_, suc}
 use native.Mathlib.Omega.{arith}
-use lib.ListN.{length, length-take, take, length-append, drop, take-append-drop}
-use lib.Dec.{leb}
+use lib.ListN.{length, getD, length-take, take, length-append, drop, take-append-drop}
+use lib.Dec.{eqb→eq, leb}
+use Rattle.kinds.specs.Sizes.{sizeOf}
 use Rattle.rules.specs.Basics.{passing, if_then_else_}
-use Rattle.rules.specs.Tables.{Tables, slipTotal, bufferTotal}
+use Rattle.rules.specs.Tables.{Tables, bufferCount, slipTotal, bufferTotal}
 use Rattle.rules.specs.Chain.{State, spans, firstLength, Stretch, stretches, chain, contents, reads, withStorage}
-use Rattle.rules.specs.Room.{isUnheld, freePieces, freeBuffers, newBuffers}
-use Rattle.rules.specs.Build.{laid, underOld, stored}
-use Rattle.rules.specs.Rule.{Wants, reading, want}
-use Rattle.rules.specs.Drop.{dropped, dropPieces}
+use Rattle.rules.specs.Room.{isUnheld, freePieces, freeWith, freeBuffers, newBuffers}
+use Rattle.rules.specs.Build.{laid, underFreed, stored}
+use Rattle.rules.specs.Rule.{Wants, reading, want, giving}
+use Rattle.rules.specs.Drop.{dropped, dropBack, dropPieces}
 use Rattle.rules.specs.Pullup.{pulled, pullupAfter, pullupCall, pullupWants}
 use Rattle.rules.specs.Takes.{Took}
 use Rattle.rules.proofs.Logic.{if-either, not-most, if-F, if-both}
 use Rattle.rules.proofs.Moves.{SoundNow}
-use Rattle.rules.proofs.Build.{Good, Planned, old-sound}
-use Rattle.rules.proofs.Room.{free-pieces, new-buffers-in, passing-back}
+use Rattle.rules.proofs.Build.{Good, Planned}
+use Rattle.rules.proofs.Room.{AllIn, new-buffers-in, passing-back}
 use Rattle.rules.proofs.Chain.{laid-good, good-append, spans-good}
-use Rattle.rules.proofs.Hang.{Gives, gives-as, old-gives}
+use Rattle.rules.proofs.Hang.{Gives, gives-as}
 use Rattle.rules.proofs.Contents.{stored-others, dropOut, Off, contents-append, dropOut-contents}
 use Rattle.rules.proofs.Codes.{first-named, no-cause}
 use Rattle.rules.proofs.Caused.{found, slip-one, twice-one, none-less, less-is, past-is}
-use Rattle.rules.proofs.Sizes.{old-sizes, maybe-sizes, new-length}
+use Rattle.rules.proofs.Sizes.{freed-sizes, maybe-sizes, new-length}
 use Rattle.rules.proofs.After.{Reading, gives-reading, new-here, new-others, reads-length, same-reading, spans-off}
-use Rattle.rules.proofs.Takes.{Roomy, buffersOf, dropOut-none, new-front, new-laid, nothing-taken, roomy, spans-none, took-held}
+use Rattle.rules.proofs.Takes.{Roomy, buffersOf, dropOut-none, new-laid, nothing-taken, roomy, spans-none}
 use Rattle.rules.proofs.Lawful.{Lawful, Leaving, Taking, Causing, Staying}
 use Rattle.rules.proofs.Put.{new-count}
-use Rattle.rules.proofs.Drop.{dropped-planned, dropped-leaves, plan-sizes, drop-count, dropped-none}
-use Rattle.rules.proofs.Storage.{old-spans}
-use Rattle.rules.proofs.Stays.{StorageStays, stays-as, old-stays}
+use Rattle.rules.proofs.Drop.{dropped-planned, dropped-leaves, plan-sizes, drop-count, drop-back, dropped-spared}
+use Rattle.rules.proofs.Storage.{Spared, spared-append}
+use Rattle.rules.proofs.Stays.{StorageStays, stays-as}
+use Rattle.rules.proofs.Freed.{emptied, freed-sound, freed-gives, took-freed, freed-spans, freed-stays}
 
 -- n bytes on one new buffer
 pub one-good : (T : Tables) (n : ℕ) → 1 ≤ n → Good (T .stock) (bufferTotal T) (laid (T .stock) (newBuffers T 1) n)
@@ -48,22 +50,43 @@ unfolding pullupAfter
 pullup-sound s n S l h =
     let T = S .tables in
     if-either (λ (X : State). SoundNow (X .tables)) (leb n (firstLength (spans T s))) _ _ (λ _. h)
-    (λ t. old-sound _ (pulled T s n) (freePieces T) s (pulled-planned T s n (omega (arith, not-most n (firstLength (spans T s)) t)) h) (free-pieces T) l)
+    (λ t. freed-sound _ (pulled T s n) s (pulled-planned T s n (omega (arith, not-most n (firstLength (spans T s)) t)) h) l)
 
 -- what pullup leaves, where it changes anything: a new piece on a new buffer, before what drop leaves
 pub pulled-count : (T : Tables) (s n : ℕ) → 1 ≤ length (freeBuffers T) → length (pulled T s n .more) ≡ 1 + length (dropped T s n .more)
 pulled-count T s n h = omega (arith, length-append (laid (T .stock) (newBuffers T 1) n) (dropped T s n .more), new-count T 1 n h)
 
-pub pullup-gives : (s n : ℕ) (S S₁ : State) (b : s < slipTotal (S .tables)) (h : SoundNow (S .tables)) → 1 ≤ n → length (pulled (S .tables) s n .more) ≤ length (freePieces (S .tables))
-    → Gives (S .tables) (underOld S₁ (pulled (S .tables) s n) (freePieces (S .tables)) s .tables) s
-    (take (length (pulled (S .tables) s n .more)) (freePieces (S .tables)) ++ dropped-leaves (S .tables) s n b h .rest)
+-- what its slip then covers, and holds
+pulled-covers : (T : Tables) (s n : ℕ) (b : s < slipTotal T) (h : SoundNow T)
+    → pulled T s n .more ++ stretches (dropped T s n .base) (dropped-leaves T s n b h .rest) ≡ laid (T .stock) (newBuffers T 1) n ++ dropOut (spans T s) n
+pulled-covers T s n b h =
+    let v = dropped-leaves T s n b h in
+    let xs = laid (T .stock) (newBuffers T 1) n in
+    append-assoc xs (dropped T s n .more) (stretches (dropped T s n .base) (v .rest)) ∙ ap {B = List Stretch} (λ ys. xs ++ ys) (v .covers)
+
+pub pullup-gives : (s n : ℕ) (S S₁ : State) (b : s < slipTotal (S .tables)) (h : SoundNow (S .tables)) → 1 ≤ n
+    → length (pulled (S .tables) s n .more) ≤ length (dropBack (S .tables) s n) + length (freePieces (S .tables))
+    → Gives (S .tables) (underFreed S₁ (pulled (S .tables) s n) s .tables) s
+    (take (length (pulled (S .tables) s n .more)) (freeWith (S .tables) (dropBack (S .tables) s n)) ++ dropped-leaves (S .tables) s n b h .rest)
     (laid (S .tables .stock) (newBuffers (S .tables) 1) n ++ dropOut (spans (S .tables) s) n)
 pullup-gives s n S S₁ b h p r =
     let T = S .tables in
     let v = dropped-leaves T s n b h in
-    let xs = laid (T .stock) (newBuffers T 1) n in
-    gives-as refl (append-assoc xs (dropped T s n .more) (stretches (dropped T s n .base) (v .rest)) ∙ ap {B = List Stretch} (λ ys. xs ++ ys) (v .covers))
-    (old-gives (pulled T s n) (freePieces T) (v .rest) (pulled-planned T s n p h) (free-pieces T) r (v .meets) S₁ s b (v .others))
+    gives-as refl (pulled-covers T s n b h) (freed-gives S₁ (pulled T s n) s (pulled-planned T s n p h) b (v .rest) (v .meets) (v .others) r)
+
+-- a new buffer is not set free, nor is that of a piece that is copied
+new-spared : (T B E : Tables) (i : ℕ) (bs : List ℕ) (n : ℕ) → B .counts ≡ T .counts → AllIn (isUnheld T) i (bufferTotal T) bs → Spared B E (laid (T .stock) bs n)
+unfolding laid
+new-spared T B E i [] n e a = tt
+new-spared T B E i (b ∷ bs) n e a = (
+  λ u. absurd (omega (arith, eqb→eq (bufferCount T b) 0 (a .2), ap (λ (q : List ℕ). getD q b 0) e)),
+  new-spared T B E (suc b) bs (n - sizeOf (T .stock) b) e (a .3),
+)
+
+pulled-spared : (S : State) (T : Tables) (s n : ℕ) → s < slipTotal T → SoundNow T → Spared (pulled T s n .base) (emptied S (pulled T s n) s .tables) (pulled T s n .more)
+pulled-spared S T s n l h =
+    spared-append (dropped T s n .base) _ (laid (T .stock) (newBuffers T 1) n) (dropped T s n .more)
+    (new-spared T (dropped T s n .base) _ 0 (newBuffers T 1) n (dropped-planned T s n h .still .counts-still) (new-buffers-in T 1)) (dropped-spared S T s n l h)
 
 -- ---- pullup is lawful
 
@@ -89,21 +112,23 @@ pullup-leaves s n S h f al =
     let stays = leb n (firstLength (spans T s)) in
     if-either (λ (X : State). SoundNow (X .tables) → Reading S X (reading s (reads S s) ∷ [])) stays _ _ (λ _ _. same-reading S s (reads S s) z refl)
     (λ ne h′. (
-    let w = if-F stays (want 0 0 0) (want 0 (suc (length (dropped T s n .more))) 1) ne in
-    let rp : suc (length (dropped T s n .more)) ≤ length (freePieces T) = omega (arith, al .pieces-room, ap (λ (x : Wants). x .pieces) w) in
+    let w = if-F stays (want 0 0 0) (giving (dropBack T s n) (suc (length (dropped T s n .more))) 1) ne in
     let rb : 1 ≤ length (freeBuffers T) = omega (arith, al .buffers-room, ap (λ (x : Wants). x .buffers) w) in
     let front = take n (reads S s) in
-    let S₁ = withStorage S (stored (T .stock) (S .storage) (newBuffers T 1) front) in
-    let long : length front ≡ n = omega (arith, length-take n (reads S s), reads-length S h f s) in
     let bs = newBuffers T 1 in
+    let S₁ = withStorage S (stored (T .stock) (S .storage) bs front) in
+    let p = pulled T s n in
+    let v = dropped-leaves T s n b h in
+    let room : length (p .more) ≤ length (dropBack T s n) + length (freePieces T) =
+    omega (arith, al .pieces-room, ap (λ (x : Wants). x .pieces) w, ap (λ (x : Wants). length (x .back)) w, pulled-count T s n rb) in
+    let long : length front ≡ n = omega (arith, length-take n (reads S s), reads-length S h f s) in
     let fst : contents (T .stock) (S₁ .storage) (laid (T .stock) bs n) ≡ front = ap (λ k. contents (T .stock) (S₁ .storage) (laid (T .stock) bs k)) (sym long) ∙ new-here S h f 1 front rb (omega arith) in
     let rst : contents (T .stock) (S₁ .storage) (dropOut (spans T s) n) ≡ drop n (reads S s) =
     stored-others (T .stock) (isUnheld T) 0 (bufferTotal T) bs (S .storage) front (dropOut (spans T s) n) (new-buffers-in T 1) f (good-dropOut (T .stock) (bufferTotal T) (spans T s) n (spans-good T s h)) (off-drop bs (spans T s) n (spans-off T 1 s h))
     ∙ dropOut-contents (T .stock) (bufferTotal T) (S .storage) (spans T s) n f (spans-good T s h) in
-    let some : 1 ≤ n = omega (arith, not-most n (firstLength (spans T s)) ne) in
-    let g = pullup-gives s n S S₁ b h some (omega (arith, pulled-count T s n rb)) in
-    gives-reading S _ (S₁ .storage) s _ _ (reads S s) g h h′
-    (old-spans S₁ (pulled T s n) (freePieces T) s (pulled-planned T s n some h) (free-pieces T) b (new-length S 1 front f ∙ f)) (new-others S h f 1 front)
+    let d = pulled-planned T s n (omega (arith, not-most n (firstLength (spans T s)) ne)) h in
+    gives-reading S (underFreed S₁ p s) (S₁ .storage) s _ _ (reads S s) (pullup-gives s n S S₁ b h (omega (arith, not-most n (firstLength (spans T s)) ne)) room) h h′
+    (freed-spans S₁ p s d b (new-length S 1 front f ∙ f) (pulled-spared S₁ T s n b h) (v .rest) (v .meets) (v .others) h room) (new-others S h f 1 front)
     (contents-append (T .stock) (S₁ .storage) (laid (T .stock) bs n) (dropOut (spans T s) n)
     ∙ (λ j. fst j ++ rst j) ∙ take-append-drop n (reads S s))))
 
@@ -116,14 +141,12 @@ pullup-takes s n S h a h″ =
     let v = dropped-leaves T s n b h in
     let xs = laid (T .stock) (newBuffers T 1) n in
     let ys = dropOut (spans T s) n in
-    if-both (λ (X : State) (w : Wants). SoundNow (X .tables) → Roomy T w → Took T (X .tables) w s) (leb n (firstLength (spans T s))) _ _ (want 0 0 0) (want 0 (suc k) 1)
+    if-both (λ (X : State) (w : Wants). SoundNow (X .tables) → Roomy T w → Took T (X .tables) w s) (leb n (firstLength (spans T s))) _ _ (want 0 0 0) (giving (dropBack T s n) (suc k) 1)
     (λ _ _ _. nothing-taken T s h)
-    (λ t h′ r. (
-    let c : length (pulled T s n .more) ≡ suc k = omega (arith, pulled-count T s n (r .2)) in
-    took-held T _ s _ _ h h′ (pullup-gives s n S _ b h (omega (arith, not-most n (firstLength (spans T s)) t)) (omega (arith, r .1))) z (suc k) 1 r
-    (new-front T (length (pulled T s n .more)) (v .rest) (v .used) ∙ ap (λ j. take j (freePieces T)) c)
+    (λ t _ r. took-freed _ (pulled T s n) s (pulled-planned T s n (omega (arith, not-most n (firstLength (spans T s)) t)) h) b (v .rest) (v .meets) (v .others)
+    (xs ++ ys) (suc k) 1 h z (omega (arith, pulled-count T s n (r .2))) r (pulled-covers T s n b h)
     (ap (passing (isUnheld T)) (map-append (λ (x : Stretch). x .buffer) xs ys) ∙ passing-back (isUnheld T) (buffersOf xs) (buffersOf ys) (dropOut-none (isUnheld T) (spans T s) n (spans-none T s h))
-    ∙ new-laid T 1 n)))
+    ∙ new-laid T 1 n))
     h″ (roomy a)
 
 pullup-caused : (s n : ℕ) → Causing (pullupCall s n)
@@ -138,7 +161,7 @@ pullup-caused s n S h f = record {
   asked = λ z. (
       let T = S .tables in
       let e : suc (length (dropped T s n .more)) ≡ 1 + dropPieces T s n = omega (arith, drop-count T s n h) in
-      λ i. if leb n (firstLength (spans T s)) then want 0 0 0 else want 0 (e i) 1);
+      λ i. if leb n (firstLength (spans T s)) then want 0 0 0 else giving (drop-back T s n h i) (e i) 1);
 }
 
 pullup-stays : (s n : ℕ) → Staying (pullupCall s n)
@@ -146,15 +169,10 @@ unfolding pullupAfter pullupWants
 pullup-stays s n S h f a =
     let T = S .tables in
     let b = first-named T s _ (a .early) .0 in
-    let p = dropped T s n in
-    let xs = laid (T .stock) (newBuffers T 1) n in
-    if-both (λ (X : State) (w : Wants). StorageStays S X (w .buffers)) (leb n (firstLength (spans T s))) _ _ (want 0 0 0) (want 0 (suc (length (p .more))) 1)
+    if-both (λ (X : State) (w : Wants). StorageStays S X (w .buffers)) (leb n (firstLength (spans T s))) _ _ (want 0 0 0) (giving (dropBack T s n) (suc (length (dropped T s n .more))) 1)
     (λ _. stays-as S S 0 refl)
-    (λ t. old-stays S (take n (reads S s)) (pulled T s n) (freePieces T) s 1
-    (pulled-planned T s n (omega (arith, not-most n (firstLength (spans T s)) t)) h) (free-pieces T) b f
-    (ap (passing (isUnheld T)) (map-append (λ (x : Stretch). x .buffer) xs (p .more))
-    ∙ passing-back (isUnheld T) (buffersOf xs) (buffersOf (p .more)) (dropped-none T s n b h)
-    ∙ new-laid T 1 n))
+    (λ t. freed-stays S (take n (reads S s)) (pulled T s n) s 1 (pulled-planned T s n (omega (arith, not-most n (firstLength (spans T s)) t)) h) b f
+    (pulled-spared (withStorage S (stored (T .stock) (S .storage) (newBuffers T 1) (take n (reads S s)))) T s n b h))
 
 pub pullup-lawful : (s n : ℕ) → Lawful (pullupCall s n)
 unfolding pullupAfter
@@ -162,7 +180,7 @@ pullup-lawful s n = record {
   codes = λ S. omega arith;
   sizes = λ S. (
       let T = S .tables in
-      maybe-sizes S _ (leb n (firstLength (spans T s))) (old-sizes _ (pulled T s n) (freePieces T) s (plan-sizes T true (chain T s) n)));
+      maybe-sizes S _ (leb n (firstLength (spans T s))) (freed-sizes _ (pulled T s n) s (plan-sizes T true (chain T s) n)));
   stays = pullup-stays s n;
   sound = λ S h a. pullup-sound s n S (first-named (S .tables) s _ (a .early) .0) h;
   known = λ S _. (inl refl, tt);

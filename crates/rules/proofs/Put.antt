@@ -2,7 +2,7 @@
 use mathlib.Core.Path.{_≡_, ap, _∙_, refl}
 use mathlib.Core.Logic.{inr}
 use mathlib.Core.List.{List, [], append-nil}
-use Prim.Native.Nat.{ℕ, _≤_, _<_}
+use Prim.Native.Nat.{ℕ, _≤_, _<_, pred}
 use native.Mathlib.Omega.{arith}
 use lib.ListN.{length, length-take, take}
 use Rattle.rules.specs.Tables.{Tables, bufferTotal, pieceTotal}
@@ -34,7 +34,7 @@ unfolding putAfter
 put-sound input S h s =
     let T = S .tables in
     let xs = laid (T .stock) (newBuffers T (buffersFor (length input))) (length input) in
-    new-sound (plain T xs) (freePieces T) (newSlip T) (plain-planned T xs (new-good T (length input)) s) (free-pieces T) (new-slip-ok T h .0) (new-slip-ok T h .1)
+    new-sound (plain T xs) (freePieces T) (newSlip T) (plain-planned T xs (new-good T (length input)) s) (free-pieces T) (new-slip-ok T h .0) (ap pred (new-slip-ok T h .1))
 
 pub new-count : (T : Tables) (k n : ℕ) → k ≤ length (freeBuffers T) → length (laid (T .stock) (newBuffers T k) n) ≡ k
 new-count T k n h = omega (arith, laid-count (T .stock) (newBuffers T k) n, length-take k (freeBuffers T))
@@ -59,14 +59,14 @@ put-leaves : (input : List ℕ) → Leaving (putCall input)
 unfolding putAfter
 put-leaves input S h f a h′ =
     let k = buffersFor (length input) in
-    gives-reading S (putAfter input S) _ (newSlip (S .tables)) _ _ input (put-gives input S h (a .slips-room) (a .pieces-room) (a .buffers-room)) h h′
+    gives-reading S (putAfter input S) _ (newSlip (S .tables)) _ _ input (put-gives input S h (a .slips-room) (omega (arith, a .pieces-room)) (a .buffers-room)) h h′
     (λ u. refl) (new-others S h f k input) (new-here S h f k input (a .buffers-room) (omega arith))
 
 put-takes : (input : List ℕ) → Taking (putCall input)
 put-takes input S h a h′ =
     let T = S .tables in
     let k = buffersFor (length input) in
-    took-new T _ _ _ h h′ (put-gives input S h (a .slips-room) (a .pieces-room) (a .buffers-room)) k k (roomy a)
+    took-new T _ _ _ h h′ (put-gives input S h (a .slips-room) (omega (arith, a .pieces-room)) (a .buffers-room)) k k (roomy a)
     (new-pass (isFree T) (pieceTotal T) k) (new-laid T k (length input))
 
 put-caused : (input : List ℕ) → Causing (putCall input)

@@ -12,7 +12,7 @@ use Rattle.rules.specs.Tables.{Piece, Tables, blank, isBlank, piece, buf
 use Rattle.rules.specs.Chain.{follow, walk, chain}
 use Rattle.rules.specs.Sound.{inUse, leads, heads, nexts, lying}
 use Rattle.rules.specs.Room.{isVacant, isFree, isUnheld}
-use Rattle.rules.specs.Rule.{want, room}
+use Rattle.rules.specs.Rule.{spare, room}
 use Rattle.rules.specs.Recount.{Reached, headed, after, reached, references, holders, recounted, leaves, Recount}
 use Rattle.rules.proofs.Logic.{and-0, or-cases, or-left, or-right, is-true, same-test, any-intro, any-at, bit-T, bit-F, table-is}
 use Rattle.rules.proofs.Sums.{sumTo-same, sumTo-pos, sumTo-one, sumTo-both}
@@ -84,19 +84,26 @@ walk-next (suc k) (suc x) c d T e t h =
     (λ q. walk-next k (piece T x .next) c d T e q h)
     (or-cases (eqb x c) (member c (walk k T (piece T x .next))) t))
 
-in-chain : (T : Tables) → SoundNow T → {d : ℕ} → Reached T d → (s : ℕ) × (s < slipTotal T) × Is (member d (chain T s))
+-- every slip's chain ends within P pieces
+abbrev pub AllEnd : Tables → Type 0
+AllEnd T = (s : ℕ) → follow T (pieceTotal T) (headOf T s) ≡ 0
+
+in-chain : (T : Tables) → AllEnd T → {d : ℕ} → Reached T d → (s : ℕ) × (s < slipTotal T) × Is (member d (chain T s))
 in-chain T S {d} (headed s l h) =
-    (s, l, subst (λ n. Is (member d (walk (pieceTotal T) T n))) (sym h) (walk-first (pieceTotal T) d T (subst (λ n. follow T (pieceTotal T) n ≡ 0) h (head-ends T S s))))
+    (s, l, subst (λ n. Is (member d (walk (pieceTotal T) T n))) (sym h) (walk-first (pieceTotal T) d T (subst (λ n. follow T (pieceTotal T) n ≡ 0) h (S s))))
 in-chain T S {d} (after c r h) =
     let (s, l, t) = in-chain T S r in
-    (s, l, walk-next (pieceTotal T) (headOf T s) c d T (head-ends T S s) t h)
+    (s, l, walk-next (pieceTotal T) (headOf T s) c d T (S s) t h)
 
-pub reached-is : (T : Tables) → SoundNow T → (d : ℕ) → Is (reached T d) ↔ Reached T d
+pub reached-by : (T : Tables) → AllEnd T → (d : ℕ) → Is (reached T d) ↔ Reached T d
 unfolding reached
-reached-is T S d = (
+reached-by T S d = (
   λ t. (let (s, l, m) = any-at (slipTotal T) (λ s. member d (chain T s)) t in walk-reached (pieceTotal T) (headOf T s) d T (λ x q. headed s l q) m),
   λ r. (let (s, l, m) = in-chain T S r in any-intro (slipTotal T) (λ s. member d (chain T s)) s l m),
 )
+
+pub reached-is : (T : Tables) → SoundNow T → (d : ℕ) → Is (reached T d) ↔ Reached T d
+reached-is T S = reached-by T (head-ends T S)
 
 -- ---- so what is counted over the pieces reached is what is counted over those in use
 
@@ -170,7 +177,7 @@ recounted-same T S =
 
 -- ---- what the recount leaves is the room at entry
 
-not-used : (n : ℕ) → not (ltb 0 n) ≡ eqb n 0
+pub not-used : (n : ℕ) → not (ltb 0 n) ≡ eqb n 0
 not-used zero = refl
 not-used (suc n) = ap not (is-true (ltb 0 (suc n)) (lt→ltb 0 (suc n) (omega arith))) ∙ sym (eqb·suc-zero n)
 
@@ -182,4 +189,4 @@ leaves-room T S =
     (λ d _. ap (λ (t : Bool). bit (not t)) (reached-same T S d) ∙ ap bit (not-used (piece T d .count))) ∙ sym (places-count-0 (isFree T) (pieceTotal T)) in
     let b = sumTo-same (bufferTotal T) (λ b. bit (eqb (holders T b) 0)) (λ b. bit (isUnheld T b))
     (λ b _. ap (λ n. bit (eqb n 0)) (sym (holders-same T S b))) ∙ sym (places-count-0 (isUnheld T) (bufferTotal T)) in
-    λ i. want (s i) (p i) (b i)
+    λ i. spare (s i) (p i) (b i)

@@ -1,15 +1,17 @@
 -- Release keeps soundness, and leaves the slips alone. Assumes nothing.
-use mathlib.Core.Path.{_≡_, refl, subst}
+use mathlib.Core.Path.{_≡_, refl, ap, subst}
+use mathlib.Core.Bool.{Bool, true, false}
 use mathlib.Core.List.{List, _∷_}
 use Prim.Native.Nat.{ℕ, zero, suc, _<_, pred}
 use native.Mathlib.Decide.{decLt}
 use native.Mathlib.Omega.{arith}
 use lib.ListN.{length}
 use lib.Dec.{ltb→lt, lt→ltb}
-use Rattle.rules.specs.Basics.{Is}
-use Rattle.rules.specs.Tables.{Tables, piece, headOf, pieceTotal, setSlip}
+use lib.Seq.{set-set}
+use Rattle.rules.specs.Basics.{Is, if_then_else_}
+use Rattle.rules.specs.Tables.{Tables, piece, headOf, pieceTotal, setSlip, withSlips}
 use Rattle.rules.specs.Chain.{State, withTables}
-use Rattle.rules.specs.Release.{another, freed, releaseIn, release, turned}
+use Rattle.rules.specs.Release.{another, lowered, freed, releaseIn, release, turned}
 use Rattle.rules.proofs.Logic.{if-either}
 use Rattle.rules.proofs.Moves.{SoundBy, SoundWith, hit-same, used-in-range, reorder, slip-move, lower-move, free-move}
 use Rattle.rules.proofs.Rank.{low, low-below, lower-rank}
@@ -67,3 +69,26 @@ releaseIn-slips (suc k) S (suc d) =
 pub release-slips : (S : State) (n : ℕ) → release S n .tables .slips ≡ S .tables .slips
 unfolding release
 release-slips S n = releaseIn-slips (pieceTotal (S .tables)) S n
+
+-- an entry stored after a release may be stored before it
+either-way : (b : Bool) (s w : ℕ) (A B A′ B′ : State) → setSlip (A .tables) s w ≡ A′ .tables → setSlip (B .tables) s w ≡ B′ .tables
+    → setSlip ((if b then A else B) .tables) s w ≡ (if b then A′ else B′) .tables
+unfolding if_then_else_
+either-way true s w A B A′ B′ p q = p
+either-way false s w A B A′ B′ p q = q
+
+releaseIn-entry : (k : ℕ) (S : State) (n s v w : ℕ)
+    → setSlip (releaseIn k (withTables S (setSlip (S .tables) s v)) n .tables) s w ≡ releaseIn k (withTables S (setSlip (S .tables) s w)) n .tables
+unfolding releaseIn
+releaseIn-entry zero S n s v w = ap (withSlips (S .tables)) (set-set (S .tables .slips) s v w)
+releaseIn-entry (suc k) S zero s v w = ap (withSlips (S .tables)) (set-set (S .tables .slips) s v w)
+releaseIn-entry (suc k) S (suc d) s v w =
+    let T = S .tables in
+    let U : ℕ → State = λ x. withTables S (setSlip T s x) in
+    let more : ℕ → State = λ x. releaseIn k (freed (U x) d) (piece T d .next) in
+    either-way (another T d) s w (withTables S (lowered (U v .tables) d)) (more v) (withTables S (lowered (U w .tables) d)) (more w)
+    (ap (withSlips (lowered T d)) (set-set (T .slips) s v w)) (releaseIn-entry k (freed S d) (piece T d .next) s v w)
+
+pub stored-after : (S : State) (s v w : ℕ) → setSlip (turned S s v .tables) s w ≡ turned S s w .tables
+unfolding turned release
+stored-after S s v w = releaseIn-entry (pieceTotal (S .tables)) S (headOf (S .tables) s) s v w

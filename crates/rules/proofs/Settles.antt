@@ -1,6 +1,6 @@
 -- What is claimed of a call leaves nothing free: two results of which a claim holds agree. Assumes nothing.
 use mathlib.Core.Path.{_≡_, refl, sym, ap, _∙_}
-use mathlib.Core.Logic.{_≢_, ⊎-elim}
+use mathlib.Core.Logic.{_≢_, _↔_, ⊎-elim}
 use mathlib.Core.List.{List, [], _∷_, _++_, map}
 use Prim.Native.Nat.{ℕ, zero, suc, _+_, _≤_, _<_}
 use native.Mathlib.Decide.{ℕ-discrete, decLt}
@@ -11,18 +11,21 @@ use lib.Dec.{T-not}
 use Rattle.rules.specs.Basics.{bit, passing}
 use Rattle.rules.specs.Tables.{Tables, blank, isBlank, piece, bufferCount, headOf, slipTotal, pieceTotal, bufferTotal}
 use Rattle.rules.specs.Bytes.{decode}
-use Rattle.rules.specs.Chain.{State, Stretch, follow, walk, chain, spans, firstLength, contents}
+use Rattle.rules.specs.Chain.{State, Stretch, follow, walk, chain, spans, firstLength, lengthOf, contents}
 use Rattle.rules.specs.Sound.{Lent, lent}
-use Rattle.rules.specs.Room.{isVacant, isFree, isUnheld}
-use Rattle.rules.specs.Rule.{Wants, View}
+use Rattle.rules.specs.Room.{isVacant, isFreeWith, isUnheld}
+use Rattle.rules.specs.Build.{buffersFor}
+use Rattle.rules.specs.Rule.{Wants, want, View}
 use Rattle.rules.specs.Step.{Operation, Audit, Put, Free, Dup, Cut, Append, Drop, Keep, Pullup, Pack, Length, Read, Show, WireList}
-use Rattle.rules.specs.Step.{Call, Open, Do, Result, step, stateIn, next, afterCalls}
-use Rattle.rules.specs.Recount.{Reached, headed, after, reached, references, holders, countedBy, Recount}
+use Rattle.rules.specs.Pack.{inOne, packWants}
+use Rattle.rules.specs.Step.{Call, Open, Do, Result, rule, step, stateIn, next, afterCalls}
+use Rattle.rules.specs.Recount.{Reached, headed, after, reached, references, holders, countedBy, recounted, leaves, Recount}
+use Rattle.rules.specs.Back.{turnedPast}
 use Rattle.rules.specs.Demand.{early, wanted, left, CallOk, Each, DemandThree}
 use Rattle.rules.specs.Takes.{tookSlips, tookPieces, tookBuffers, Took}
 use Rattle.rules.specs.Answers.{LowestVacant, Answered, AnsweredBy, Numbers, Shown, Unseen, Seen, SeenBy, Outputs, Opened}
 use Rattle.rules.specs.Fills.{wholes, Filled}
-use Rattle.rules.proofs.Logic.{is-dec, bit-F, bit-one}
+use Rattle.rules.proofs.Logic.{if-either, is-dec, bit-F, bit-one}
 use Rattle.rules.proofs.Sums.{sumTo-lt, sumTo-one, sumTo-both}
 use Rattle.rules.proofs.Audit.{blank-is}
 use Rattle.rules.proofs.Blind.{Alike, references-alike, holders-alike}
@@ -215,8 +218,8 @@ filled-settled Z st st′ bs xs x y = x ∙ sym y
 
 -- What is wanted settles which slips, pieces and buffers are taken, and in which order they stand in the chain.
 pub took-settled : (T A B : Tables) (w : Wants) (t : ℕ) → Took T A w t → Took T B w t
-    → (tookSlips T A ≡ tookSlips T B) × (tookPieces T A ≡ tookPieces T B) × (tookBuffers T A ≡ tookBuffers T B)
-    × (passing (isFree T) (chain A t) ≡ passing (isFree T) (chain B t))
+    → (tookSlips T A ≡ tookSlips T B) × (tookPieces T A (w .back) ≡ tookPieces T B (w .back)) × (tookBuffers T A ≡ tookBuffers T B)
+    × (passing (isFreeWith T (w .back)) (chain A t) ≡ passing (isFreeWith T (w .back)) (chain B t))
     × (passing (isUnheld T) (map (λ (x : Stretch). x .buffer) (spans A t)) ≡ passing (isUnheld T) (map (λ (x : Stretch). x .buffer) (spans B t)))
 took-settled T A B w t x y = (
   x .slips ∙ sym (y .slips),
@@ -233,16 +236,29 @@ each-at : (cs : List Call) (c : Call) (ds : List Call) (m : Lent) → Each (cs +
 each-at [] c ds m x = x .0
 each-at (b ∷ cs) c ds m x = each-at cs c ds (next b m) (x .1)
 
+-- drop and pack want no slip
+no-slips-drop : (s n : ℕ) (m : Lent) → wanted (Do (Drop s n)) m .slips ≤ left m .slips
+unfolding wanted rule
+no-slips-drop s n m = omega arith
+
+no-slips-pack : (s : ℕ) (m : Lent) → wanted (Do (Pack s)) m .slips ≤ left m .slips
+unfolding wanted rule packWants
+no-slips-pack s m =
+    let T = recounted (decode (m .pool)) in
+    let k = buffersFor (lengthOf T s) in
+    if-either (λ (w : Wants). w .slips ≤ left m .slips) (inOne T s) (want 0 0 0) (want 0 k k) (λ _. omega arith) (λ _. omega arith)
+
 -- So after any open that is done, and any calls, no call answers 2; it answers 8, 9 or 10 where no code judged before applies and more is wanted
--- than the recount leaves, and it answers none of them where there is enough.
+-- than the recount leaves and the call gives back first, and it answers none of them where there is enough.
 pub demand-codes : DemandThree → (B P S : ℕ) (m : Lent) (cs : List Call) (c : Call) → step (Open B P S) m .code ≡ 0
     → let m₁ = afterCalls cs (next (Open B P S) m) in
     let k = step c m₁ .code in
     (k ≢ 2)
     × (early c m₁ ≡ 0 → left m₁ .slips < wanted c m₁ .slips → k ≡ 8)
-    × (early c m₁ ≡ 0 → wanted c m₁ .slips ≤ left m₁ .slips → left m₁ .pieces < wanted c m₁ .pieces → k ≡ 9)
-    × (early c m₁ ≡ 0 → wanted c m₁ .slips ≤ left m₁ .slips → wanted c m₁ .pieces ≤ left m₁ .pieces → left m₁ .buffers < wanted c m₁ .buffers → k ≡ 10)
-    × (wanted c m₁ .slips ≤ left m₁ .slips → k ≢ 8) × (wanted c m₁ .pieces ≤ left m₁ .pieces → k ≢ 9) × (wanted c m₁ .buffers ≤ left m₁ .buffers → k ≢ 10)
+    × (early c m₁ ≡ 0 → wanted c m₁ .slips ≤ left m₁ .slips → length (wanted c m₁ .back) + left m₁ .pieces < wanted c m₁ .pieces → k ≡ 9)
+    × (early c m₁ ≡ 0 → wanted c m₁ .slips ≤ left m₁ .slips → wanted c m₁ .pieces ≤ length (wanted c m₁ .back) + left m₁ .pieces
+    → left m₁ .buffers < wanted c m₁ .buffers → k ≡ 10)
+    × (wanted c m₁ .slips ≤ left m₁ .slips → k ≢ 8) × (wanted c m₁ .pieces ≤ length (wanted c m₁ .back) + left m₁ .pieces → k ≢ 9) × (wanted c m₁ .buffers ≤ left m₁ .buffers → k ≢ 10)
 demand-codes d B P S m cs c e =
     let x = each-at cs c [] (next (Open B P S) m) (d B P S m (cs ++ (c ∷ [])) e .each) in (
       x .not-torn,
@@ -252,6 +268,23 @@ demand-codes d B P S m cs c e =
       λ h k. omega (arith, x .slips-full .0 k .1),
       λ h k. omega (arith, x .pieces-full .0 k .2),
       λ h k. omega (arith, x .buffers-full .0 k .3),
+    )
+
+-- After any list of calls, where no code judged before room applies: drop answers 9 exactly where it wants more than the recount leaves once the slip heads
+-- the first piece with a byte past n, and pack exactly where it wants more than the recount leaves.
+pub demand-room : DemandThree → (B P S : ℕ) (m : Lent) (cs : List Call) (s n : ℕ) → step (Open B P S) m .code ≡ 0
+    → let m₁ = afterCalls cs (next (Open B P S) m) in
+    let T = decode (m₁ .pool) in
+    (early (Do (Drop s n)) m₁ ≡ 0 → (step (Do (Drop s n)) m₁ .code ≡ 9) ↔ (leaves (turnedPast T s n) .pieces < wanted (Do (Drop s n)) m₁ .pieces))
+    × (early (Do (Pack s)) m₁ ≡ 0 → (step (Do (Pack s)) m₁ .code ≡ 9) ↔ (left m₁ .pieces < wanted (Do (Pack s)) m₁ .pieces))
+demand-room d B P S m cs s n e =
+    let m₀ = next (Open B P S) m in
+    let m₁ = afterCalls cs m₀ in
+    let T = decode (m₁ .pool) in
+    let x : CallOk (Do (Drop s n)) m₁ = each-at cs (Do (Drop s n)) [] m₀ (d B P S m (cs ++ (Do (Drop s n) ∷ [])) e .each) in
+    let y : CallOk (Do (Pack s)) m₁ = each-at cs (Do (Pack s)) [] m₀ (d B P S m (cs ++ (Do (Pack s) ∷ [])) e .each) in (
+      λ a. (λ k. omega (arith, x .pieces-full .0 k .2, x .gives-first a .room), λ l. x .pieces-full .1 (a, no-slips-drop s n m₁, omega (arith, l, x .gives-first a .room))),
+      λ a. (λ k. omega (arith, y .pieces-full .0 k .2, ap length (y .gives-first a)), λ l. y .pieces-full .1 (a, no-slips-pack s m₁, omega (arith, l, ap length (y .gives-first a)))),
     )
 
 -- After any two lists of calls, pools that agree in slips, nexts and pieces' buffers agree in every count.

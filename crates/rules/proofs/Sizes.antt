@@ -8,9 +8,9 @@ use Rattle.rules.specs.Basics.{lastOf, if_then_else_}
 use Rattle.rules.specs.Layout.{storageLength}
 use Rattle.rules.specs.Tables.{Piece, Tables, blank, piece, headOf, holding, bufferTotal, pieceTotal, setSlip, setPiece, setPieceCount}
 use Rattle.rules.specs.Chain.{State, Stretch, withTables}
-use Rattle.rules.specs.Room.{isUnheld, newBuffers}
+use Rattle.rules.specs.Room.{isUnheld, freePieces, newBuffers}
 use Rattle.rules.specs.Release.{shared, freed, releaseIn, release, turned, relinked}
-use Rattle.rules.specs.Build.{built, Plan, made, madeLink, underNew, underOld, behindOwn, stored}
+use Rattle.rules.specs.Build.{built, Plan, made, madeLink, underNew, underOld, underFreed, behindOwn, stored}
 use Rattle.rules.proofs.Logic.{if-either}
 use Rattle.rules.proofs.Build.{Planned, built-kept}
 use Rattle.rules.proofs.Room.{new-buffers-in}
@@ -90,6 +90,12 @@ pub old-sizes : {T : Tables} (S : State) (p : Plan) (fs : List ℕ) (s : ℕ) �
 unfolding underOld
 old-sizes S p fs s h =
     then-sizes h (then-sizes (built-sizes (p .base) fs (p .more) (p .tail)) (turned-sizes (withTables S (made p fs)) s (holding (madeLink p fs))))
+
+pub freed-sizes : {T : Tables} (S : State) (p : Plan) (s : ℕ) → Sizes T (p .base) → Sizes T (underFreed S p s .tables)
+unfolding underFreed
+freed-sizes S p s h =
+    let E = turned (withTables S (p .base)) s (holding 0) .tables in
+    new-sizes (record { base = E; more = p .more; tail = p .tail }) (freePieces E) s (then-sizes h (turned-sizes (withTables S (p .base)) s (holding 0)))
 
 pub behind-sizes : (S : State) (s : ℕ) (own : List ℕ) (n : ℕ) → Sizes (S .tables) (behindOwn S s own n .tables)
 unfolding behindOwn relinked

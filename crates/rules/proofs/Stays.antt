@@ -70,7 +70,7 @@ maybe-stays S X b k h = if-either (λ (Y : State). StorageStays S Y k) b S X (λ
 -- ---- which buffers are taken
 
 -- a buffer on which no new piece lies keeps its count
-built-count : (T : Tables) (fs : List ℕ) (xs : List Stretch) (tail b : ℕ) → (List·Memᴰ b (buffersOf xs) → ⊥)
+pub built-count : (T : Tables) (fs : List ℕ) (xs : List Stretch) (tail b : ℕ) → (List·Memᴰ b (buffersOf xs) → ⊥)
     → bufferCount (built T fs xs tail) b ≡ bufferCount T b
 unfolding built
 built-count T fs [] tail b n = refl

@@ -14,9 +14,9 @@ use Rattle.rules.specs.Bytes.{encode}
 use Rattle.rules.specs.Chain.{Stretch, State, chain, stretches, spans, total, firstLength, lengthOf, reads}
 use Rattle.rules.specs.Sound.{Lent, headerOk, sound, lent}
 use Rattle.rules.specs.Room.{isVacant}
-use Rattle.rules.specs.Build.{Plan, buffersFor}
-use Rattle.rules.specs.Rule.{Wants, want, room, full, firstCode}
-use Rattle.rules.specs.Drop.{dropHere, dropPlan, dropped, dropAfter}
+use Rattle.rules.specs.Build.{buffersFor}
+use Rattle.rules.specs.Rule.{Wants, want, giving, room, full, firstCode}
+use Rattle.rules.specs.Drop.{dropAfter}
 use Rattle.rules.specs.Keep.{keepAfter}
 use Rattle.rules.specs.Pullup.{pullupAfter, pullupWants}
 use Rattle.rules.specs.Pack.{packAfter, packWants}
@@ -35,18 +35,12 @@ use Rattle.rules.proofs.Audit.{sound-now}
 use Rattle.rules.proofs.Codes.{Allowed, Other, allowed, first-append, first-named, both-named, no-cause, none-full}
 use Rattle.rules.proofs.After.{at-here, at-there, held-false, reads-length}
 use Rattle.rules.proofs.Takes.{nothing-taken}
+use Rattle.rules.proofs.Drop.{drop-none, nothing-back}
 use Rattle.rules.proofs.Calls.{judged-early, reads-ok, takes}
 use Rattle.rules.proofs.Bytes.{AllBytes, header-facts, encode-decode}
 use Rattle.rules.proofs.Step.{after-state, code-is, did, next-refused, sound-within}
 
 -- ---- nothing is altered or wanted
-
--- drop of no bytes replaces no piece
-none-dropped : (Z : List ℕ) (B : ℕ) (T : Tables) (own : Bool) (ds : List ℕ) → Good Z B (stretches T ds) → dropPlan T own ds 0 .more ≡ []
-unfolding dropPlan dropHere stretches
-none-dropped Z B T own [] g = refl
-none-dropped Z B T own (d ∷ ds) g =
-    ap (λ (p : Plan). p .more) (if-F (leb (piece T d .len) 0) _ _ (λ t. (let l = leb→le (piece T d .len) 0 t in omega (arith, g .1))))
 
 module _ (S : State) (h : SoundNow (S .tables)) (f : Fit (S .tables .stock) (bufferTotal (S .tables)) (S .storage)) where
   -- an operation with nothing to do leaves the state, and wants nothing
@@ -60,9 +54,7 @@ module _ (S : State) (h : SoundNow (S .tables)) (f : Fit (S .tables .stock) (buf
   still-stays (Append a b) q = absurd q
   still-stays (Drop s n) q = (
     if-T (eqb n 0) S _ (eq→eqb n 0 q),
-    ap (λ (k : ℕ). want 0 k 0)
-        (ap (λ i. length (dropped (S .tables) s i .more)) q
-        ∙ ap {B = ℕ} length (none-dropped _ _ (S .tables) true (chain (S .tables) s) (spans-good (S .tables) s h))),
+    (λ i. giving (nothing-back (S .tables) s n h q i) (length (drop-none (S .tables) true (chain (S .tables) s) n q i)) 0),
   )
   still-stays (Keep s n) q =
       let t = eq→eqb n (lengthOf (S .tables) s) (q ∙ reads-length S h f s) in
@@ -85,13 +77,12 @@ module _ (S : State) (h : SoundNow (S .tables)) (f : Fit (S .tables .stock) (buf
 none-took : (w : ℕ) (l : List ℕ) → [] ≡ take w l → w ≤ length l → w ≡ 0
 none-took w l e r = omega (arith, ap {B = ℕ} length e, length-take w l)
 
--- where the tables stay nothing is taken, so nothing was wanted
-none-wanted : (T T′ : Tables) (w : Wants) (t : ℕ) → SoundNow T → Took T T′ w t → T′ ≡ T → (w .slips ≡ 0) × (w .pieces ≡ 0) × (w .buffers ≡ 0)
+-- where the tables stay no slip and no buffer is taken, so none was wanted
+none-wanted : (T T′ : Tables) (w : Wants) (t : ℕ) → SoundNow T → Took T T′ w t → T′ ≡ T → (w .slips ≡ 0) × (w .buffers ≡ 0)
 none-wanted T T′ w t h k e =
     let n = nothing-taken T t h in
     let r = subst (λ X. Took T X w t) e k in (
       none-took (w .slips) _ (sym (n .slips) ∙ r .slips) (r .slips-room),
-      none-took (w .pieces) _ (sym (n .pieces) ∙ r .pieces) (r .pieces-room),
       none-took (w .buffers) _ (sym (n .buffers) ∙ r .buffers) (r .buffers-room),
     )
 
@@ -129,13 +120,13 @@ module _ (S : State) (h : SoundNow (S .tables)) (f : Fit (S .tables .stock) (buf
   stays-still (Pullup s n) a e =
       let w = none-wanted _ _ _ _ h (takes (Pullup s n) S h a) (ap (λ (X : State). X .tables) e) in
       if-either (λ (x : Wants). x .buffers ≡ 0 → n ≤ firstLength (spans (S .tables) s)) (leb n (firstLength (spans (S .tables) s))) _ _
-      (λ t _. leb→le _ _ t) (λ _ z. absurd (omega arith)) (w .2)
+      (λ t _. leb→le _ _ t) (λ _ z. absurd (omega arith)) (w .1)
   stays-still (Pack s) a e =
       let w = none-wanted _ _ _ _ h (takes (Pack s) S h a) (ap (λ (X : State). X .tables) e) in
       let k = buffersFor (lengthOf (S .tables) s) in
       if-either (λ (x : Wants). x .buffers ≡ 0 → length (chain (S .tables) s) ≤ 1) (leb (length (chain (S .tables) s)) 1) (want 0 0 0) (want 0 k k)
       (λ t _. leb→le _ _ t)
-      (λ _ z. omega (arith, count-total _ _ (spans (S .tables) s) (spans-good (S .tables) s h), stretches-length (S .tables) (chain (S .tables) s))) (w .2)
+      (λ _ z. omega (arith, count-total _ _ (spans (S .tables) s) (spans-good (S .tables) s h), stretches-length (S .tables) (chain (S .tables) s))) (w .1)
   stays-still (Length s) a e = tt
   stays-still (Read s off n out) a e = tt
   stays-still (Show s n scratch) a e = tt

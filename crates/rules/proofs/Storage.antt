@@ -1,5 +1,5 @@
 -- A release leaves every byte of a buffer that it does not set free, and the length of storage. Assumes nothing.
-use mathlib.Core.Path.{_≡_, refl, sym, ap, ap₂, subst, _∙_}
+use mathlib.Core.Path.{_≡_, refl, sym, ap, ap₂, subst, subst₂, _∙_}
 use mathlib.Core.List.{List, [], _∷_, _++_}
 use Prim.Native.Nat.{ℕ, zero, suc, _+_, _-_, _≤_, _<_, min, pred}
 use native.Mathlib.Omega.{arith}
@@ -14,8 +14,8 @@ use Rattle.rules.specs.Build.{Plan, made, madeLink, underOld, behindOwn}
 use Rattle.rules.proofs.Logic.{if-either}
 use Rattle.rules.proofs.Moves.{SoundBy, SoundWith, SoundNow, in-range, by-place, slip-move, buffer-pos, free-move}
 use Rattle.rules.proofs.Release.{held-pos, last-one}
-use Rattle.rules.proofs.Build.{Free, Planned, OwnList, plan-built, made-slips, old-sound, tail-sound, withTail}
-use Rattle.rules.proofs.Chain.{AllUsed, chain-used}
+use Rattle.rules.proofs.Build.{Free, Good, Planned, OwnList, plan-built, made-slips, old-sound, tail-sound, withTail}
+use Rattle.rules.proofs.Chain.{AllUsed, chain-used, stretches-good}
 use Rattle.rules.proofs.Contents.{Fit, bytes-part}
 use Rattle.rules.proofs.Sizes.{Sizes, same-sizes, then-sizes, slip-set, piece-set, both-set, made-sizes}
 
@@ -136,18 +136,34 @@ behind-keeps S s m (d ∷ ds) l (j, o) h f =
 
 -- ---- what slips then read
 
--- the pieces ds are in use afterwards, so their buffers are held and their bytes are as before
-keeps-stretches : {rank : ℕ → ℕ} {fl : List ℕ} {S S′ : State} (ds : List ℕ) → Keeps S S′ → SoundBy rank fl (S′ .tables) → AllUsed (S′ .tables) ds
+-- no buffer on which the stretches lie is set free
+abbrev pub Spared : Tables → Tables → List Stretch → Type 0
+Spared T T′ [] = Unit {0}
+Spared T T′ (x ∷ xs) = (0 < bufferCount T (x .buffer) → 0 < bufferCount T′ (x .buffer)) × Spared T T′ xs
+
+pub spared-append : (T T′ : Tables) (xs ys : List Stretch) → Spared T T′ xs → Spared T T′ ys → Spared T T′ (xs ++ ys)
+spared-append T T′ [] ys a b = b
+spared-append T T′ (x ∷ xs) ys a b = (a .0, spared-append T T′ xs ys (a .1) b)
+
+-- so their bytes are as before
+pub keeps-contents : {S S′ : State} (xs : List Stretch) → Keeps S S′ → Good (S .tables .stock) (bufferTotal (S .tables)) xs → Spared (S .tables) (S′ .tables) xs
+    → contents (S .tables .stock) (S′ .storage) xs ≡ contents (S .tables .stock) (S .storage) xs
+unfolding contents
+keeps-contents [] k g a = refl
+keeps-contents {S} {S′} (x ∷ xs) k g a =
+    ap₂ _++_ (part-stays (S .tables .stock) (S .storage) (S′ .storage) x (g .2) (k .others (x .buffer) (g .0) (a .0))) (keeps-contents xs k (g .3) (a .1))
+
+-- the pieces ds are in use afterwards, so their buffers are held
+pub spared-used : {rank : ℕ → ℕ} {fl : List ℕ} (T : Tables) {T′ : Tables} (ds : List ℕ) → SoundBy rank fl T′ → AllUsed T′ ds → Spared T T′ (stretches T′ ds)
+unfolding stretches
+spared-used T [] h u = tt
+spared-used T (d ∷ ds) h u = (λ _. buffer-pos d (u .0) h, spared-used T ds h (u .1))
+
+pub keeps-stretches : {rank : ℕ → ℕ} {fl : List ℕ} {S S′ : State} (ds : List ℕ) → Keeps S S′ → SoundBy rank fl (S′ .tables) → AllUsed (S′ .tables) ds
     → contents (S .tables .stock) (S′ .storage) (stretches (S′ .tables) ds) ≡ contents (S .tables .stock) (S .storage) (stretches (S′ .tables) ds)
-unfolding contents stretches
-keeps-stretches [] k h u = refl
-keeps-stretches {S = S} {S′ = S′} (d ∷ ds) k h u =
-    let T = S .tables in
-    let x = stretch (piece (S′ .tables) d) in
-    let p = buffer-pos d (u .0) h in
-    let l = in-range (T .counts) 0 (λ n. n) (x .buffer) refl (omega (arith, k .fell (x .buffer))) in
-    let i = subst (λ (Z : List ℕ). x .offset + x .len ≤ sizeOf Z (x .buffer)) (k .sizes .stock-kept) (h .fits d (u .0) .inside) in
-    ap₂ _++_ (part-stays (T .stock) (S .storage) (S′ .storage) x i (k .others (x .buffer) l (λ _. p))) (keeps-stretches ds k h (u .1))
+keeps-stretches {S = S} {S′ = S′} ds k h u =
+    let xs = stretches (S′ .tables) ds in
+    keeps-contents xs k (subst₂ (λ Z n. Good Z n xs) (k .sizes .stock-kept) (k .sizes .counts-size) (stretches-good ds h u)) (spared-used (S .tables) ds h u)
 
 -- every slip's chain reads as it did in the storage before the release; Z is the stock
 pub keeps-spans : {S S′ : State} (Z : List ℕ) → S .tables .stock ≡ Z → Keeps S S′ → SoundNow (S′ .tables) → (u : ℕ)

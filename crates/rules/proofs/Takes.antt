@@ -3,7 +3,7 @@ use mathlib.Core.Path.{_≡_, refl, sym, ap, subst, _∙_}
 use mathlib.Core.Logic.{_≢_, ⊎-elim}
 use mathlib.Core.Bool.{Bool, _&&_}
 use mathlib.Core.List.{List, [], _∷_, _++_, map, List·Memᴰ, List·Memᴰ·head, List·Memᴰ·tail, List·Memᴰ·not-nil, List·Memᴰ·cases-cons}
-use Prim.Native.Nat.{ℕ, zero, suc, _-_, _≤_, _<_, pred}
+use Prim.Native.Nat.{ℕ, zero, suc, _+_, _-_, _≤_, _<_, pred}
 use native.Mathlib.Decide.{ℕ-discrete}
 use native.Mathlib.Omega.{arith}
 use lib.ListN.{length, getD, take, drop}
@@ -12,7 +12,7 @@ use Rattle.rules.specs.Basics.{Is, places, passing, member}
 use Rattle.rules.specs.Tables.{Tables, slip, piece, bufferCount, headOf, slipTotal, pieceTotal, bufferTotal}
 use Rattle.rules.specs.Chain.{Stretch, chain, stretches, spans, cutOut}
 use Rattle.rules.specs.Sound.{inUse, lying}
-use Rattle.rules.specs.Room.{isVacant, isFree, isUnheld, vacantSlips, freePieces, freeBuffers, newSlip, newBuffers}
+use Rattle.rules.specs.Room.{isVacant, isFree, isFreeWith, isUnheld, vacantSlips, freePieces, freeWith, freeBuffers, newSlip, newBuffers}
 use Rattle.rules.specs.Build.{laid}
 use Rattle.rules.specs.Rule.{Rule, Wants, want, room}
 use Rattle.rules.specs.Recount.{reached}
@@ -78,7 +78,7 @@ in-member d [] m = absurd (List·Memᴰ·not-nil m)
 in-member d (x ∷ l) m =
     ⊎-elim (λ e. or-left (eqb x d) (member d l) (eq→eqb x d (sym e))) (λ z. or-right (eqb x d) (member d l) (in-member d l z)) (List·Memᴰ·cases-cons m)
 
-member-in : (d : ℕ) (l : List ℕ) → Is (member d l) → List·Memᴰ d l
+pub member-in : (d : ℕ) (l : List ℕ) → Is (member d l) → List·Memᴰ d l
 unfolding member
 member-in d [] t = absurd t
 member-in d (x ∷ l) t = ⊎-elim (λ e. List·Memᴰ·head (sym (eqb→eq x d e))) (λ m. List·Memᴰ·tail (member-in d l m)) (or-cases (eqb x d) (member d l) t)
@@ -127,7 +127,7 @@ old-none T T′ u h′ e =
 -- ---- the claim, from what the slips hold
 
 abbrev pub Roomy : Tables → Wants → Type 0
-Roomy T w = (w .slips ≤ room T .slips) × (w .pieces ≤ room T .pieces) × (w .buffers ≤ room T .buffers)
+Roomy T w = (w .slips ≤ room T .slips) × (w .pieces ≤ length (w .back) + room T .pieces) × (w .buffers ≤ room T .buffers)
 
 -- what is on a chain, and on no other than that of t
 on-target : (f : ℕ → Bool) (on : ℕ → List ℕ) (t x : ℕ) → ((u : ℕ) → u ≢ t → NoneOf f (on u)) → Is (f x) → (s : ℕ) × List·Memᴰ x (on s) → List·Memᴰ x (on t)
@@ -141,13 +141,17 @@ pub new-pass : (f : ℕ → Bool) (n k : ℕ) → passing f (take k (places f 0 
 new-pass f n k = passing-all f 0 n (take k (places f 0 n)) (new-in f n k)
 
 -- new pieces and buffers are on the chain of t alone, and there in order
-pub took : (T T′ : Tables) (w : Wants) (t : ℕ) → SoundNow T′ → Roomy T w → ((u : ℕ) → u ≢ t → Old T T′ u) → tookSlips T T′ ≡ take (w .slips) (vacantSlips T)
-    → passing (isFree T) (chain T′ t) ≡ take (w .pieces) (freePieces T) → passing (isUnheld T) (buffersOf (spans T′ t)) ≡ take (w .buffers) (freeBuffers T) → Took T T′ w t
-took T T′ w t h r old s p b = record {
+pub took-with : (T T′ : Tables) (w : Wants) (t : ℕ) → SoundNow T′ → Roomy T w → ((u : ℕ) → u ≢ t → NoneOf (isFreeWith T (w .back)) (chain T′ u))
+    → ((u : ℕ) → u ≢ t → Old T T′ u) → tookSlips T T′ ≡ take (w .slips) (vacantSlips T)
+    → passing (isFreeWith T (w .back)) (chain T′ t) ≡ take (w .pieces) (freeWith T (w .back))
+    → passing (isUnheld T) (buffersOf (spans T′ t)) ≡ take (w .buffers) (freeBuffers T) → Took T T′ w t
+took-with T T′ w t h r none old s p b = record {
   slips = s;
-  pieces = took-are (isFree T) (isFree T′) (pieceTotal T) (chain T′ t) (take (w .pieces) (freePieces T)) (new-in (isFree T) (pieceTotal T) (w .pieces)) p
+  pieces = (
+      let f = isFreeWith T (w .back) in
+      took-are f (isFree T′) (pieceTotal T) (chain T′ t) (take (w .pieces) (freeWith T (w .back))) (new-in f (pieceTotal T) (w .pieces)) p
       (λ x m z. none-not (isFree T′) x (chain T′ t) (used-none T′ (chain T′ t) (chain-used T′ t h)) z m)
-      (λ x z n. on-target (isFree T) (chain T′) t x (λ u e. old u e .pieces-old) z (used-on T′ h x (not-zero (piece T′ x .count) n)));
+      (λ x z n. on-target f (chain T′) t x none z (used-on T′ h x (not-zero (piece T′ x .count) n))));
   buffers = took-are (isUnheld T) (isUnheld T′) (bufferTotal T) (buffersOf (spans T′ t)) (take (w .buffers) (freeBuffers T)) (new-in (isUnheld T) (bufferTotal T) (w .buffers)) b
       (λ x m z. none-not (isUnheld T′) x (buffersOf (spans T′ t)) (spans-none T′ t h) z m)
       (λ x z n. on-target (isUnheld T) (λ u. buffersOf (spans T′ u)) t x (λ u e. old u e .buffers-old) z (held-on T′ h x (not-zero (bufferCount T′ x) n)));
@@ -157,6 +161,12 @@ took T T′ w t h r old s p b = record {
   pieces-order = p;
   buffers-order = b;
 }
+
+-- where nothing is given back first
+pub took : (T T′ : Tables) (a k m t : ℕ) → SoundNow T′ → Roomy T (want a k m) → ((u : ℕ) → u ≢ t → Old T T′ u) → tookSlips T T′ ≡ take a (vacantSlips T)
+    → passing (isFree T) (chain T′ t) ≡ take k (freePieces T) → passing (isUnheld T) (buffersOf (spans T′ t)) ≡ take m (freeBuffers T) → Took T T′ (want a k m) t
+unfolding member
+took T T′ a k m t h r old s p b = took-with T T′ (want a k m) t h r (λ u n. old u n .pieces-old) old s p b
 
 -- no slip is taken, or the lowest vacant one is
 pub no-slips : (T T′ : Tables) → ((u : ℕ) → slip T u ≡ 0 → slip T′ u ≡ 0) → tookSlips T T′ ≡ []
@@ -181,7 +191,7 @@ one-slip T T′ v k p =
 -- nothing is taken
 pub took-none : (T T′ : Tables) (t : ℕ) → SoundNow T′ → ((u : ℕ) → Old T T′ u) → ((u : ℕ) → slip T u ≡ 0 → slip T′ u ≡ 0) → Took T T′ (want 0 0 0) t
 took-none T T′ t h old k =
-    took T T′ (want 0 0 0) t h (omega arith) (λ u _. old u) (no-slips T T′ k)
+    took T T′ 0 0 0 t h (omega arith) (λ u _. old u) (no-slips T T′ k)
     (passing-none (isFree T) (chain T′ t) (old t .pieces-old)) (passing-none (isUnheld T) (buffersOf (spans T′ t)) (old t .buffers-old))
 
 pub nothing-taken : (T : Tables) (t : ℕ) → SoundNow T → Took T T (want 0 0 0) t
@@ -189,21 +199,21 @@ nothing-taken T t h = took-none T T t h (λ u. old-as T T u u h h refl (same-ref
 
 -- slip t comes to hold l, which covers xs
 module _ (T T′ : Tables) (t : ℕ) (l : List ℕ) (xs : List Stretch) (h : SoundNow T) (h′ : SoundNow T′) (g : Gives T T′ t l xs) where
-  took-gives : (w : Wants) → Roomy T w → tookSlips T T′ ≡ take (w .slips) (vacantSlips T)
-      → passing (isFree T) l ≡ take (w .pieces) (freePieces T) → passing (isUnheld T) (buffersOf xs) ≡ take (w .buffers) (freeBuffers T) → Took T T′ w t
-  took-gives w r s p b =
-      took T T′ w t h′ r (λ u n. old-as T T′ u u h h′ (g .entries u n) (g .others u n)) s
+  took-gives : (a k m : ℕ) → Roomy T (want a k m) → tookSlips T T′ ≡ take a (vacantSlips T)
+      → passing (isFree T) l ≡ take k (freePieces T) → passing (isUnheld T) (buffersOf xs) ≡ take m (freeBuffers T) → Took T T′ (want a k m) t
+  took-gives a k m r s p b =
+      took T T′ a k m t h′ r (λ u n. old-as T T′ u u h h′ (g .entries u n) (g .others u n)) s
       (ap (passing (isFree T)) (gives-chain g h′) ∙ p) (ap (λ (ys : List Stretch). passing (isUnheld T) (buffersOf ys)) (gives-spans g h′) ∙ b)
 
   -- where t was held
   pub took-held : 0 < slip T t → (k m : ℕ) → Roomy T (want 0 k m) → passing (isFree T) l ≡ take k (freePieces T) → passing (isUnheld T) (buffersOf xs) ≡ take m (freeBuffers T)
       → Took T T′ (want 0 k m) t
-  took-held v k m r = took-gives (want 0 k m) r (no-slips T T′ (λ u z. g .entries u (λ e. omega (arith, ap (slip T) e)) ∙ z))
+  took-held v k m r = took-gives 0 k m r (no-slips T T′ (λ u z. g .entries u (λ e. omega (arith, ap (slip T) e)) ∙ z))
 
 -- under the lowest vacant slip
 pub took-new : (T T′ : Tables) (l : List ℕ) (xs : List Stretch) → SoundNow T → SoundNow T′ → Gives T T′ (newSlip T) l xs → (k m : ℕ) → Roomy T (want 1 k m)
     → passing (isFree T) l ≡ take k (freePieces T) → passing (isUnheld T) (buffersOf xs) ≡ take m (freeBuffers T) → Took T T′ (want 1 k m) (newSlip T)
-took-new T T′ l xs h h′ g k m r = took-gives T T′ (newSlip T) l xs h h′ g (want 1 k m) r (one-slip T T′ (r .0) (g .entries) (g .held))
+took-new T T′ l xs h h′ g k m r = took-gives T T′ (newSlip T) l xs h h′ g 1 k m r (one-slip T T′ (r .0) (g .entries) (g .held))
 
 -- new pieces before old ones, and new stretches on new buffers
 pub new-front : (T : Tables) (k : ℕ) (l : List ℕ) → AllUsed T l → passing (isFree T) (take k (freePieces T) ++ l) ≡ take k (freePieces T)

@@ -9,7 +9,7 @@ use Rattle.rules.specs.Tables.{piece, headOf, holding, pieceTotal, buffe
 use Rattle.rules.specs.Chain.{State, Stretch, chain, spans, firstLength, lengthOf, reads, withTables, ownOf}
 use Rattle.rules.specs.Room.{newBuffers, freePieces}
 use Rattle.rules.specs.Release.{freed, releaseIn, release, turned, relinked}
-use Rattle.rules.specs.Build.{Plan, plain, made, madeLink, underOld, behindOwn, stored}
+use Rattle.rules.specs.Build.{Plan, plain, made, madeLink, underOld, underFreed, behindOwn, stored}
 use Rattle.rules.specs.Rule.{Rule, Wants}
 use Rattle.rules.specs.Put.{putAfter}
 use Rattle.rules.specs.Dup.{dupAfter}
@@ -48,6 +48,10 @@ pub old-storage : (S : State) (p : Plan) (fs : List ℕ) (s : ℕ) → underOld 
 unfolding underOld
 old-storage S p fs s = turned-storage (withTables S (made p fs)) s (holding (madeLink p fs))
 
+pub freed-storage : (S : State) (p : Plan) (s : ℕ) → underFreed S p s .storage ≡ S .storage
+unfolding underFreed
+freed-storage S p s = turned-storage (withTables S (p .base)) s (holding 0)
+
 pub behind-storage : (S : State) (s : ℕ) (own : List ℕ) (n : ℕ) → behindOwn S s own n .storage ≡ S .storage
 unfolding behindOwn relinked
 behind-storage S s [] n = turned-storage S s (holding n)
@@ -82,7 +86,7 @@ writes (Append a b) S = (
 )
 writes (Drop s n) S = (
   [],
-  let T = S .tables in if-either (λ (X : State). X .storage ≡ S .storage) (eqb n 0) _ _ (λ _. refl) (λ _. old-storage S (dropped T s n) (freePieces T) s),
+  let T = S .tables in if-either (λ (X : State). X .storage ≡ S .storage) (eqb n 0) _ _ (λ _. refl) (λ _. freed-storage S (dropped T s n) s),
 )
 writes (Keep s n) S = (
   [],
@@ -95,7 +99,7 @@ writes (Pullup s n) S = (
   let T = S .tables in
       if-both (λ (X : State) (w : Wants). X .storage ≡ stored (T .stock) (S .storage) (newBuffers T (w .buffers)) (take n (reads S s)))
       (leb n (firstLength (spans T s))) _ _ _ _
-      (λ _. refl) (λ _. old-storage _ (pulled T s n) (freePieces T) s),
+      (λ _. refl) (λ _. freed-storage _ (pulled T s n) s),
 )
 writes (Pack s) S = (
   reads S s,

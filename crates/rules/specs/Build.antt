@@ -7,6 +7,7 @@ use Rattle.kinds.specs.Sizes.{sizeOf, startOf}
 use Rattle.rules.specs.Basics.{lastOf}
 use Rattle.rules.specs.Tables.{Piece, Tables, bufferCount, holding, setSlip, setPieceCount}
 use Rattle.rules.specs.Chain.{State, Stretch, withTables}
+use Rattle.rules.specs.Room.{freePieces}
 use Rattle.rules.specs.Release.{turned, relinked}
 
 -- ---- pieces
@@ -55,6 +56,12 @@ underNew p fs t = setSlip (made p fs) t (holding (madeLink p fs))
 -- the new chain under the slip s, whose old chain is released
 unfoldable pub underOld : State → Plan → List ℕ → ℕ → State
 underOld S p fs s = turned (withTables S (made p fs)) s (holding (madeLink p fs))
+
+-- the new chain under the slip s, whose old chain is released first, while what stays is held: the new pieces are the lowest that are then free
+unfoldable pub underFreed : State → Plan → ℕ → State
+underFreed S p s =
+    let E = turned (withTables S (p .base)) s (holding 0) in
+    withTables E (underNew (record { base = E .tables; more = p .more; tail = p .tail }) (freePieces (E .tables)) s)
 
 -- the link n behind the own pieces of s, and what stood there is released
 unfoldable pub behindOwn : State → ℕ → List ℕ → ℕ → State

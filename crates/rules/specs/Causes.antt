@@ -1,8 +1,8 @@
--- Document 01's table of codes: when each is given.
+-- The table of codes of documents 01 and 02: when each is given.
 use mathlib.Core.Path.{_≡_}
 use mathlib.Core.Logic.{_⊎_, _↔_}
 use mathlib.Core.List.{List, [], _∷_}
-use Prim.Native.Nat.{ℕ, _≤_, _<_}
+use Prim.Native.Nat.{ℕ, _+_, _≤_, _<_}
 use lib.ListN.{length, getD}
 use Rattle.kinds.specs.declared.Refusal.{Refusal}
 use Rattle.kinds.specs.declared.Refusal.the-variants.{Counts, Torn, Slip, Same, Long, Range, Narrow, Slips, Pieces, Buffers, WireList}
@@ -30,7 +30,7 @@ Twice (s ∷ ss) = Among ss s ⊎ Twice ss
 abbrev pub firstReads : Meaning → State → List ℕ
 firstReads o S = reads S (getD (o .names) 0 0)
 
--- The table, row by row: the cause of each code for an operation of meaning o on a sound pool.
+-- The table, row by row: the cause of each code for an operation of meaning o on a sound pool. For pieces, what the call gives back first is there too.
 abbrev pub Cause : Refusal → Meaning → State → Type 0
 Cause Counts o S = ⊥
 Cause Torn o S = ⊥
@@ -40,7 +40,7 @@ Cause Long o S = 512 < o .asks S .atOnce
 Cause Range o S = length (firstReads o S) < o .asks S .upTo
 Cause Narrow o S = length (o .lent) < o .asks S .copies
 Cause Slips o S = leaves (S .tables) .slips < o .asks S .new .slips
-Cause Pieces o S = leaves (S .tables) .pieces < o .asks S .new .pieces
+Cause Pieces o S = length (o .asks S .new .back) + leaves (S .tables) .pieces < o .asks S .new .pieces
 Cause Buffers o S = leaves (S .tables) .buffers < o .asks S .new .buffers
 Cause WireList o S = ⊥
 

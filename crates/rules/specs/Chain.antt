@@ -30,7 +30,7 @@ ownPieces zero T n = []
 ownPieces (suc k) T zero = []
 ownPieces (suc k) T (suc d) = if eqb (piece T d .count) 1 then d ∷ ownPieces k T (piece T d .next) else []
 
--- the own pieces of a slip, by the counts at entry
+-- the own pieces of a slip, by the counts of the tables
 abbrev pub ownOf : Tables → ℕ → List ℕ
 ownOf T s = ownPieces (pieceTotal T) T (headOf T s)
 

@@ -2,16 +2,15 @@
 use mathlib.Core.Bool.{Bool, true}
 use mathlib.Core.List.{List, [], _∷_}
 use Prim.Native.Nat.{ℕ, zero, suc, _+_, _-_}
-use lib.ListN.{length, drop}
+use lib.ListN.{length, take, drop}
 use lib.Dec.{ltb, eqb, leb}
 use Rattle.kinds.specs.declared.Refusal.the-variants.{Slip, Range}
 use Rattle.rules.specs.Basics.{if_then_else_}
 use Rattle.rules.specs.Tables.{Piece, Tables, piece, setPiece, withPlace}
 use Rattle.rules.specs.Chain.{State, stretch, chain, lengthOf, reads, spans, overlaps, splits, ownOf, ownAt}
-use Rattle.rules.specs.Room.{freePieces}
 use Rattle.rules.specs.Release.{shared}
-use Rattle.rules.specs.Build.{Plan, plain, underOld}
-use Rattle.rules.specs.Rule.{Rule, _⇐_, unnamed, want, alters, Meaning, means, reading, Asks, asking}
+use Rattle.rules.specs.Build.{Plan, plain, underFreed}
+use Rattle.rules.specs.Rule.{Rule, _⇐_, unnamed, giving, alters, Meaning, means, reading, Asks, asking}
 
 -- a piece without its first n bytes
 abbrev pub shorter : Piece → ℕ → Piece
@@ -37,20 +36,28 @@ dropPlan T own (d ∷ ds) n =
 abbrev pub dropped : Tables → ℕ → ℕ → Plan
 dropped T s n = dropPlan T true (chain T s) n
 
+-- what it gives back first: the pieces that are own once what stays is held, which release frees
+abbrev pub dropBack : Tables → ℕ → ℕ → List ℕ
+dropBack T s n = ownOf (dropped T s n .base) s
+
 unfoldable pub dropAfter : ℕ → ℕ → State → State
-dropAfter s n S = let T = S .tables in if eqb n 0 then S else underOld S (dropped T s n) (freePieces T) s
+dropAfter s n S = if eqb n 0 then S else underFreed S (dropped (S .tables) s n) s
 
 abbrev pub dropFirst : ℕ → ℕ → State → Rule
 dropFirst s n S =
     let T = S .tables in
-    alters ((Slip ⇐ unnamed T s) ∷ (Range ⇐ ltb (lengthOf T s) n) ∷ []) (want 0 (length (dropped T s n .more)) 0) 0 (dropAfter s n S)
+    alters ((Slip ⇐ unnamed T s) ∷ (Range ⇐ ltb (lengthOf T s) n) ∷ []) (giving (dropBack T s n) (length (dropped T s n .more)) 0) 0 (dropAfter s n S)
 
 -- A piece where n falls inside a piece that is not own: that piece is the last that the n bytes overlap.
 abbrev pub dropPieces : Tables → ℕ → ℕ → ℕ
 dropPieces T s n = let xs = spans T s in if leb (overlaps xs 0 0 n) (length (ownOf T s)) then 0 else splits xs 0 n
 
+-- The own pieces in front: of those that the n bytes overlap, all but one that n falls inside.
+abbrev pub frontOwn : Tables → ℕ → ℕ → List ℕ
+frontOwn T s n = let xs = spans T s in take (overlaps xs 0 0 n - splits xs 0 n) (ownOf T s)
+
 abbrev pub dropAsks : ℕ → ℕ → State → Asks
-dropAsks s n S = asking 0 n 0 (want 0 (dropPieces (S .tables) s n) 0)
+dropAsks s n S = let T = S .tables in asking 0 n 0 (giving (frontOwn T s n) (dropPieces T s n) 0)
 
 -- s reads its bytes but the first n
 abbrev pub dropCall : ℕ → ℕ → Meaning

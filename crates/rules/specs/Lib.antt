@@ -30,7 +30,9 @@ pub mod Recount
 pub mod Places
 pub mod Most
 pub mod Causes
+pub mod Back
 pub mod Demand
+pub mod Full
 pub mod After
 pub mod Takes
 pub mod Answers

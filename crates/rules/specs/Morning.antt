@@ -1,5 +1,4 @@
--- The ten marked rows of document 01's morning, and its edges: pool B 4, P 6, S 4; data byte i
--- is i mod 251.
+-- The ten marked rows of document 01's morning, its edges, and document 02's full tables: pool B 4, P 6, S 4; data byte i is i mod 251.
 use mathlib.Core.List.{List, [], _∷_, _++_, map}
 use Prim.Native.Nat.{ℕ, zero, suc, _-_, _%_}
 use lib.ListN.{length, replicate}
@@ -121,3 +120,43 @@ tried (e ∷ es) m =
     let a = step (Do (e .call)) (afterCalls (map Do (e .before)) m) in
     let T = decode (a .pool) in
     edge (e .before) (e .call) (a .code) (a .number) (T .slips) (pieceTotal T - length (freePieces T)) ∷ tried es m
+
+-- A full table: the calls before it in a fresh pool, the call, its code, and the tables after it.
+pub record FullTable : Type 0 where
+  pub before : List Operation
+  pub call : Operation
+  pub code : ℕ
+  pub tables : Tables
+
+abbrev pub fullTable : List Operation → Operation → ℕ → Tables → FullTable
+fullTable os o c T = record { before = os; call = o; code = c; tables = T }
+
+-- 600 bytes under slip 0: piece 0 of 512, piece 1 of 88
+abbrev pub put600 : Operation
+put600 = Put (byteRun 0 600)
+
+-- No piece is free but in the fourth. An own front gives its pieces back and the call is done, with their numbers, lowest first; a shared one gives
+-- nothing back; one piece is too few where two are wanted; and at a border, before a shared piece too, none is wanted.
+abbrev pub fullTables : List FullTable
+fullTables =
+    fullTable (put600 ∷ Cut 0 500 50 ∷ Cut 0 500 50 ∷ []) (Pullup 1 20) 0
+    (state (2 ∷ 4 ∷ 6 ∷ 0 ∷ []) (p 1 0 0 512 2 ∷ p 1 1 0 88 0 ∷ p 1 2 0 20 4 ∷ p 1 1 8 30 0 ∷ p 1 0 500 12 6 ∷ p 1 1 0 38 0 ∷ []) (2 ∷ 3 ∷ 1 ∷ 0 ∷ []))
+    ∷ fullTable (put600 ∷ Put (byteRun 0 10) ∷ Append 0 1 ∷ Dup 0 ∷ Drop 1 512 ∷ Cut 0 0 600 ∷ Dup 1 ∷ []) (Pullup 1 98) 9
+    (state (2 ∷ 3 ∷ 5 ∷ 7 ∷ []) (p 1 0 0 512 2 ∷ p 2 1 0 88 3 ∷ p 2 2 0 10 0 ∷ p 1 0 0 512 5 ∷ p 1 1 0 88 0 ∷ p 1 1 0 88 3 ∷ []) (2 ∷ 3 ∷ 1 ∷ 0 ∷ []))
+    ∷ fullTable (put600 ∷ Cut 0 500 50 ∷ Dup 1 ∷ Dup 0 ∷ []) (Pullup 1 20) 9
+    (state (2 ∷ 4 ∷ 6 ∷ 7 ∷ []) (p 1 0 0 512 2 ∷ p 2 1 0 88 0 ∷ p 1 0 500 12 4 ∷ p 2 1 0 38 0 ∷ p 1 0 500 12 4 ∷ p 1 0 0 512 2 ∷ []) (4 ∷ 2 ∷ 0 ∷ 0 ∷ []))
+    ∷ fullTable (put600 ∷ Cut 0 500 50 ∷ Dup 1 ∷ []) (Pullup 1 20) 0
+    (state (2 ∷ 4 ∷ 6 ∷ 0 ∷ []) (p 1 0 0 512 2 ∷ p 1 1 0 88 0 ∷ p 1 2 0 20 6 ∷ p 1 1 0 38 0 ∷ p 1 0 500 12 4 ∷ p 1 1 8 30 0 ∷ []) (2 ∷ 3 ∷ 1 ∷ 0 ∷ []))
+    ∷ fullTable (put600 ∷ Dup 0 ∷ Cut 0 0 600 ∷ Dup 2 ∷ []) (Drop 0 520) 0
+    (state (2 ∷ 4 ∷ 5 ∷ 7 ∷ []) (p 1 1 8 80 0 ∷ p 1 1 0 88 0 ∷ p 1 0 0 512 2 ∷ p 1 0 0 512 5 ∷ p 2 1 0 88 0 ∷ p 1 0 0 512 5 ∷ []) (3 ∷ 3 ∷ 0 ∷ 0 ∷ []))
+    ∷ fullTable (put600 ∷ Dup 0 ∷ Drop 1 512 ∷ Cut 0 0 600 ∷ Cut 0 0 600 ∷ []) (Drop 1 8) 9
+    (state (2 ∷ 3 ∷ 4 ∷ 6 ∷ []) (p 1 0 0 512 2 ∷ p 2 1 0 88 0 ∷ p 1 0 0 512 4 ∷ p 1 1 0 88 0 ∷ p 1 0 0 512 6 ∷ p 1 1 0 88 0 ∷ []) (3 ∷ 3 ∷ 0 ∷ 0 ∷ []))
+    ∷ fullTable (put600 ∷ Dup 0 ∷ Cut 0 0 600 ∷ Dup 2 ∷ []) (Drop 0 512) 0
+    (state (3 ∷ 4 ∷ 5 ∷ 7 ∷ []) (blank ∷ p 2 1 0 88 0 ∷ p 1 0 0 512 2 ∷ p 1 0 0 512 5 ∷ p 2 1 0 88 0 ∷ p 1 0 0 512 5 ∷ []) (3 ∷ 2 ∷ 0 ∷ 0 ∷ [])) ∷ []
+
+-- what the rules give for each of a list of full tables
+unfoldable pub triedFull : List FullTable → Lent → List FullTable
+triedFull [] m = []
+triedFull (e ∷ es) m =
+    let a = step (Do (e .call)) (afterCalls (map Do (e .before)) m) in
+    fullTable (e .before) (e .call) (a .code) (decode (a .pool)) ∷ triedFull es m

@@ -9,10 +9,10 @@ use Rattle.kinds.specs.Limits.{bufferSize}
 use Rattle.rules.specs.Basics.{if_then_else_}
 use Rattle.rules.specs.Tables.{Tables}
 use Rattle.rules.specs.Chain.{State, spans, firstLength, lengthOf, reads, withStorage}
-use Rattle.rules.specs.Room.{freePieces, newBuffers}
-use Rattle.rules.specs.Build.{Plan, underOld, laid, stored}
-use Rattle.rules.specs.Rule.{Rule, _⇐_, unnamed, Wants, want, alters, Meaning, means, reading, Asks, asking}
-use Rattle.rules.specs.Drop.{dropped, dropPieces}
+use Rattle.rules.specs.Room.{newBuffers}
+use Rattle.rules.specs.Build.{Plan, underFreed, laid, stored}
+use Rattle.rules.specs.Rule.{Rule, _⇐_, unnamed, Wants, want, giving, alters, Meaning, means, reading, Asks, asking}
+use Rattle.rules.specs.Drop.{dropped, dropBack, dropPieces, frontOwn}
 
 -- n bytes on a new buffer, before what drop of n leaves
 abbrev pub pulled : Tables → ℕ → ℕ → Plan
@@ -24,26 +24,26 @@ pulled T s n =
 abbrev pub inFirst : Tables → ℕ → ℕ → Bool
 inFirst T s n = leb n (firstLength (spans T s))
 
--- Else they are copied to a new buffer, and the rest of it is zero.
+-- Else they are copied to a new buffer, and the rest of it is zero; only then is anything given back.
 unfoldable pub pullupAfter : ℕ → ℕ → State → State
 pullupAfter s n S =
     let T = S .tables in
     if inFirst T s n then S
-    else underOld (withStorage S (stored (T .stock) (S .storage) (newBuffers T 1) (take n (reads S s)))) (pulled T s n) (freePieces T) s
+    else underFreed (withStorage S (stored (T .stock) (S .storage) (newBuffers T 1) (take n (reads S s)))) (pulled T s n) s
 
 unfoldable pub pullupWants : Tables → ℕ → ℕ → Wants
-pullupWants T s n = if inFirst T s n then want 0 0 0 else want 0 (suc (length (dropped T s n .more))) 1
+pullupWants T s n = if inFirst T s n then want 0 0 0 else giving (dropBack T s n) (suc (length (dropped T s n .more))) 1
 
 abbrev pub pullup : ℕ → ℕ → State → Rule
 pullup s n S =
     let T = S .tables in
     alters ((Slip ⇐ unnamed T s) ∷ (Long ⇐ ltb bufferSize n) ∷ (Range ⇐ ltb (lengthOf T s) n) ∷ []) (pullupWants T s n) 0 (pullupAfter s n S)
 
--- n bytes at once; where the first piece does not have them, a piece and a buffer, and what drop of n asks
+-- n bytes at once; where the first piece does not have them, a piece and a buffer, and what drop of n asks and gives back first
 abbrev pub pullupAsks : ℕ → ℕ → State → Asks
 pullupAsks s n S =
     let T = S .tables in
-    asking n n 0 (if leb n (firstLength (spans T s)) then want 0 0 0 else want 0 (1 + dropPieces T s n) 1)
+    asking n n 0 (if leb n (firstLength (spans T s)) then want 0 0 0 else giving (frontOwn T s n) (1 + dropPieces T s n) 1)
 
 -- s reads as before
 abbrev pub pullupCall : ℕ → ℕ → Meaning

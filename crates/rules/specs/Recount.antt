@@ -9,7 +9,7 @@ use Rattle.rules.specs.Tables.{Tables, blank, isBlank, piece, bufferCoun
 use Rattle.rules.specs.Chain.{follow, chain}
 use Rattle.rules.specs.Sound.{leads, heads}
 use Rattle.rules.specs.Room.{isVacant}
-use Rattle.rules.specs.Rule.{Wants, want}
+use Rattle.rules.specs.Rule.{Spare, spare}
 
 -- A piece is reached if a held slip heads it, or if it is the next of a reached piece.
 pub data Reached (T : Tables) : ℕ → Type 0 where
@@ -37,9 +37,9 @@ unfoldable pub recounted : Tables → Tables
 recounted T = countedBy T (references T) (holders T)
 
 -- what the recount leaves: slips vacant, pieces not reached, buffers without references
-unfoldable pub leaves : Tables → Wants
+unfoldable pub leaves : Tables → Spare
 leaves T =
-    want (sumTo (slipTotal T) (λ s. bit (isVacant T s)))
+    spare (sumTo (slipTotal T) (λ s. bit (isVacant T s)))
     (sumTo (pieceTotal T) (λ d. bit (not (reached T d))))
     (sumTo (bufferTotal T) (λ b. bit (eqb (holders T b) 0)))
 

@@ -1,10 +1,10 @@
 -- The free numbers, lowest first, and the new numbers that a call takes.
-use mathlib.Core.Bool.{Bool}
+use mathlib.Core.Bool.{Bool, _||_}
 use mathlib.Core.List.{List}
 use Prim.Native.Nat.{ℕ, _-_}
 use lib.ListN.{getD, take}
 use lib.Dec.{eqb}
-use Rattle.rules.specs.Basics.{places}
+use Rattle.rules.specs.Basics.{places, member}
 use Rattle.rules.specs.Tables.{Tables, slip, piece, bufferCount, vacant, slipTotal, pieceTotal, bufferTotal}
 
 abbrev pub isVacant : Tables → ℕ → Bool
@@ -21,6 +21,13 @@ vacantSlips T = places (isVacant T) 0 (slipTotal T)
 
 abbrev pub freePieces : Tables → List ℕ
 freePieces T = places (isFree T) 0 (pieceTotal T)
+
+-- piece d is one of ds, which are given back first, or free; and all such pieces
+abbrev pub isFreeWith : Tables → List ℕ → ℕ → Bool
+isFreeWith T ds d = member d ds || isFree T d
+
+abbrev pub freeWith : Tables → List ℕ → List ℕ
+freeWith T ds = places (isFreeWith T ds) 0 (pieceTotal T)
 
 -- the free pieces from number i on
 abbrev pub freeFrom : Tables → ℕ → List ℕ

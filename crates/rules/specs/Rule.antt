@@ -1,7 +1,7 @@
 -- What a call's rule says of it, where the pool is sound.
 use mathlib.Core.Bool.{Bool, true, false, not, _&&_}
 use mathlib.Core.List.{List, [], _∷_, _++_}
-use Prim.Native.Nat.{ℕ}
+use Prim.Native.Nat.{ℕ, _+_}
 use lib.ListN.{length}
 use lib.Dec.{ltb}
 use Rattle.kinds.specs.declared.Refusal.{Refusal}
@@ -30,17 +30,32 @@ firstCode (j ∷ js) = if j .applies then refusalCode (j .refusal) else firstCod
 abbrev pub unnamed : Tables → ℕ → Bool
 unnamed T s = not (ltb s (slipTotal T) && not (isVacant T s))
 
--- How many new slips, pieces and buffers; also how many there are.
+-- How many new slips, pieces and buffers a call wants, and the pieces that it gives back first.
 pub record Wants : Type 0 where
+  pub slips : ℕ
+  pub pieces : ℕ
+  pub back : List ℕ
+  pub buffers : ℕ
+
+-- new slips, pieces and buffers, where nothing is given back first
+abbrev pub want : ℕ → ℕ → ℕ → Wants
+want s p b = record { slips = s; pieces = p; back = []; buffers = b }
+
+-- new pieces and buffers, where the pieces ds are given back first
+abbrev pub giving : List ℕ → ℕ → ℕ → Wants
+giving ds p b = record { slips = 0; pieces = p; back = ds; buffers = b }
+
+-- How many slips are vacant, and how many pieces and buffers free.
+pub record Spare : Type 0 where
   pub slips : ℕ
   pub pieces : ℕ
   pub buffers : ℕ
 
-abbrev pub want : ℕ → ℕ → ℕ → Wants
-want s p b = record { slips = s; pieces = p; buffers = b }
+abbrev pub spare : ℕ → ℕ → ℕ → Spare
+spare s p b = record { slips = s; pieces = p; buffers = b }
 
 -- What a call asks, in the words of document 01's table of codes: how many bytes at once (pullup and show); up to which byte
--- of the chain of the slip that it names first; how many numbers are copied to what it is lent; and how many new slips, pieces and buffers.
+-- of the chain of the slip that it names first; how many numbers are copied to what it is lent; and how many new slips, pieces and buffers, with the pieces given back first.
 pub record Asks : Type 0 where
   pub atOnce : ℕ
   pub upTo : ℕ
@@ -58,8 +73,8 @@ abbrev pub asksNew : Wants → Asks
 asksNew w = asking 0 0 0 w
 
 -- the room at entry
-abbrev pub room : Tables → Wants
-room T = want (length (vacantSlips T)) (length (freePieces T)) (length (freeBuffers T))
+abbrev pub room : Tables → Spare
+room T = spare (length (vacantSlips T)) (length (freePieces T)) (length (freeBuffers T))
 
 -- Where show's view starts: in the scratch (1) or in storage (0), and at which byte.
 pub record View : Type 0 where
@@ -79,9 +94,12 @@ pub record Rule : Type 0 where
   pub output : List ℕ
   pub view : View
 
--- "full": more is wanted than there is
-abbrev pub full : Wants → Wants → List Judged
-full w r = (Slips ⇐ ltb (r .slips) (w .slips)) ∷ (Pieces ⇐ ltb (r .pieces) (w .pieces)) ∷ (Buffers ⇐ ltb (r .buffers) (w .buffers)) ∷ []
+-- "full": more is wanted than there is; for pieces, what is given back first is there too
+abbrev pub full : Wants → Spare → List Judged
+full w r =
+    (Slips ⇐ ltb (r .slips) (w .slips))
+    ∷ (Pieces ⇐ ltb (length (w .back) + r .pieces) (w .pieces))
+    ∷ (Buffers ⇐ ltb (r .buffers) (w .buffers)) ∷ []
 
 -- the rule of a call that is lent no output
 abbrev pub alters : List Judged → Wants → ℕ → State → Rule

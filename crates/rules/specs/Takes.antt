@@ -1,13 +1,13 @@
--- Which slips, pieces and buffers an operation takes: the lowest free at entry, in chain order.
+-- Which slips, pieces and buffers an operation takes, in chain order: the lowest free at entry; of pieces, the lowest free at entry or given back first.
 use mathlib.Core.Path.{_≡_}
 use mathlib.Core.Bool.{not, _&&_}
 use mathlib.Core.List.{List, [], _∷_, map}
-use Prim.Native.Nat.{ℕ, _≤_}
-use lib.ListN.{take}
+use Prim.Native.Nat.{ℕ, _+_, _≤_}
+use lib.ListN.{length, take}
 use Rattle.rules.specs.Basics.{places, passing}
 use Rattle.rules.specs.Tables.{Tables, slipTotal, pieceTotal, bufferTotal}
 use Rattle.rules.specs.Chain.{State, Stretch, chain, spans}
-use Rattle.rules.specs.Room.{isVacant, isFree, isUnheld, vacantSlips, freePieces, freeBuffers}
+use Rattle.rules.specs.Room.{isVacant, isFree, isFreeWith, isUnheld, vacantSlips, freeWith, freeBuffers}
 use Rattle.rules.specs.Rule.{Wants, room, Change}
 use Rattle.rules.specs.Step.{Operation, meaning, rule}
 
@@ -20,12 +20,12 @@ firstSlip [] [] = 0
 abbrev pub target : Operation → State → ℕ
 target o S = firstSlip (meaning o .changes S) (meaning o .names)
 
--- those free in T and no longer in T′
+-- those free in T and no longer in T′; of pieces, those free or given back first
 abbrev pub tookSlips : Tables → Tables → List ℕ
 tookSlips T T′ = places (λ s. isVacant T s && not (isVacant T′ s)) 0 (slipTotal T)
 
-abbrev pub tookPieces : Tables → Tables → List ℕ
-tookPieces T T′ = places (λ d. isFree T d && not (isFree T′ d)) 0 (pieceTotal T)
+abbrev pub tookPieces : Tables → Tables → List ℕ → List ℕ
+tookPieces T T′ back = places (λ d. isFreeWith T back d && not (isFree T′ d)) 0 (pieceTotal T)
 
 abbrev pub tookBuffers : Tables → Tables → List ℕ
 tookBuffers T T′ = places (λ b. isUnheld T b && not (isUnheld T′ b)) 0 (bufferTotal T)
@@ -33,14 +33,14 @@ tookBuffers T T′ = places (λ b. isUnheld T b && not (isUnheld T′ b)) 0 (buf
 -- the claim about an operation from T to T′ that wants w and leaves its new pieces under slip t
 pub record Took (T T′ : Tables) (w : Wants) (t : ℕ) : Type 0 where
   pub slips : tookSlips T T′ ≡ take (w .slips) (vacantSlips T)
-  pub pieces : tookPieces T T′ ≡ take (w .pieces) (freePieces T)
+  pub pieces : tookPieces T T′ (w .back) ≡ take (w .pieces) (freeWith T (w .back))
   pub buffers : tookBuffers T T′ ≡ take (w .buffers) (freeBuffers T)
   -- there is room for what is wanted
   pub slips-room : w .slips ≤ room T .slips
-  pub pieces-room : w .pieces ≤ room T .pieces
+  pub pieces-room : w .pieces ≤ length (w .back) + room T .pieces
   pub buffers-room : w .buffers ≤ room T .buffers
   -- in chain order
-  pub pieces-order : passing (isFree T) (chain T′ t) ≡ take (w .pieces) (freePieces T)
+  pub pieces-order : passing (isFreeWith T (w .back)) (chain T′ t) ≡ take (w .pieces) (freeWith T (w .back))
   pub buffers-order : passing (isUnheld T) (map (λ (x : Stretch). x .buffer) (spans T′ t)) ≡ take (w .buffers) (freeBuffers T)
 
 -- The claim about an operation that is done, proved in proofs/Calls.antt.

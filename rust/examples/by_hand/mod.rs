@@ -142,12 +142,12 @@ impl Tables {
     /// The lowest free piece from `from` on.
     #[inline(always)]
     unsafe fn free_piece(self, pool: &[u8], from: usize) -> Option<usize> {
-        let mut d = from;
-        while d < self.pieces {
-            if get16(pool, self.piece(d)) == 0 {
-                return Some(d);
+        let mut at = self.piece(from);
+        while at < self.first_count {
+            if get16(pool, at) == 0 {
+                return Some((at - self.first_piece) / 10);
             }
-            d += 1;
+            at += 10;
         }
         None
     }
@@ -352,22 +352,22 @@ impl Tables {
         first + 1
     }
 
-    /// What stays from a place on, with one reference more, on the free piece `free` where it wants one; answers the
-    /// link to it.
-    unsafe fn settle(self, pool: &mut [u8], from: Place, free: usize) -> usize {
-        if from.into == 0 {
-            self.share(pool, from.link);
-            return from.link;
+    /// What stays from a place on that wants no piece, with one reference more; answers the link to it.
+    unsafe fn hold(self, pool: &mut [u8], from: Place) -> usize {
+        self.share(pool, from.link);
+        if from.into != 0 {
+            let at = self.piece(from.link - 1);
+            put16(pool, at + OFFSET, get16(pool, at + OFFSET) + from.into);
+            put16(pool, at + LENGTH, get16(pool, at + LENGTH) - from.into);
         }
+        from.link
+    }
+
+    /// What stays from a place on that wants a piece, on the free piece `free`; answers the link to it.
+    unsafe fn renew(self, pool: &mut [u8], from: Place, free: usize) -> usize {
         let at = self.piece(from.link - 1);
         let offset = get16(pool, at + OFFSET) + from.into;
         let length = get16(pool, at + LENGTH) - from.into;
-        if from.own {
-            self.share(pool, from.link);
-            put16(pool, at + OFFSET, offset);
-            put16(pool, at + LENGTH, length);
-            return from.link;
-        }
         let (buffer, next) = (get16(pool, at + BUFFER), get16(pool, at + NEXT));
         self.share(pool, next);
         self.take(pool, free, buffer, offset, length, next);
@@ -650,16 +650,29 @@ pub unsafe fn drop(pool: &mut [u8], _storage: &mut [u8], slip: u16, n: u32) -> A
     if n == 0 {
         return done(0);
     }
+    let entry = t.slip(slip as usize);
+    if !from.wants_piece() {
+        let rest = t.hold(pool, from);
+        put16(pool, entry, rest + 1);
+        t.release(pool, head);
+        return done(0);
+    }
+    // The piece with the cut stays, whatever the release frees: it isn't own.
+    let own = get16(pool, t.piece(head - 1)) == 1;
     let mut free = 0;
-    if from.wants_piece() {
+    if !own {
         let Some(piece) = t.free_piece(pool, 0) else {
             return refused(PIECES);
         };
         free = piece;
     }
-    let rest = t.settle(pool, from, free);
-    put16(pool, t.slip(slip as usize), rest + 1);
     t.release(pool, head);
+    if own {
+        // An own head was given back, so one is free.
+        free = t.free_piece(pool, 0).unwrap_unchecked();
+    }
+    let rest = t.renew(pool, from, free);
+    put16(pool, entry, rest + 1);
     done(0)
 }
 
@@ -742,15 +755,23 @@ pub unsafe fn pullup(pool: &mut [u8], storage: &mut [u8], slip: u16, n: u32) -> 
     if n == 0 || n <= get16(pool, t.piece(head - 1) + LENGTH) {
         return done(0);
     }
-    let Some(front) = t.free_piece(pool, 0) else {
-        return refused(PIECES);
-    };
-    let mut free = 0;
-    if from.wants_piece() {
-        let Some(piece) = t.free_piece(pool, front + 1) else {
+    // The head lies in front of what stays: own, it is given back, and so is its next where a piece is wanted behind both.
+    let at = t.piece(head - 1);
+    let two = from.wants_piece();
+    let own = get16(pool, at) == 1;
+    let enough = own && (!two || get16(pool, t.piece(get16(pool, at + NEXT) - 1)) == 1);
+    let (mut front, mut free) = (0, 0);
+    if !enough {
+        let Some(piece) = t.free_piece(pool, 0) else {
             return refused(PIECES);
         };
-        free = piece;
+        front = piece;
+        if two && !own {
+            let Some(piece) = t.free_piece(pool, front + 1) else {
+                return refused(PIECES);
+            };
+            free = piece;
+        }
     }
     let Some(buffer) = t.free_buffer(pool, 0) else {
         return refused(BUFFERS);
@@ -758,10 +779,22 @@ pub unsafe fn pullup(pool: &mut [u8], storage: &mut [u8], slip: u16, n: u32) -> 
     let bytes = storage.as_mut_ptr();
     t.gather(pool, bytes, Place::start(head), n, bytes.add(SIZE * buffer));
     clear_rest(storage, buffer, n);
-    let rest = t.settle(pool, from, free);
+    let held = if two { 0 } else { t.hold(pool, from) };
+    t.release(pool, head);
+    // The lowest numbers, those given back among them.
+    if enough {
+        front = t.free_piece(pool, 0).unwrap_unchecked();
+    }
+    if two && own {
+        if head - 1 < front {
+            (front, free) = (head - 1, front);
+        } else {
+            free = t.free_piece(pool, front + 1).unwrap_unchecked();
+        }
+    }
+    let rest = if two { t.renew(pool, from, free) } else { held };
     t.take(pool, front, buffer, 0, n, rest);
     put16(pool, t.slip(slip as usize), front + 2);
-    t.release(pool, head);
     done(0)
 }
 

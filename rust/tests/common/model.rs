@@ -405,7 +405,7 @@ impl Tables {
     }
 }
 
-/// The numbers free at entry, lowest first.
+/// The numbers free for a call, lowest first.
 pub struct Room {
     pub slips: Vec<usize>,
     pub pieces: Vec<usize>,
@@ -658,7 +658,7 @@ pub trait Rules {
         holders
     }
 
-    // Room is counted at entry; new numbers are the lowest free at entry.
+    // Room is counted at entry, but for the pieces of drop and pullup; new numbers are the lowest free.
 
     fn room(&self, t: &Tables) -> Room {
         Room {
@@ -674,7 +674,7 @@ pub trait Rules {
         }
     }
 
-    /// Codes 8 to 10: more new slips, pieces or buffers wanted than free at entry.
+    /// Codes 8 to 10: more new slips, pieces or buffers wanted than free.
     fn ask(&self, room: &Room, slips: u64, pieces: u64, buffers: u64) -> Result<(), u16> {
         refuse_if(slips > room.slips.len() as u64, SLIPS)?;
         refuse_if(pieces > room.pieces.len() as u64, PIECES)?;
@@ -910,9 +910,9 @@ pub trait Rules {
             return Ok(Done::nothing(0));
         }
         let left = self.left_by_drop(&t, &chain, n);
-        let room = self.room(&t);
-        self.ask(&room, 0, left.places.len() as u64, 0)?;
         self.shorten_front(&mut t, left.shortened);
+        let room = self.give_back_front(&mut t, slip, &left);
+        self.ask(&room, 0, left.places.len() as u64, 0)?;
         let head = self.build(&mut t, &room, &left.places, left.then);
         self.refer(&mut t, Holder::Slip(slip as usize), head);
         Ok(Done::changed(0, t))
@@ -954,6 +954,16 @@ pub trait Rules {
         if let Some((d, by)) = shortened {
             t.pieces[d].offset += by;
             t.pieces[d].length -= by;
+        }
+    }
+
+    /// The slip holds what stays, and its old head is released: the pieces that this frees are room, the buffers are not.
+    fn give_back_front(&self, t: &mut Tables, slip: u16, left: &Left) -> Room {
+        let entry = self.room(t);
+        self.refer(t, Holder::Slip(slip as usize), left.then);
+        Room {
+            pieces: self.room(t).pieces,
+            ..entry
         }
     }
 
@@ -1007,7 +1017,9 @@ pub trait Rules {
     fn pull(&self, mut t: Tables, storage: &[u8], slip: u16, n: u64) -> Judged {
         let chain = t.chain(t.slips[slip as usize]);
         let left = self.left_by_drop(&t, &chain, n);
-        let room = self.room(&t);
+        let bytes = self.filled(&t.read(storage, &chain)[..n as usize]);
+        self.shorten_front(&mut t, left.shortened);
+        let room = self.give_back_front(&mut t, slip, &left);
         self.ask(&room, 0, 1 + left.places.len() as u64, 1)?;
         let buffer = room.buffers[0];
         let front = Place {
@@ -1015,9 +1027,7 @@ pub trait Rules {
             offset: 0,
             length: n,
         };
-        let bytes = self.filled(&t.read(storage, &chain)[..n as usize]);
         let places = [vec![front], left.places].concat();
-        self.shorten_front(&mut t, left.shortened);
         let head = self.build(&mut t, &room, &places, left.then);
         self.refer(&mut t, Holder::Slip(slip as usize), head);
         Ok(Done {

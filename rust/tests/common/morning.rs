@@ -1,4 +1,4 @@
-//! Document 01's morning and its edges as rows of data, for any engine.
+//! Document 01's morning and its edges as rows of data, and full tables of pieces, for any engine.
 
 use std::ops::Range;
 
@@ -6,9 +6,9 @@ use super::desk::{
     append, cut, data, drop, dup, free, gather, keep, pack, pullup, put, read, show, Desk, Engine,
     UNTOUCHED,
 };
-use super::model::{Call, BUFFERS, LONG, NARROW, RANGE, SAME, SLIP};
+use super::model::{Call, BUFFERS, DONE, LONG, NARROW, PIECES, RANGE, SAME, SLIP};
 
-use Buffer::{Data, Old};
+use Buffer::{Data, Old, Tens};
 
 /// A call, made where it is wanted.
 pub type Asked = fn() -> Call;
@@ -29,10 +29,11 @@ pub struct Row {
     pub chains: &'static [Chain],
 }
 
-/// A buffer's bytes: those from before the opening, or the data from start to end and then zeros.
+/// A buffer's bytes: those from before the opening, or the data from start to end, or its first ten over and over, and then zeros.
 pub enum Buffer {
     Old,
     Data(usize, usize),
+    Tens(usize),
 }
 
 /// A held slip: its length, the stretches of the data (start, end) that it reads as, its wire list.
@@ -349,20 +350,286 @@ pub const EDGES: &[Edge] = &[
     },
 ];
 
+/// Drop or pullup after calls done in a fresh pool: its code, and all that holds after it, done or refused.
+pub struct Full {
+    pub before: &'static [(Asked, u64)],
+    pub code: u16,
+    pub row: Row,
+}
+
+/// Drop and pullup where every piece is in use, and once where one is free, each in a fresh pool of B 4, P 6, S 4.
+pub const FULL: &[Full] = &[
+    // The old head's number comes back to the front.
+    Full {
+        before: &[
+            (|| put(600), 0),
+            (|| cut(0, 500, 50), 1),
+            (|| cut(0, 500, 50), 2),
+        ],
+        code: DONE,
+        row: Row {
+            call: || pullup(1, 20),
+            number: 0,
+            slips: &[2, 4, 6, 0],
+            pieces: &[
+                [1, 0, 0, 512, 2],
+                [1, 1, 0, 88, 0],
+                [1, 2, 0, 20, 4],
+                [1, 1, 8, 30, 0],
+                [1, 0, 500, 12, 6],
+                [1, 1, 0, 38, 0],
+            ],
+            counts: &[2, 3, 1, 0],
+            buffers: &[Data(0, 512), Data(512, 600), Data(500, 520), Old],
+            chains: &[
+                chain(0, 600, &[(0, 600)], &[0, 512, 512, 88]),
+                chain(1, 50, &[(500, 550)], &[1_024, 20, 520, 30]),
+                chain(2, 50, &[(500, 550)], &[500, 12, 512, 38]),
+            ],
+        },
+    },
+    // A shared head gives nothing back.
+    Full {
+        before: &[
+            (|| put(600), 0),
+            (|| put(10), 1),
+            (|| append(0, 1), 0),
+            (|| dup(0), 1),
+            (|| drop(1, 512), 0),
+            (|| cut(0, 0, 600), 2),
+            (|| dup(1), 3),
+        ],
+        code: PIECES,
+        row: Row {
+            call: || pullup(1, 98),
+            number: 0,
+            slips: &[2, 3, 5, 7],
+            pieces: &[
+                [1, 0, 0, 512, 2],
+                [2, 1, 0, 88, 3],
+                [2, 2, 0, 10, 0],
+                [1, 0, 0, 512, 5],
+                [1, 1, 0, 88, 0],
+                [1, 1, 0, 88, 3],
+            ],
+            counts: &[2, 3, 1, 0],
+            buffers: &[Data(0, 512), Data(512, 600), Data(0, 10), Old],
+            chains: &[
+                chain(0, 610, &[(0, 600), (0, 10)], &[0, 512, 512, 88, 1_024, 10]),
+                chain(1, 98, &[(512, 600), (0, 10)], &[512, 88, 1_024, 10]),
+                chain(2, 600, &[(0, 600)], &[0, 512, 512, 88]),
+                chain(3, 98, &[(512, 600), (0, 10)], &[512, 88, 1_024, 10]),
+            ],
+        },
+    },
+    // Inside a shared piece, behind an own one.
+    Full {
+        before: &[
+            (|| put(600), 0),
+            (|| dup(0), 1),
+            (|| cut(0, 0, 600), 2),
+            (|| dup(2), 3),
+        ],
+        code: DONE,
+        row: Row {
+            call: || drop(0, 520),
+            number: 0,
+            slips: &[2, 4, 5, 7],
+            pieces: &[
+                [1, 1, 8, 80, 0],
+                [1, 1, 0, 88, 0],
+                [1, 0, 0, 512, 2],
+                [1, 0, 0, 512, 5],
+                [2, 1, 0, 88, 0],
+                [1, 0, 0, 512, 5],
+            ],
+            counts: &[3, 3, 0, 0],
+            buffers: &[Data(0, 512), Data(512, 600), Old, Old],
+            chains: &[
+                chain(0, 80, &[(520, 600)], &[520, 80]),
+                chain(1, 600, &[(0, 600)], &[0, 512, 512, 88]),
+                chain(2, 600, &[(0, 600)], &[0, 512, 512, 88]),
+                chain(3, 600, &[(0, 600)], &[0, 512, 512, 88]),
+            ],
+        },
+    },
+    // Inside a shared head.
+    Full {
+        before: &[
+            (|| put(600), 0),
+            (|| dup(0), 1),
+            (|| drop(1, 512), 0),
+            (|| cut(0, 0, 600), 2),
+            (|| cut(0, 0, 600), 3),
+        ],
+        code: PIECES,
+        row: Row {
+            call: || drop(1, 8),
+            number: 0,
+            slips: &[2, 3, 4, 6],
+            pieces: &[
+                [1, 0, 0, 512, 2],
+                [2, 1, 0, 88, 0],
+                [1, 0, 0, 512, 4],
+                [1, 1, 0, 88, 0],
+                [1, 0, 0, 512, 6],
+                [1, 1, 0, 88, 0],
+            ],
+            counts: &[3, 3, 0, 0],
+            buffers: &[Data(0, 512), Data(512, 600), Old, Old],
+            chains: &[
+                chain(0, 600, &[(0, 600)], &[0, 512, 512, 88]),
+                chain(1, 88, &[(512, 600)], &[512, 88]),
+                chain(2, 600, &[(0, 600)], &[0, 512, 512, 88]),
+                chain(3, 600, &[(0, 600)], &[0, 512, 512, 88]),
+            ],
+        },
+    },
+    // Two wanted and one given back.
+    Full {
+        before: &[
+            (|| put(600), 0),
+            (|| cut(0, 500, 50), 1),
+            (|| dup(1), 2),
+            (|| dup(0), 3),
+        ],
+        code: PIECES,
+        row: Row {
+            call: || pullup(1, 20),
+            number: 0,
+            slips: &[2, 4, 6, 7],
+            pieces: &[
+                [1, 0, 0, 512, 2],
+                [2, 1, 0, 88, 0],
+                [1, 0, 500, 12, 4],
+                [2, 1, 0, 38, 0],
+                [1, 0, 500, 12, 4],
+                [1, 0, 0, 512, 2],
+            ],
+            counts: &[4, 2, 0, 0],
+            buffers: &[Data(0, 512), Data(512, 600), Old, Old],
+            chains: &[
+                chain(0, 600, &[(0, 600)], &[0, 512, 512, 88]),
+                chain(1, 50, &[(500, 550)], &[500, 12, 512, 38]),
+                chain(2, 50, &[(500, 550)], &[500, 12, 512, 38]),
+                chain(3, 600, &[(0, 600)], &[0, 512, 512, 88]),
+            ],
+        },
+    },
+    // The same with piece 5 free.
+    Full {
+        before: &[(|| put(600), 0), (|| cut(0, 500, 50), 1), (|| dup(1), 2)],
+        code: DONE,
+        row: Row {
+            call: || pullup(1, 20),
+            number: 0,
+            slips: &[2, 4, 6, 0],
+            pieces: &[
+                [1, 0, 0, 512, 2],
+                [1, 1, 0, 88, 0],
+                [1, 2, 0, 20, 6],
+                [1, 1, 0, 38, 0],
+                [1, 0, 500, 12, 4],
+                [1, 1, 8, 30, 0],
+            ],
+            counts: &[2, 3, 1, 0],
+            buffers: &[Data(0, 512), Data(512, 600), Data(500, 520), Old],
+            chains: &[
+                chain(0, 600, &[(0, 600)], &[0, 512, 512, 88]),
+                chain(1, 50, &[(500, 550)], &[1_024, 20, 520, 30]),
+                chain(2, 50, &[(500, 550)], &[500, 12, 512, 38]),
+            ],
+        },
+    },
+    // Two wanted and two given back: the front takes the lower number.
+    Full {
+        before: &[
+            (|| put(10), 0),
+            (|| put(10), 1),
+            (|| put(10), 2),
+            (|| append(1, 2), 0),
+            (|| append(0, 1), 0),
+            (|| dup(0), 1),
+            (|| drop(1, 20), 0),
+            (|| cut(0, 0, 30), 2),
+        ],
+        code: DONE,
+        row: Row {
+            call: || pullup(0, 25),
+            number: 0,
+            slips: &[2, 4, 5, 0],
+            pieces: &[
+                [1, 3, 0, 25, 2],
+                [1, 2, 5, 5, 0],
+                [1, 2, 0, 10, 0],
+                [1, 0, 0, 10, 5],
+                [1, 1, 0, 10, 6],
+                [1, 2, 0, 10, 0],
+            ],
+            counts: &[1, 1, 3, 1],
+            buffers: &[Data(0, 10), Data(0, 10), Data(0, 10), Tens(25)],
+            chains: &[
+                chain(0, 30, &[(0, 10), (0, 10), (0, 10)], &[1_536, 25, 1_029, 5]),
+                chain(1, 10, &[(0, 10)], &[1_024, 10]),
+                chain(
+                    2,
+                    30,
+                    &[(0, 10), (0, 10), (0, 10)],
+                    &[0, 10, 512, 10, 1_024, 10],
+                ),
+            ],
+        },
+    },
+    // A piece is given back, and so is the buffer under it, which is no room.
+    Full {
+        before: &[
+            (|| put(10), 0),
+            (|| put(10), 1),
+            (|| append(0, 1), 0),
+            (|| put(1_024), 1),
+            (|| cut(1, 0, 1_024), 2),
+        ],
+        code: BUFFERS,
+        row: Row {
+            call: || pullup(0, 15),
+            number: 0,
+            slips: &[2, 4, 6, 0],
+            pieces: &[
+                [1, 0, 0, 10, 2],
+                [1, 1, 0, 10, 0],
+                [1, 2, 0, 512, 4],
+                [1, 3, 0, 512, 0],
+                [1, 2, 0, 512, 6],
+                [1, 3, 0, 512, 0],
+            ],
+            counts: &[1, 1, 2, 2],
+            buffers: &[Data(0, 10), Data(0, 10), Data(0, 512), Data(512, 1_024)],
+            chains: &[
+                chain(0, 20, &[(0, 10), (0, 10)], &[0, 10, 512, 10]),
+                chain(1, 1_024, &[(0, 1_024)], &[1_024, 512, 1_536, 512]),
+                chain(2, 1_024, &[(0, 1_024)], &[1_024, 512, 1_536, 512]),
+            ],
+        },
+    },
+];
+
 /// A stretch of the data.
 fn stretch(start: usize, end: usize) -> Vec<u8> {
     data(end)[start..].to_vec()
+}
+
+/// The bytes, then zeros up to a whole buffer.
+fn filled(mut bytes: Vec<u8>) -> Vec<u8> {
+    bytes.resize(512, 0);
+    bytes
 }
 
 impl Buffer {
     fn bytes(&self) -> Vec<u8> {
         match self {
             Old => vec![UNTOUCHED; 512],
-            Data(start, end) => {
-                let mut bytes = stretch(*start, *end);
-                bytes.resize(512, 0);
-                bytes
-            }
+            Data(start, end) => filled(stretch(*start, *end)),
+            Tens(n) => filled(data(10).into_iter().cycle().take(*n).collect()),
         }
     }
 }
@@ -380,6 +647,11 @@ impl Row {
         let call = (self.call)();
         println!("{}", call.brief());
         desk.done(call, self.number);
+        self.holds(desk);
+    }
+
+    /// Asserts all that holds after the call but for the lists.
+    fn holds(&self, desk: &mut Desk) {
         desk.tables(self.slips, self.pieces, self.counts);
         let buffers: Vec<u8> = self.buffers.iter().flat_map(Buffer::bytes).collect();
         desk.stores(&buffers);
@@ -464,6 +736,42 @@ pub fn edge_long(engine: Engine) {
 /// Append of one held slip to itself is 4, of a vacant one 3.
 pub fn edge_append_same(engine: Engine) {
     edges(engine, Case::AppendSame);
+}
+
+/// The full tables in which the call is done, or not.
+fn full_tables(engine: Engine, done: bool) {
+    let cases: Vec<&Full> = FULL
+        .iter()
+        .filter(|full| (full.code == DONE) == done)
+        .collect();
+    assert_eq!(cases.len(), 4);
+    for Full { before, code, row } in cases {
+        let mut desk = fresh(engine);
+        for (call, number) in *before {
+            desk.done(call(), *number);
+        }
+        let free = desk.free_pieces();
+        assert!(free.is_empty() || free == [5], "{free:?}");
+        match *code {
+            DONE => row.run(&mut desk),
+            code => {
+                desk.refused((row.call)(), code);
+                row.holds(&mut desk);
+            }
+        }
+        assert_eq!(desk.free_pieces(), []);
+        row.lists(&mut desk);
+    }
+}
+
+/// In a full table drop and pullup are done with the pieces that they give back.
+pub fn full_table_done(engine: Engine) {
+    full_tables(engine, true);
+}
+
+/// They are refused where they give back too few, 9, or where no buffer is free, 10.
+pub fn full_table_refused(engine: Engine) {
+    full_tables(engine, false);
 }
 
 /// The wire lists of the morning's slips: position 512·buffer + offset, then length.

@@ -4,7 +4,7 @@ use std::collections::HashSet;
 
 use super::model::{
     pairs, pool_length, refuse_if, Call, Done, Holder, Judged, Left, Outcome, Piece, Place, Room,
-    Rules, Slip, Tables, DONE, LIST, NARROW, PIECES, RANGE, SAME, SIZE, SLIP, TRUE, ZERO,
+    Rules, Slip, Tables, BUFFERS, DONE, LIST, NARROW, PIECES, RANGE, SAME, SIZE, SLIP, TRUE, ZERO,
 };
 
 macro_rules! named {
@@ -23,12 +23,23 @@ pub const MUTATIONS: &[(&str, &dyn Rules)] = named![
     SlipKeptWithoutPiece,
     HighestPiece,
     HighestBuffer,
-    RoomGivenBack,
+    PackRoomGivenBack,
     KeepBorderInPlace,
     DropBorderTakesPiece,
     PullupOfWholeFirst,
     PullupFrontHigher,
     PullupAsksTwo,
+    FrontNotRoom,
+    FrontAfterFree,
+    FrontBeforeFree,
+    HeadOnlyRoom,
+    SharedFrontRoom,
+    CutPieceRoom,
+    OwnBehindRoom,
+    FrontByOwnCount,
+    FrontBuffersRoom,
+    GivenBackRefused,
+    BuffersBeforePieces,
     PackSparesPacked,
     CutSharesTail,
     CutTakesTouched,
@@ -181,9 +192,9 @@ impl Rules for HighestBuffer {
 }
 
 /// Pack takes room that it gives back itself.
-struct RoomGivenBack;
+struct PackRoomGivenBack;
 
-impl Rules for RoomGivenBack {
+impl Rules for PackRoomGivenBack {
     fn pack(&self, mut t: Tables, storage: &[u8], slip: u16) -> Judged {
         let chain = t.chain(t.held(slip).ok_or(SLIP)?);
         if chain.len() <= 1 {
@@ -245,19 +256,19 @@ impl Rules for PullupOfWholeFirst {
     }
 }
 
-/// The front of pullup takes the higher number.
+/// The rest of pullup takes the lower number.
 struct PullupFrontHigher;
 
 impl Rules for PullupFrontHigher {
     fn pull(&self, t: Tables, storage: &[u8], slip: u16, n: u64) -> Judged {
-        let free = TRUE.room(&t).pieces;
+        let chain = t.chain(t.slips[slip as usize]);
+        let two = !TRUE.left_by_drop(&t, &chain, n).places.is_empty();
         let mut done = TRUE.pull(t, storage, slip, n)?;
-        if let (Some(t), [front, behind, ..]) = (&mut done.tables, &free[..]) {
-            if t.is_used(*behind) {
-                t.pieces.swap(*front, *behind);
-                t.pieces[*behind].next = Some(*front);
-                t.slips[slip as usize] = Slip::Heads(*behind);
-            }
+        let t = done.tables.as_mut().expect("a new front");
+        if let ([front, rest, ..], true) = (&t.chain(t.slips[slip as usize])[..], two) {
+            t.pieces.swap(*front, *rest);
+            t.pieces[*rest].next = Some(*front);
+            t.slips[slip as usize] = Slip::Heads(*rest);
         }
         Ok(done)
     }
@@ -268,8 +279,158 @@ struct PullupAsksTwo;
 
 impl Rules for PullupAsksTwo {
     fn pull(&self, t: Tables, storage: &[u8], slip: u16, n: u64) -> Judged {
-        TRUE.ask(&TRUE.room(&t), 0, 2, 1)?;
+        let left = TRUE.left_by_drop(&t, &t.chain(t.slips[slip as usize]), n);
+        let room = TRUE.give_back_front(&mut t.clone(), slip, &left);
+        TRUE.ask(&room, 0, 2, 1)?;
         TRUE.pull(t, storage, slip, n)
+    }
+}
+
+/// Drop and pullup take pieces free at entry only.
+struct FrontNotRoom;
+
+impl Rules for FrontNotRoom {
+    fn give_back_front(&self, t: &mut Tables, slip: u16, left: &Left) -> Room {
+        let entry = TRUE.room(t);
+        TRUE.give_back_front(t, slip, left);
+        entry
+    }
+}
+
+/// The pieces that drop and pullup give back are taken after all those free at entry.
+struct FrontAfterFree;
+
+impl Rules for FrontAfterFree {
+    fn give_back_front(&self, t: &mut Tables, slip: u16, left: &Left) -> Room {
+        let free = TRUE.room(t).pieces;
+        let mut room = TRUE.give_back_front(t, slip, left);
+        room.pieces.sort_by_key(|d| !free.contains(d));
+        room
+    }
+}
+
+/// The pieces that drop and pullup give back are taken before all those free at entry.
+struct FrontBeforeFree;
+
+impl Rules for FrontBeforeFree {
+    fn give_back_front(&self, t: &mut Tables, slip: u16, left: &Left) -> Room {
+        let free = TRUE.room(t).pieces;
+        let mut room = TRUE.give_back_front(t, slip, left);
+        room.pieces.sort_by_key(|d| free.contains(d));
+        room
+    }
+}
+
+/// Of the pieces that drop and pullup give back the head alone is room.
+struct HeadOnlyRoom;
+
+impl Rules for HeadOnlyRoom {
+    fn give_back_front(&self, t: &mut Tables, slip: u16, left: &Left) -> Room {
+        let mut free = TRUE.room(t).pieces;
+        free.extend(t.slips[slip as usize].head());
+        let mut room = TRUE.give_back_front(t, slip, left);
+        room.pieces.retain(|d| free.contains(d));
+        room
+    }
+}
+
+/// What drop and pullup give back, with more pieces as room than the release frees.
+fn with_more(t: &mut Tables, slip: u16, left: &Left, more: &[usize]) -> Room {
+    let mut room = TRUE.give_back_front(t, slip, left);
+    room.pieces.extend(more);
+    room.pieces.sort_unstable();
+    room.pieces.dedup();
+    room
+}
+
+/// The slip's chain in two parts: the pieces wholly in front of what drop leaves, and the others.
+fn around(t: &Tables, slip: u16, left: &Left) -> (Vec<usize>, Vec<usize>) {
+    let mut front = t.chain(t.slips[slip as usize]);
+    let stays = front.iter().position(|d| Some(*d) == left.then);
+    // A piece that a new one takes the place of stands before what is then behind it.
+    let kept = stays.unwrap_or(front.len()) - left.places.len();
+    let others = front.split_off(kept);
+    (front, others)
+}
+
+/// A shared piece in front of what stays counts as given back.
+struct SharedFrontRoom;
+
+impl Rules for SharedFrontRoom {
+    fn give_back_front(&self, t: &mut Tables, slip: u16, left: &Left) -> Room {
+        let (front, _) = around(t, slip, left);
+        with_more(t, slip, left, &front)
+    }
+}
+
+/// A piece that isn't own counts as given back where the cut falls inside it.
+struct CutPieceRoom;
+
+impl Rules for CutPieceRoom {
+    fn give_back_front(&self, t: &mut Tables, slip: u16, left: &Left) -> Room {
+        let (_, others) = around(t, slip, left);
+        with_more(t, slip, left, &others[..left.places.len()])
+    }
+}
+
+/// Every own piece counts as given back, also where it stays.
+struct OwnBehindRoom;
+
+impl Rules for OwnBehindRoom {
+    fn give_back_front(&self, t: &mut Tables, slip: u16, left: &Left) -> Room {
+        let chain = t.chain(t.slips[slip as usize]);
+        let own = TRUE.own(t, &chain);
+        with_more(t, slip, left, &chain[..own])
+    }
+}
+
+/// A piece of count 1 in front of what stays counts as given back, also behind a shared one.
+struct FrontByOwnCount;
+
+impl Rules for FrontByOwnCount {
+    fn give_back_front(&self, t: &mut Tables, slip: u16, left: &Left) -> Room {
+        let (mut front, _) = around(t, slip, left);
+        front.retain(|d| t.pieces[*d].count == 1);
+        with_more(t, slip, left, &front)
+    }
+}
+
+/// Buffers that pullup gives back are room for it.
+struct FrontBuffersRoom;
+
+impl Rules for FrontBuffersRoom {
+    fn give_back_front(&self, t: &mut Tables, slip: u16, left: &Left) -> Room {
+        TRUE.give_back_front(t, slip, left);
+        TRUE.room(t)
+    }
+}
+
+/// Drop and pullup give back the front before they refuse for want of room.
+struct GivenBackRefused;
+
+impl Rules for GivenBackRefused {
+    fn step(&self, pool: &[u8], storage: &[u8], call: &Call) -> Outcome {
+        let mut after = TRUE.step(pool, storage, call);
+        if let (PIECES | BUFFERS, Call::Drop { slip, n } | Call::Pullup { slip, n }) =
+            (after.code, call)
+        {
+            let mut t = Tables::parse(pool, storage).expect("sound");
+            let chain = t.chain(t.slips[*slip as usize]);
+            let left = TRUE.left_by_drop(&t, &chain, *n as u64);
+            TRUE.give_back_front(&mut t, *slip, &left);
+            after.pool = t.bytes();
+        }
+        after
+    }
+}
+
+/// Pullup judges buffers before pieces.
+struct BuffersBeforePieces;
+
+impl Rules for BuffersBeforePieces {
+    fn ask(&self, room: &Room, slips: u64, pieces: u64, buffers: u64) -> Result<(), u16> {
+        TRUE.ask(room, slips, 0, buffers)?;
+        TRUE.ask(room, slips, pieces, buffers)
     }
 }
 

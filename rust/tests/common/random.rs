@@ -141,6 +141,8 @@ pub struct Mood {
     put_up_to: u64,
     /// Once in this many a wild argument is taken.
     wild: u64,
+    /// Once in this many all free pieces are taken or, in a full table, some are wanted by drop and pullup; 0 for never.
+    crowded: u64,
 }
 
 impl Mood {
@@ -160,8 +162,11 @@ impl Mood {
         if !random.once_in(3) {
             weights[3] = 2;
         }
+        let crowded = random.pick(&[0, 2, 4]);
         let put_up_to = match random.below(3) {
             0 => 40,
+            // Several short pieces are pulled up together.
+            _ if crowded > 0 => 120,
             1 => 700,
             _ => 512 * (1 + shape.0 as u64 / 4),
         };
@@ -169,6 +174,7 @@ impl Mood {
             weights,
             put_up_to,
             wild: random.pick(&[6, 20, 60]),
+            crowded,
         }
     }
 
@@ -312,6 +318,11 @@ fn open(random: &mut Random, tables: &Tables) -> Call {
 pub fn call(random: &mut Random, pool: &[u8], storage: &[u8], mood: &Mood) -> Call {
     let tables = Tables::parse(pool, storage).expect("a pool that the list has left");
     let wild = mood.wild;
+    if mood.crowded > 0 && random.once_in(mood.crowded) {
+        if let Some(call) = crowded(random, &tables) {
+            return call;
+        }
+    }
     let mut kind = mood.kind(random);
     // With every slip vacant almost any call is code 3: put, mostly.
     if tables.slips.iter().all(|s| *s == Slip::Vacant) && !random.once_in(4) {
@@ -381,6 +392,124 @@ pub fn call(random: &mut Random, pool: &[u8], storage: &[u8], mood: &Mood) -> Ca
             }
         }
     }
+}
+
+/// A call that takes all free pieces, makes own and shared fronts or, where one piece is free or none, drops or pulls up so that some are wanted.
+fn crowded(random: &mut Random, tables: &Tables) -> Option<Call> {
+    let free = tables.pieces.len() - tables.used().count();
+    let slips = 0..tables.slips.len() as u16;
+    let chains: Vec<(u16, Vec<usize>)> = slips
+        .filter_map(|slip| Some((slip, tables.chain(tables.held(slip)?))))
+        .filter(|(_, chain)| !chain.is_empty())
+        .collect();
+    // Those that are not all own, and of them those with a shared head.
+    let fronts = chains.iter().map(|(_, chain)| own(tables, chain));
+    let fronts: Vec<(usize, usize)> = fronts.enumerate().collect();
+    let mixed = |(i, own): &&(usize, usize)| *own < chains[*i].1.len();
+    let mixed: Vec<(usize, usize)> = fronts.iter().filter(mixed).copied().collect();
+    let shared = mixed.iter().filter(|(_, own)| *own == 0).copied();
+    let shared: Vec<(usize, usize)> = shared.collect();
+    for _ in 0..4 {
+        let among = random.pick(&[&fronts, &shared, &shared, &mixed, &mixed]);
+        if among.is_empty() {
+            continue;
+        }
+        let (one, other) = (random.pick(among), random.pick(among));
+        // Rather one with a longer own front.
+        let chosen = if one.1 >= other.1 { one } else { other };
+        let (slip, chain) = &chains[chosen.0];
+        let tried = free == 0 || free == 1 && random.once_in(2);
+        let found = match random.below(8) {
+            0..=1 => joining(random, tables, *slip, chain),
+            2..=3 if free == 0 => heading(tables, *slip, chain),
+            _ if tried => wanting(random, tables, *slip, chain),
+            _ => filling(random, tables, *slip, chain, free),
+        };
+        if found.is_some() {
+            return found;
+        }
+    }
+    None
+}
+
+/// How many pieces at the chain's front are own.
+fn own(t: &Tables, chain: &[usize]) -> usize {
+    chain
+        .iter()
+        .take_while(|d| t.pieces[**d].count == 1)
+        .count()
+}
+
+/// An append of this chain, not all own, behind a short one that is: two own pieces or more stand before one that isn't.
+fn joining(random: &mut Random, t: &Tables, b: u16, chain: &[usize]) -> Option<Call> {
+    let a = slip(random, t, u64::MAX);
+    let front = t.chain(t.held(a)?);
+    let short = !front.is_empty() && t.length(&front) < 200;
+    let fits = short && own(t, &front) == front.len() && own(t, chain) < chain.len();
+    (a != b && fits).then_some(Call::Append { a, b })
+}
+
+/// A drop of the own front, so that the slip heads a shared piece.
+fn heading(t: &Tables, slip: u16, chain: &[usize]) -> Option<Call> {
+    let own = own(t, chain);
+    let n = t.spans(chain).get(own)?.0 as u32;
+    (own > 0).then_some(Call::Drop { slip, n })
+}
+
+/// A dup or cut that takes as many pieces as are free, or a cut of all the chain's where it has fewer.
+fn filling(
+    random: &mut Random,
+    t: &Tables,
+    slip: u16,
+    chain: &[usize],
+    free: usize,
+) -> Option<Call> {
+    if chain.is_empty() || !t.slips.contains(&Slip::Vacant) {
+        return None;
+    }
+    if free == 1 && random.once_in(2) {
+        return Some(Call::Dup { slip });
+    }
+    let pieces = free.min(chain.len());
+    let first = random.below((chain.len() - pieces + 1) as u64) as usize;
+    let spans = t.spans(chain);
+    let (start, end) = (spans[first].0, spans[first + pieces - 1].1);
+    Some(Call::Cut {
+        slip,
+        offset: start as u32,
+        length: (end - start) as u32,
+    })
+}
+
+/// A drop inside a piece that isn't own, or a pullup of more than the first piece, mostly to inside such a piece.
+fn wanting(random: &mut Random, t: &Tables, slip: u16, chain: &[usize]) -> Option<Call> {
+    let spans = t.spans(chain);
+    let mut inside: Vec<(u64, u64)> = spans[own(t, chain)..].to_vec();
+    // The first ones mostly, since pullup reaches no further than 512 bytes.
+    inside.truncate(random.pick(&[1, 2, 99]));
+    if random.once_in(2) {
+        let (start, end) = *inside.get(random.below(inside.len().max(1) as u64) as usize)?;
+        let n = random.between(start + 1, end.max(start + 2) - 1);
+        return (n < end).then_some(Call::Drop { slip, n: n as u32 });
+    }
+    let (first, most) = (t.first_length(chain), t.length(chain).min(512));
+    if first >= most {
+        return None;
+    }
+    let within: Vec<u64> = inside
+        .iter()
+        .map(|(start, end)| match random.below(4) {
+            0 => *end,
+            1 => *start,
+            _ => random.between(*start, *end),
+        })
+        .filter(|n| first < *n && *n <= most)
+        .collect();
+    let n = match within.is_empty() || random.once_in(3) {
+        true => random.between(first + 1, most),
+        false => random.pick(&within),
+    };
+    Some(Call::Pullup { slip, n: n as u32 })
 }
 
 /// Another slip that heads a piece of this one's chain, if there is any.

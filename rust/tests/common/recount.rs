@@ -146,7 +146,7 @@ impl Recount {
         let room = self.room();
         if slips > room.0 {
             Some(8)
-        } else if pieces > room.1 {
+        } else if pieces > room.1 + self.given_back(call) {
             Some(9)
         } else if buffers > room.2 {
             Some(10)
@@ -155,8 +155,19 @@ impl Recount {
         }
     }
 
+    /// Pieces that the call gives back before it takes any: drop and pullup the own ones wholly in front of what stays.
+    pub fn given_back(&self, call: &Call) -> u64 {
+        match call {
+            Call::Drop { slip, n } | Call::Pullup { slip, n } => {
+                let chain = self.chain(*slip).unwrap_or_default();
+                in_front(&chain, *n as u64).min(first_shared(&chain))
+            }
+            _ => 0,
+        }
+    }
+
     /// New slips, pieces and buffers wanted; nothing if a code judged before 8 applies.
-    fn wanted(&self, call: &Call) -> Option<(u64, u64, u64)> {
+    pub fn wanted(&self, call: &Call) -> Option<(u64, u64, u64)> {
         match call {
             Call::Put { data } => {
                 let pieces = (data.len() as u64).div_ceil(512);
@@ -254,6 +265,16 @@ fn index(chain: &[(u64, u64)], byte: u64) -> u64 {
         before -= length;
     }
     panic!("byte {byte} is past the chain's end");
+}
+
+/// How many pieces lie wholly among the first n bytes.
+fn in_front(chain: &[(u64, u64)], n: u64) -> u64 {
+    let mut end = 0;
+    let ends = chain.iter().map(|(_, length)| {
+        end += length;
+        end
+    });
+    ends.take_while(|end| *end <= n).count() as u64
 }
 
 /// How many pieces stand before the first one with another number of references than 1.

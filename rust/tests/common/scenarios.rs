@@ -15,6 +15,7 @@ macro_rules! paper_cases {
         $crate::paper_cases! { $engine; morning;
             ten_rows,
             edge_put_at_512, edge_storage_full, edge_cut_at_end, edge_long, edge_append_same,
+            full_table_done, full_table_refused,
             list_of_the_morning, gather_of_the_morning,
         }
         $crate::paper_cases! { $engine; scenarios;
@@ -29,6 +30,8 @@ macro_rules! paper_cases {
             reading_14_append_twice, reading_15_read_and_show, reading_16_whole_numbers,
             reading_17_exact_lengths, reading_18_rings, reading_19_released_bytes_stay,
             reading_20_empty_slices,
+            reading_31_front_given_back, reading_32_room_in_front, reading_33_copied_first,
+            full_table_of_the_largest,
             list_of_the_largest, list_too_short, list_of_nothing, list_order_of_codes,
             gather_repeats, gather_refuses_records, gather_order_of_codes,
             gather_whole_numbers, gather_without_a_pool,
@@ -174,13 +177,13 @@ pub fn error_shortening_behind_shared(engine: Engine) {
     desk.dup(0, 1);
     desk.drop(0, 1_050);
     desk.tables(
-        &[6, 5, 0, 0],
+        &[2, 5, 0, 0],
         &[
-            Z,
+            [1, 2, 26, 50, 0],
             [1, 1, 0, 512, 3],
             [1, 2, 0, 76, 0],
             [1, 0, 0, 512, 2],
-            [1, 2, 26, 50, 0],
+            Z,
             Z,
             Z,
             Z,
@@ -315,13 +318,13 @@ pub fn reading_03_chain_before_released(engine: Engine) {
     // Pieces 0 → 1 → 2 → 3, and slip 1 heads piece 1.
     desk.drop(0, 1_100);
     desk.tables(
-        &[6, 3, 0, 0],
+        &[2, 3, 0, 0],
         &[
-            Z,
+            [1, 2, 76, 436, 4],
             [1, 1, 0, 512, 3],
             [1, 2, 0, 512, 4],
             [2, 3, 0, 464, 0],
-            [1, 2, 76, 436, 4],
+            Z,
             Z,
         ],
         &[0, 1, 2, 1],
@@ -360,12 +363,16 @@ pub fn reading_04_drop_at_border(engine: Engine) {
     desk.put(600, 0);
     desk.dup(0, 1);
     assert_eq!(desk.free_pieces(), []);
-    desk.refused(Call::Drop { slip: 1, n: 513 }, PIECES);
     desk.drop(1, 512);
     desk.tables(&[2, 3], &[[1, 0, 0, 512, 2], [2, 1, 0, 88, 0], Z], &[1, 1]);
+
+    let mut desk = headed_inside(engine);
+    desk.refused(Call::Drop { slip: 1, n: 1 }, PIECES);
+    desk.drop(2, 512);
     desk.drop(0, 512);
-    desk.tables(&[3, 3], &[Z, [2, 1, 0, 88, 0], Z], &[0, 1]);
+    desk.tables(&[3, 3, 3], &[Z, [3, 1, 0, 88, 0], Z], &[0, 1]);
     desk.free(0);
+    desk.free(2);
     desk.reads(1, &data(600)[512..]);
 }
 
@@ -543,33 +550,43 @@ fn two_tens(engine: Engine, buffers: u16, pieces: u16, slips: u16) -> Desk {
     desk
 }
 
+/// A full table in which slip 1 heads piece 1, on which the chains of slips 0 and 2 end.
+fn headed_inside(engine: Engine) -> Desk {
+    let mut desk = Desk::open(engine, 2, 3, 3);
+    desk.put(600, 0);
+    desk.dup(0, 1);
+    desk.drop(1, 512);
+    desk.dup(0, 2);
+    assert_eq!(desk.free_pieces(), []);
+    desk
+}
+
 /// Pullup of the whole chain leaves one piece; two are wanted only inside a piece not own.
 pub fn reading_09_pullup_wants(engine: Engine) {
     let twice = [data(10), data(10)].concat();
     let mut desk = two_tens(engine, 3, 3, 2);
     desk.pullup(0, 20);
-    desk.tables(&[4, 0], &[Z, Z, [1, 2, 0, 20, 0]], &[0, 0, 1]);
+    desk.tables(&[2, 0], &[[1, 2, 0, 20, 0], Z, Z], &[0, 0, 1]);
     desk.buffer_holds(2, &twice);
 
     // Inside an own piece: one.
     let mut desk = two_tens(engine, 3, 3, 2);
     desk.pullup(0, 15);
-    desk.tables(&[4, 0], &[Z, [1, 1, 5, 5, 0], [1, 2, 0, 15, 2]], &[0, 1, 1]);
+    desk.tables(&[2, 0], &[[1, 2, 0, 15, 2], [1, 1, 5, 5, 0], Z], &[0, 1, 1]);
 
     // Inside a piece not own: two, the front with the lower number.
-    let mut desk = two_tens(engine, 3, 4, 2);
+    let mut desk = two_tens(engine, 3, 3, 2);
     desk.dup(0, 1);
     desk.refused(Call::Pullup { slip: 0, n: 15 }, PIECES);
-    let mut desk = two_tens(engine, 3, 5, 2);
+    let mut desk = two_tens(engine, 3, 4, 2);
     desk.dup(0, 1);
     desk.pullup(0, 15);
     desk.tables(
-        &[5, 4],
+        &[2, 4],
         &[
-            Z,
+            [1, 2, 0, 15, 4],
             [1, 1, 0, 10, 0],
             [1, 0, 0, 10, 2],
-            [1, 2, 0, 15, 5],
             [1, 1, 5, 5, 0],
         ],
         &[1, 2, 1],
@@ -595,8 +612,8 @@ pub fn reading_09_pullup_wants(engine: Engine) {
     desk.dup(1, 3);
     desk.pullup(0, 20);
     desk.tables(
-        &[6, 4, 1, 5],
-        &[Z, Z, [2, 2, 0, 10, 0], [1, 2, 0, 10, 0], [1, 3, 0, 20, 3]],
+        &[2, 4, 1, 5],
+        &[[1, 3, 0, 20, 3], Z, [2, 2, 0, 10, 0], [1, 2, 0, 10, 0], Z],
         &[0, 0, 2, 1],
     );
     desk.reads(0, &[twice, data(10)].concat());
@@ -746,16 +763,23 @@ pub fn reading_13_order_of_codes(engine: Engine) {
     desk.put(0, 1);
 
     // Pullup: 5 before 6, 6 before 9, 9 before 10.
-    let mut desk = two_tens(engine, 2, 2, 2);
+    let mut desk = two_tens(engine, 2, 3, 2);
     desk.refused(Call::Pullup { slip: 1, n: 513 }, SLIP);
+    desk.refused(Call::Pack { slip: 0 }, BUFFERS);
+    desk.dup(0, 1);
     desk.refused(Call::Pullup { slip: 0, n: 513 }, LONG);
     desk.refused(Call::Pullup { slip: 0, n: 21 }, RANGE);
-    desk.refused(Call::Pullup { slip: 0, n: 20 }, PIECES);
-    let mut desk = two_tens(engine, 2, 3, 2);
+    desk.refused(Call::Pullup { slip: 0, n: 15 }, PIECES);
     desk.refused(Call::Pullup { slip: 0, n: 20 }, BUFFERS);
-    desk.refused(Call::Pack { slip: 0 }, BUFFERS);
+    desk.refused(Call::Pack { slip: 0 }, PIECES);
 
-    // Append, drop, keep: 3, 4 and 6 before 9.
+    // Drop: 3 and 6 before 9.
+    let mut desk = headed_inside(engine);
+    desk.refused(Call::Drop { slip: 3, n: 89 }, SLIP);
+    desk.refused(Call::Drop { slip: 1, n: 89 }, RANGE);
+    desk.refused(Call::Drop { slip: 1, n: 87 }, PIECES);
+
+    // Append and keep: 3, 4 and 6 before 9.
     let mut desk = Desk::open(engine, 3, 4, 3);
     desk.put(600, 0);
     desk.dup(0, 1);
@@ -764,8 +788,6 @@ pub fn reading_13_order_of_codes(engine: Engine) {
     desk.refused(Call::Append { a: 3, b: 0 }, SLIP);
     desk.refused(Call::Append { a: 0, b: 0 }, SAME);
     desk.refused(Call::Append { a: 0, b: 2 }, PIECES);
-    desk.refused(Call::Drop { slip: 0, n: 601 }, RANGE);
-    desk.refused(Call::Drop { slip: 0, n: 599 }, PIECES);
     desk.refused(Call::Keep { slip: 0, n: 601 }, RANGE);
     desk.refused(Call::Keep { slip: 0, n: 599 }, PIECES);
 
@@ -1056,6 +1078,261 @@ pub fn reading_20_empty_slices(engine: Engine) {
     desk.done_unchanged(show(0, 0, 0), 0);
     desk.done_unchanged(list(0, 0), 0);
     desk.done_unchanged(stretches(0, 0), 0);
+}
+
+/// Slip 3 heads pieces 3 → 1 → 2 of 10 bytes each, slip 0 heads piece 2; pieces 4 and 5 are free, and 0 where it isn't asked for.
+fn scattered(engine: Engine, asked: bool) -> Desk {
+    let mut desk = Desk::open(engine, 5, 6, 4);
+    for slip in 0..4 {
+        desk.put(10, slip);
+    }
+    desk.append(3, 1);
+    desk.append(3, 2);
+    desk.free(0);
+    desk.dup(3, 0);
+    desk.drop(0, 20);
+    if asked {
+        desk.dup(0, 1);
+    }
+    let first = if asked { [1, 2, 0, 10, 0] } else { Z };
+    desk.tables(
+        &[4, if asked { 2 } else { 0 }, 0, 5],
+        &[
+            first,
+            [1, 1, 0, 10, 3],
+            [2, 2, 0, 10, 0],
+            [1, 3, 0, 10, 2],
+            Z,
+            Z,
+        ],
+        &[0, 1, if asked { 2 } else { 1 }, 1, 0],
+    );
+    desk
+}
+
+/// Drop and pullup take the lowest of what is free and of the own pieces in front of what stays.
+pub fn reading_31_front_given_back(engine: Engine) {
+    let bytes = data(10).repeat(3);
+    // Drop takes one: free at entry, or given back with the piece behind the head.
+    let mut desk = scattered(engine, false);
+    desk.drop(3, 25);
+    desk.tables(
+        &[4, 0, 0, 2],
+        &[[1, 2, 5, 5, 0], Z, [1, 2, 0, 10, 0], Z, Z, Z],
+        &[0, 0, 2, 0, 0],
+    );
+    let mut desk = scattered(engine, true);
+    desk.drop(3, 25);
+    desk.tables(
+        &[4, 2, 0, 3],
+        &[[1, 2, 0, 10, 0], [1, 2, 5, 5, 0], [1, 2, 0, 10, 0], Z, Z, Z],
+        &[0, 0, 3, 0, 0],
+    );
+    desk.reads(3, &bytes[25..]);
+
+    // Pullup takes two: one free at entry and one given back, or both given back.
+    let mut desk = scattered(engine, false);
+    desk.pullup(3, 25);
+    desk.tables(
+        &[4, 0, 0, 2],
+        &[[1, 0, 0, 25, 2], [1, 2, 5, 5, 0], [1, 2, 0, 10, 0], Z, Z, Z],
+        &[1, 0, 2, 0, 0],
+    );
+    let mut desk = scattered(engine, true);
+    desk.pullup(3, 25);
+    desk.tables(
+        &[4, 2, 0, 3],
+        &[
+            [1, 2, 0, 10, 0],
+            [1, 0, 0, 25, 4],
+            [1, 2, 0, 10, 0],
+            [1, 2, 5, 5, 0],
+            Z,
+            Z,
+        ],
+        &[1, 0, 3, 0, 0],
+    );
+    desk.reads(3, &bytes);
+
+    // An own piece that stays is not given back: the front takes the old head's number.
+    let mut desk = scattered(engine, true);
+    desk.pullup(3, 12);
+    desk.tables(
+        &[4, 2, 0, 5],
+        &[
+            [1, 2, 0, 10, 0],
+            [1, 1, 2, 8, 3],
+            [2, 2, 0, 10, 0],
+            [1, 0, 0, 12, 2],
+            Z,
+            Z,
+        ],
+        &[1, 1, 2, 0, 0],
+    );
+    desk.reads(3, &bytes);
+
+    // At a border, and of the whole chain: the shared piece stays to the other slip.
+    let mut desk = scattered(engine, true);
+    desk.pullup(3, 20);
+    desk.pullup(3, 30);
+    desk.tables(
+        &[4, 2, 0, 3],
+        &[
+            [1, 2, 0, 10, 0],
+            [1, 1, 0, 30, 0],
+            [1, 2, 0, 10, 0],
+            Z,
+            Z,
+            Z,
+        ],
+        &[0, 1, 2, 0, 0],
+    );
+    desk.reads(3, &bytes);
+
+    // A shared head gives nothing back, nor does a piece of count 1 behind it.
+    let mut desk = Desk::open(engine, 4, 4, 2);
+    desk.put(1_100, 0);
+    desk.dup(0, 1);
+    desk.drop(1, 512);
+    desk.drop(1, 520);
+    desk.tables(
+        &[2, 5],
+        &[
+            [1, 0, 0, 512, 2],
+            [1, 1, 0, 512, 3],
+            [1, 2, 0, 76, 0],
+            [1, 2, 8, 68, 0],
+        ],
+        &[1, 1, 2, 0],
+    );
+    let mut desk = Desk::open(engine, 4, 4, 3);
+    desk.put(1_100, 0);
+    desk.dup(0, 1);
+    desk.drop(1, 512);
+    desk.dup(0, 2);
+    desk.refused(Call::Drop { slip: 1, n: 8 }, PIECES);
+    desk.refused(Call::Drop { slip: 1, n: 520 }, PIECES);
+}
+
+/// Code 9 is judged by what is given back too, code 10 is not; keep, append and pack take only what is free at entry.
+pub fn reading_32_room_in_front(engine: Engine) {
+    let mut desk = Desk::open(engine, 3, 3, 2);
+    desk.put(600, 0);
+    desk.dup(0, 1);
+    assert_eq!(desk.free_pieces(), []);
+    desk.refused(Call::Keep { slip: 0, n: 520 }, PIECES);
+    desk.refused(Call::Append { a: 0, b: 1 }, PIECES);
+    desk.refused(Call::Pack { slip: 0 }, PIECES);
+    desk.drop(0, 520);
+    desk.tables(
+        &[2, 4],
+        &[[1, 1, 8, 80, 0], [1, 1, 0, 88, 0], [1, 0, 0, 512, 2]],
+        &[1, 2, 0],
+    );
+
+    // One given back and two wanted: refused, until one is free.
+    let mut desk = two_tens(engine, 3, 4, 3);
+    desk.dup(0, 1);
+    desk.put(1, 2);
+    desk.refused(Call::Pullup { slip: 0, n: 15 }, PIECES);
+    desk.free(2);
+    desk.pullup(0, 15);
+    assert_eq!(desk.free_pieces(), []);
+
+    // The buffers given back are no room, of the whole chain neither.
+    for n in [15, 20] {
+        let mut desk = two_tens(engine, 2, 2, 2);
+        desk.refused(Call::Pullup { slip: 0, n }, BUFFERS);
+    }
+}
+
+/// Pullup copies to a buffer free at entry, although lower ones are given back; these keep their bytes.
+pub fn reading_33_copied_first(engine: Engine) {
+    let mut desk = two_tens(engine, 3, 2, 2);
+    assert_eq!(desk.free_pieces(), []);
+    let old = desk.storage[..1_024].to_vec();
+    desk.pullup(0, 20);
+    desk.tables(&[2, 0], &[[1, 2, 0, 20, 0], Z], &[0, 0, 1]);
+    desk.buffer_holds(2, &data(10).repeat(2));
+    assert_eq!(desk.storage[..1_024], old);
+}
+
+/// The largest pool with every piece in use: drop and pullup done and refused, each with all its tables.
+pub fn full_table_of_the_largest(engine: Engine) {
+    let buffers = MOST.0 as u16;
+    let stored = buffers - 2;
+    let whole = 512 * stored as u32;
+    let mut desk = Desk::open(engine, buffers, P, S);
+    desk.put(whole as usize, 0);
+    desk.cut(0, 0, whole, 1);
+    desk.dup(0, 2);
+    desk.cut(0, 500, 24, 3);
+    desk.dup(3, 4);
+    assert_eq!(desk.free_pieces(), []);
+
+    // Two chains over all that is stored, and from `last` on 2,044 → 1, 2,045 → 2,046 and 2,047 → 2,046.
+    let last = 2 * stored as usize;
+    assert_eq!(last, 2_044);
+    let full = |d: u16| {
+        [
+            1,
+            d % stored,
+            0,
+            512,
+            if d % stored == stored - 1 { 0 } else { d + 2 },
+        ]
+    };
+    let mut pieces: Vec<[u16; 5]> = (0..2 * stored).map(full).collect();
+    pieces.push([1, 0, 0, 512, 2]);
+    pieces.push([1, 0, 500, 12, 2_047]);
+    pieces.push([2, 1, 0, 12, 0]);
+    pieces.push([1, 0, 500, 12, 2_047]);
+    pieces[1][0] = 2;
+    let mut slips = vec![0; S as usize];
+    slips[..5].copy_from_slice(&[2, stored + 2, 2_046, 2_047, 2_049]);
+    let mut counts = vec![2; buffers as usize];
+    counts[stored as usize..].fill(0);
+    counts[0] = 5;
+    counts[1] = 3;
+    desk.tables(&slips, &pieces, &counts);
+
+    // One given back, two wanted and one.
+    desk.refused(Call::Pullup { slip: 3, n: 20 }, PIECES);
+    desk.pullup(3, 24);
+    pieces[last + 1] = [1, stored, 0, 24, 0];
+    pieces[last + 2][0] = 1;
+    counts[0] = 4;
+    counts[stored as usize] = 1;
+    desk.tables(&slips, &pieces, &counts);
+    desk.reads(3, &data(524)[500..]);
+
+    // Inside piece 1, which is shared, behind the last pieces' own one.
+    desk.drop(2, 520);
+    pieces[last] = [1, 1, 8, 504, 3];
+    pieces[1][0] = 1;
+    pieces[2][0] = 2;
+    counts[0] = 3;
+    counts[1] = 4;
+    desk.tables(&slips, &pieces, &counts);
+
+    // Inside piece 2, shared now, behind two own ones, of which the lower number is taken.
+    desk.drop(0, 1_030);
+    pieces[0] = [1, 2, 6, 506, 4];
+    pieces[1] = Z;
+    pieces[2][0] = 1;
+    pieces[3][0] = 2;
+    counts[0] = 2;
+    counts[1] = 3;
+    counts[2] = 3;
+    desk.tables(&slips, &pieces, &counts);
+
+    // A shared head gives nothing back, in the full table again.
+    desk.drop(0, 506);
+    desk.dup(0, 5);
+    desk.dup(5, 6);
+    assert_eq!(desk.free_pieces(), []);
+    desk.refused(Call::Drop { slip: 0, n: 1 }, PIECES);
+    desk.reads(0, &data(whole as usize)[1_536..]);
 }
 
 /// The longest list, all on one buffer, and the last byte of the largest storage.

@@ -3,8 +3,8 @@
 use std::time::Instant;
 
 use super::compare;
-use super::desk::{cut, Engine};
-use super::model::{Call, Outcome, TORN, TRUE};
+use super::desk::{append, cut, drop, dup, Engine};
+use super::model::{Call, Outcome, BUFFERS, DONE, PIECES, TORN, TRUE};
 use super::random::{self, Mood, Random, Shape, LARGEST, SHAPES};
 use super::recount::{recount, Recount};
 
@@ -76,8 +76,8 @@ pub fn pools(count: u64, calls: u64) -> impl Iterator<Item = (u64, List)> {
 /// Calls enough to fill a pool of so many pieces fill a larger one too, since puts grow with it.
 const FILLED: u16 = 256;
 
-/// Pools of the largest shape that the model leaves: one with little in it, one with no slip, piece or buffer free, and one
-/// whose free slips, pieces and buffers lie scattered.
+/// Pools of the largest shape that the model leaves: one with little in it, one with no slip, piece or buffer free, one whose
+/// free slips, pieces and buffers lie scattered, and one with no slip or piece free, whose chains share their ends.
 pub fn largest() -> Vec<(&'static str, List)> {
     let (b, p, s) = LARGEST;
     let half = s / 2;
@@ -94,6 +94,14 @@ pub fn largest() -> Vec<(&'static str, List)> {
         1 => Call::Drop { slip, n: 700 },
         _ => Call::Keep { slip, n: 1_000 },
     }));
+    // Of four slips one heads 28 shared pieces, two have an own piece before them, and one has two.
+    let mut shared = Vec::new();
+    for a in (0..s).step_by(4) {
+        let [b, c, d] = [a + 1, a + 2, a + 3];
+        shared.extend([put(10), put(3_584), cut(b, 0, 3_584), append(b, c)]);
+        shared.extend([cut(b, 0, 7_168), append(b, c), append(a, b)]);
+        shared.extend([dup(a), drop(b, 10), dup(a), put(20), append(d, c), dup(a)]);
+    }
     let after = |calls: Vec<Call>| {
         let mut list = List::start(u64::from(p), Some(LARGEST));
         for call in calls {
@@ -107,19 +115,91 @@ pub fn largest() -> Vec<(&'static str, List)> {
         ("sparse", after(sparse)),
         ("full", after(full)),
         ("scattered", after(scattered)),
+        ("shared", after(shared)),
     ]
 }
 
-/// How many calls and lists were made, and how often each code came.
+/// A drop or pullup that wants pieces: how many, how many are free at entry, how many it gives back, and its code.
+pub struct Wanting {
+    pulls: bool,
+    wanted: u64,
+    free: u64,
+    given: u64,
+    code: u16,
+}
+
+/// A kind of these.
+type Kind = (&'static str, fn(&Wanting) -> bool);
+
+/// Every kind that the lists come to.
+pub const KINDS: [Kind; 13] = [
+    ("drop, full, done", |w| w.full(false, 1, DONE)),
+    ("drop, full, 9", |w| w.full(false, 1, PIECES)),
+    ("drop, one free and some given back, done", |w| {
+        !w.pulls && w.free == 1 && w.given > 0
+    }),
+    ("drop, one free and none given back, done", |w| {
+        !w.pulls && w.free == 1 && w.given == 0
+    }),
+    ("pullup of one, full, done", |w| w.full(true, 1, DONE)),
+    ("pullup of one, full, 9", |w| w.full(true, 1, PIECES)),
+    ("pullup of one, full, 10", |w| w.full(true, 1, BUFFERS)),
+    ("pullup of two, full, done", |w| w.full(true, 2, DONE)),
+    ("pullup of two, full, one given back, 9", |w| {
+        w.full(true, 2, PIECES) && w.given == 1
+    }),
+    ("pullup of two, full, none given back, 9", |w| {
+        w.full(true, 2, PIECES) && w.given == 0
+    }),
+    ("pullup of two, full, 10", |w| w.full(true, 2, BUFFERS)),
+    ("pullup of two, one free and one given back, done", |w| {
+        w.one_each(DONE)
+    }),
+    ("pullup of two, one free and none given back, 9", |w| {
+        w.wanted == 2 && w.free == 1 && w.given == 0 && w.code == PIECES
+    }),
+];
+
+impl Wanting {
+    /// The call as it is seen from the recount before it, if it wants pieces.
+    fn of(before: &Recount, call: &Call, code: u16) -> Option<Wanting> {
+        let pulls = match call {
+            Call::Drop { .. } => false,
+            Call::Pullup { .. } => true,
+            _ => return None,
+        };
+        let (_, wanted, _) = before.wanted(call)?;
+        (wanted > 0).then(|| Wanting {
+            pulls,
+            wanted,
+            free: before.room().1,
+            given: before.given_back(call),
+            code,
+        })
+    }
+
+    /// In a full table.
+    fn full(&self, pulls: bool, wanted: u64, code: u16) -> bool {
+        self.free == 0 && (self.pulls, self.wanted, self.code) == (pulls, wanted, code)
+    }
+
+    /// A pullup of two where one is free and one given back.
+    fn one_each(&self, code: u16) -> bool {
+        (self.wanted, self.free, self.given, self.code) == (2, 1, 1, code)
+    }
+}
+
+/// How many calls and lists were made, and how often each code and each kind came.
 #[derive(Default)]
 pub struct Tally {
     pub calls: u64,
     pub lists: u64,
     pub codes: [u64; 11],
+    pub kinds: [u64; KINDS.len()],
 }
 
 impl Tally {
-    /// What was made since then, in one line.
+    /// What was made since then, in two lines.
     pub fn print(&self, begun: Instant) {
         println!(
             "{} calls in {} lists, {:.1} s, by code {:?}",
@@ -128,6 +208,30 @@ impl Tally {
             begun.elapsed().as_secs_f64(),
             self.codes
         );
+        println!("drop and pullup that want pieces, by kind {:?}", self.kinds);
+    }
+
+    /// Counts a call that the recount before it has judged.
+    fn count(&mut self, before: &Recount, call: &Call, code: u16) {
+        self.codes[code as usize] += 1;
+        if let Some(wanting) = Wanting::of(before, call, code) {
+            for (times, (_, is)) in self.kinds.iter_mut().zip(KINDS) {
+                *times += u64::from(is(&wanting));
+            }
+        }
+    }
+
+    /// Every code came but 2, since a list that starts from a done open never meets a torn pool, and so did every kind, often.
+    pub fn all_met(&self) {
+        for (code, times) in self.codes.iter().enumerate() {
+            assert_eq!(*times == 0, code == 2, "code {code} came {times} times");
+        }
+        for (times, (kind, _)) in self.kinds.iter().zip(KINDS) {
+            assert!(
+                *times >= (self.calls / 50_000).max(1),
+                "{kind}: {times} times"
+            );
+        }
     }
 }
 
@@ -157,8 +261,8 @@ pub fn run_on(beside: Option<Engine>, what: &str, list: &mut List, calls: u64, t
         let failed = match (differs, demand_three(&found, &call, &wanted)) {
             (Some(text), _) | (None, Err(text)) => text,
             (None, Ok(after)) => {
+                tally.count(&found, &call, wanted.code);
                 found = after;
-                tally.codes[wanted.code as usize] += 1;
                 list.take(wanted);
                 continue;
             }

@@ -1,35 +1,37 @@
 -- `drop::drop_first` meets its contract. Assumes nothing.
 use mathlib.Core.Path.{_≡_, sym, ap, subst, _∙_}
 use mathlib.Core.Logic.{_≢_}
-use mathlib.Core.List.{List}
-use Prim.Native.Nat.{ℕ, _-_, _≤_, _<_}
+use mathlib.Core.List.{List, []}
+use Prim.Native.Nat.{ℕ, _+_, _≤_, _<_}
 use native.Mathlib.Omega.{arith}
 use lib.ListN.{length}
-use lib.Dec.{ltb}
+use lib.Dec.{ltb, leb}
 use borrow.Author.Needs.{needs}
 use borrow.Author.Tests.{not-true, not-false, leb-true, leb-false}
 use Rattle.kinds.proofs.Laws.{entry-none, entry-some}
-use Rattle.rules.specs.Basics.{Is, places}
-use Rattle.rules.specs.Tables.{Tables, headOf, slipTotal, pieceTotal}
+use Rattle.rules.specs.Basics.{Is}
+use Rattle.rules.specs.Tables.{Tables, headOf, holding, slipTotal, pieceTotal}
 use Rattle.rules.specs.Bytes.{decode}
-use Rattle.rules.specs.Chain.{lengthOf}
-use Rattle.rules.specs.Room.{isFree, freePieces}
-use Rattle.rules.specs.Build.{Plan, made, madeLink}
+use Rattle.rules.specs.Chain.{lengthOf, ownPieces}
+use Rattle.rules.specs.Room.{isFreeWith, freePieces, freeFrom}
+use Rattle.rules.specs.Build.{Plan, built, builtLink}
 use Rattle.rules.specs.Rule.{unnamed}
-use Rattle.rules.specs.Drop.{dropped}
+use Rattle.rules.specs.Drop.{dropped, dropBack}
+use Rattle.rules.proofs.Moves.{SoundNow}
 use Rattle.rules.proofs.Build.{Planned}
-use Rattle.rules.proofs.Room.{free-pieces}
 use Rattle.rules.proofs.Audit.{tables-now}
-use Rattle.rules.proofs.Drop.{dropped-planned}
+use Rattle.rules.proofs.Drop.{dropped-planned, drop-count}
+use Rattle.rules.proofs.Back.{pieces-most, drop-room, back-own}
 use Rattle.tables.specs.Shape.{Holds}
+use Rattle.tables.proofs.Laws.{whole, total-pieces}
 use Rattle.chain.specs.Enter.{Enters}
 use Rattle.chain.specs.Find.{pastEnd}
 use Rattle.chain.proofs.Spots.{Found, found-at, past-range}
-use Rattle.room.proofs.Free.{lowest-all}
-use Rattle.release.proofs.Under.{under-asks, under-small, under-done}
-use Rattle.rest.specs.Rest.{restFrom}
-use Rattle.rest.proofs.Dropped.{dropped-at}
-use Rattle.drop.proofs.Laws.{made-dropped, drop-slip, drop-range, drop-pieces, drop-nothing, drop-done}
+use Rattle.release.specs.Release.{turnedTo}
+use Rattle.rest.specs.Rest.{restFrom, newOf, Makable}
+use Rattle.rest.proofs.Freed.{emptiedTo, freed-buffers, freed-count, freed-from, freed-counts, freed-link, freed-done, moved-done}
+use Rattle.rest.proofs.Dropped.{dropped-at, more-dropped, buffer-dropped}
+use Rattle.drop.proofs.Laws.{no-stretch, made-dropped, drop-slip, drop-range, drop-pieces, drop-nothing, drop-done}
 use Rattle.drop.proofs.drop_first.Statement.{statement}
 use Rattle.drop.proofs.drop_first.Tie as tie
 
@@ -80,19 +82,29 @@ module _ (e : tie.Else1) where
   inside : slip < slipTotal tables
   inside = entry .inside held-here
 
-  -- what drop leaves, and the pieces free for it
+  sound-here : SoundNow tables
+  sound-here = tables-now tables (start .pre .sound)
+
+  -- what drop leaves, what it gives back first, and the pieces free
   abbrev rest : Plan
   rest = dropped tables slip (start .args .n)
+
+  abbrev back : List ℕ
+  back = dropBack tables slip (start .args .n)
 
   abbrev free : List ℕ
   free = freePieces tables
 
   -- it can be carried out
   planned : Planned tables rest
-  planned = dropped-planned tables slip (start .args .n) (tables-now tables (start .pre .sound))
+  planned = dropped-planned tables slip (start .args .n) sound-here
 
-sub-find : tie.Need-sub-find
-sub-find c = let i = held-here (c .before) in omega arith
+  -- the tables in which the front is given back
+  abbrev freed : Tables
+  freed = emptiedTo rest slip
+
+sub-head : tie.Need-sub-head
+sub-head c = let i = held-here c in omega arith
 
 find-requires : tie.Need-find-requires
 find-requires c κs = let e = c .before in (start e .pre, entry e .good)
@@ -155,12 +167,6 @@ returns-3 c =
 wanted-requires : tie.Need-wanted-requires
 wanted-requires c κs = search needs
 
-cast-wanted : tie.Need-cast-wanted
-cast-wanted c = search needs
-
-piece-room-requires : tie.Need-piece-room-requires
-piece-room-requires c κs = search needs
-
 module _ (w : tie.After-wanted) where
   abbrev found-there : tie.After-find
   found-there = w .before .before .before .before
@@ -169,78 +175,76 @@ module _ (w : tie.After-wanted) where
   wants : w .wanted .result ≡ length (rest (from found-there) .more)
   wants = w .wanted .ensures (tables (from found-there)) ∙ ap (λ (p : Plan). length (p .more)) (sym (plan found-there))
 
+-- ---- none is wanted: the slip is moved along its chain
+
+module _ (c : tie.Then4) where
+  abbrev none-asked : tie.After-wanted
+  none-asked = c .before
+
+  abbrev mover : tie.Else1
+  mover = from (found-there none-asked)
+
+  none-new : rest mover .more ≡ []
+  none-new = no-stretch (rest mover .more) (sym (wants none-asked) ∙ c .if4 .taken)
+
+move-to-requires : tie.Need-move-to-requires
+move-to-requires c κs =
+    let f = found-there (none-asked (c .before)) in
+    let e = from f in
+    ((start e .pre, place f .good, below e), place f .inside)
+
+done-requires-2 : tie.Need-done-requires-2
+done-requires-2 c κs = let v = c .before .before .before in (v .move-to .ensures .shaped, below (mover (v .before .before)))
+
 same-length-4 : tie.Need-same-length-4
 same-length-4 c = search needs
 
 returns-4 : tie.Need-returns-4
 returns-4 c =
     let k = c .before .before in
-    let w = k .before .before in
-    let f = found-there w in
-    let e = from f in
-    let z = start e in
-    let r = w .before .before in
-    let few = leb-false _ (length (free e)) (sym (k .piece-room .ensures .1) ∙ not-true _ (c .if4 .taken)) in
-    (λ st. drop-pieces (z .args .pool .now) st (slip e) (z .args .n) (named-here e) (in-range r) (omega (arith, few, wants w)), tt)
+    let v = k .before .before in
+    let t = v .before .before in
+    let r = none-asked t .before in
+    let e = mover t in
+    let z = start e in (
+      λ st. drop-done (z .args .pool .now) st (slip e) (z .args .n) (named-here e) (in-range (r .before)) (r .if3 .left) (omega (arith, ap length (none-new t))) (c .done2 .ensures)
+          (λ i. omega (arith, k .slice-known2 .given i))
+          (λ S. moved-done S (rest e) (slip e) (none-new t)
+          (record { shaped = v .move-to .ensures .shaped; is = v .move-to .ensures .is ∙ ap (λ (p : Plan). turnedTo (p .base) (slip e) (holding (p .tail))) (sym (plan (found-there (none-asked t)))) })),
+      rw (c .done2 .ensures),
+    )
 
--- ---- there is room
+-- ---- a piece is wanted
 
-module _ (c : tie.Else4) where
+room-in-front-requires : tie.Need-room-in-front-requires
+room-in-front-requires c κs =
+    let w = c .before .before in
+    let e = from (found-there w) in
+    let most = pieces-most (tables e) (slip e) (start e .args .n) in
+    (start e .pre, entry e .good, omega (arith, wants w, most, drop-count (tables e) (slip e) (start e .args .n) (sound-here e)))
+
+-- ---- room with what is given back
+
+module _ (r : tie.After-room-in-front) where
   abbrev asked : tie.After-wanted
-  asked = c .before .before .before .before
+  asked = r .before .before .before
 
   abbrev origin : tie.Else1
   origin = from (found-there asked)
 
-  -- the free pieces from the lowest wanted on are all
-  all-free : let f = c .before .before .piece-room .result .lowest .0 in places (isFree (tables origin)) f (pieceTotal (tables origin) - f) ≡ free origin
-  all-free =
+  -- the test of the code is that of the rule
+  room-is : r .room-in-front .result .enough ≡ leb (length (rest origin .more)) (length (back origin) + length (free origin))
+  room-is =
       let T = tables origin in
-      lowest-all (isFree T) (asked .wanted .result) (pieceTotal T) (c .before .before .piece-room .ensures .0)
+      r .room-in-front .ensures .there ∙ (λ i. leb (wants asked i) (length (ownPieces (pieceTotal T) T (entry origin .link-is i)) + length (free origin)))
+      ∙ sym (drop-room T (slip origin) (start origin .args .n) (sound-here origin) (length (free origin)))
 
-  -- for the pieces wanted
-  enough : length (rest origin .more) ≤ length (free origin)
-  enough =
-      let most = leb-true _ (length (free origin)) (sym (c .before .before .piece-room .ensures .1) ∙ not-false _ (c .if4 .left)) in
-      omega (arith, most, wants asked)
-
-settle-requires : tie.Need-settle-requires
-settle-requires c κs =
-    let k = c .before .before in
-    let f = found-there (asked k) in
-    let e = from f in
-    let some = rw (plan f) at (enough k) in
-    ((start e .pre, place f .good), (place f .inside, rw (all-free k) some))
-
--- ---- what stays is made
-
-module _ (g : tie.After-settle) where
-  abbrev room : tie.Else4
-  room = g .before .before .before
-
-  abbrev first : tie.Else1
-  first = origin room
-
-  -- by the plan of drop
-  settled : Holds (g .settle .last .0) (start first .args .shape) (made (rest first) (free first)) × (g .settle .result ≡ madeLink (rest first) (free first))
-  settled = made-dropped (tables first) (slip first) (start first .args .n) (plan (found-there (asked room))) (all-free room) (g .settle .ensures)
-
-add-turn : tie.Need-add-turn
-add-turn c =
-    let g = c .before .before .before in
-    let e = first g in
-    omega (arith, under-small (rest e) (free e) (settled g) (planned e) (free-pieces (tables e)), start e .pre .few-pieces)
-
-turn-requires : tie.Need-turn-requires
-turn-requires c κs =
-    let g = c .before .before .before in
-    let e = first g in
-    (settled g .0 .shaped, below e, under-asks (rest e) (free e) (settled g) (planned e) (free-pieces (tables e)))
-
-done-requires-2 : tie.Need-done-requires-2
-done-requires-2 c κs =
-    let u = c .before .before .before in
-    (u .turn .ensures .shaped, below (first (u .before .before .before .before)))
+  -- none below the number found is free once the front is given back
+  none-below : (d : ℕ) → d < r .room-in-front .result .from .0 → Is (isFreeWith (tables origin) (back origin) d) → ⊥
+  none-below d l t =
+      let T = tables origin in
+      r .room-in-front .ensures .none-below d l
+      (subst (λ n. Is (isFreeWith T (ownPieces (pieceTotal T) T n) d)) (sym (entry origin .link-is)) (back-own T (slip origin) (start origin .args .n) (sound-here origin) d t))
 
 same-length-5 : tie.Need-same-length-5
 same-length-5 c = search needs
@@ -248,14 +252,122 @@ same-length-5 c = search needs
 returns-5 : tie.Need-returns-5
 returns-5 c =
     let k = c .before .before in
-    let u = k .before .before in
-    let g = u .before .before .before .before in
-    let r = asked (room g) .before in
+    let w = asked k in
+    let e = origin k in
+    let z = start e in
+    let few = leb-false (length (rest e .more)) (length (back e) + length (free e)) (sym (room-is k) ∙ not-true _ (c .if5 .taken)) in
+    (λ st. drop-pieces (z .args .pool .now) st (slip e) (z .args .n) (named-here e) (in-range (w .before .before)) (omega (arith, few)), tt)
+
+-- ---- there is room
+
+give-back-requires : tie.Need-give-back-requires
+give-back-requires c κs =
+    let f = found-there (asked (c .before .before .before .before)) in
+    let e = from f in
+    ((start e .pre, place f .good, below e), place f .inside)
+
+-- ---- the front is given back
+
+module _ (g : tie.After-give-back) where
+  abbrev left : tie.Else5
+  left = g .before .before .before
+
+  abbrev roomy : tie.After-room-in-front
+  roomy = left .before .before
+
+  abbrev first : tie.Else1
+  first = origin roomy
+
+  abbrev number : ℕ
+  number = roomy .room-in-front .result .from .0
+
+  -- there is room for what drop wants
+  enough : length (rest first .more) ≤ length (back first) + length (free first)
+  enough = leb-true (length (rest first .more)) (length (back first) + length (free first)) (sym (room-is roomy) ∙ not-false _ (left .if5 .left))
+
+  abbrev plan-first : rest first ≡ restFrom (tables first) (found-there (asked roomy) .find .result .own) (found-there (asked roomy) .find .result .link) (found-there (asked roomy) .find .result .into)
+  plan-first = plan (found-there (asked roomy))
+
+  -- the pool's tables are those of the rule
+  given : Holds (g .give-back .last .0) (start first .args .shape) (freed first)
+  given =
+      let h = g .give-back .ensures .0 in
+      record { shaped = h .shaped; is = h .is ∙ ap (λ (p : Plan). turnedTo (p .base) (slip first) (holding 0)) (sym plan-first) }
+
+  -- the free pieces from the number found on are all
+  all-free : freeFrom (freed first) number ≡ freePieces (freed first)
+  all-free = freed-from (rest first) (slip first) (planned first) (inside first) number (none-below roomy)
+
+  -- no more pieces than fit 16 bits
+  few : pieceTotal (tables first) < 65535
+  few = omega (arith, start first .pre .few-pieces, total-pieces (whole (start first .pre .shaped)))
+
+  -- so the new piece can be made
+  makable : Makable (freed first) (g .give-back .result) number
+  makable =
+      let T = tables first in
+      let same = more-dropped T (slip first) (start first .args .n) plan-first (g .give-back .ensures .1) in
+      record {
+        room = omega (arith, enough, ap length same, ap length all-free, freed-count (rest first) (slip first) (planned first) (inside first));
+        in-store = λ z. omega (
+          arith,
+          buffer-dropped T (slip first) (start first .args .n) plan-first (g .give-back .ensures .1) (sound-here first) z,
+          freed-buffers (rest first) (slip first) (planned first) (inside first),
+        );
+        counted = omega (arith, few, freed-counts (rest first) (slip first) (planned first) (inside first) (g .give-back .result .buffer .0));
+      }
+
+make-requires : tie.Need-make-requires
+make-requires c κs =
+    let g = c .before .before .before in
     let e = first g in
+    (given g .shaped, omega (arith, start e .pre .few-pieces), subst (λ (X : Tables). Makable X (g .give-back .result) (number g)) (sym (given g .is)) (makable g))
+
+-- ---- what stays is made
+
+module _ (m : tie.After-make) where
+  abbrev gave : tie.After-give-back
+  gave = m .before .before .before .before
+
+  abbrev source : tie.Else1
+  source = first gave
+
+  -- by the plan of drop
+  made : Holds (m .make .last .0) (start source .args .shape) (built (freed source) (freePieces (freed source)) (rest source .more) (rest source .tail))
+      × (m .make .result ≡ builtLink (freePieces (freed source)) (rest source .more) (rest source .tail))
+  made =
+      let t = gave .give-back .result in
+      made-dropped (tables source) (slip source) (start source .args .n) (number gave) (plan-first gave) (gave .give-back .ensures .1) (all-free gave)
+      (subst (λ (X : Tables). Holds (m .make .last .0) (start source .args .shape) (built X (freeFrom X (number gave)) (newOf t) (t .next))
+      × (m .make .result ≡ builtLink (freeFrom X (number gave)) (newOf t) (t .next))) (given gave .is) (m .make .ensures))
+
+add-set-slip : tie.Need-add-set-slip
+add-set-slip c =
+    let m = c .before .before .before in
+    let e = source m in
+    omega (arith, made m .1, freed-link (rest e) (slip e) (planned e) (inside e), few (gave m))
+
+set-slip-requires : tie.Need-set-slip-requires
+set-slip-requires c κs = let m = c .before .before .before in (made m .0 .shaped, below (source m))
+
+done-requires-3 : tie.Need-done-requires-3
+done-requires-3 c κs = let u = c .before .before .before in (u .set-slip .ensures .shaped, below (source (u .before .before .before .before)))
+
+same-length-6 : tie.Need-same-length-6
+same-length-6 c = search needs
+
+returns-6 : tie.Need-returns-6
+returns-6 c =
+    let k = c .before .before in
+    let u = k .before .before in
+    let m = u .before .before .before .before in
+    let g = gave m in
+    let r = asked (roomy g) .before in
+    let e = source m in
     let z = start e in (
-      λ st. drop-done (z .args .pool .now) st (slip e) (z .args .n) (named-here e) (in-range (r .before)) (r .if3 .left) (enough (room g)) (c .done2 .ensures)
-          (λ i. omega (arith, k .slice-known3 .given i)) (λ S. under-done (rest e) (free e) (settled g) S (slip e) (u .turn .ensures)),
-      rw (c .done2 .ensures),
+      λ st. drop-done (z .args .pool .now) st (slip e) (z .args .n) (named-here e) (in-range (r .before)) (r .if3 .left) (enough g) (c .done3 .ensures)
+          (λ i. omega (arith, k .slice-known5 .given i)) (λ S. freed-done (rest e) (slip e) (planned e) (inside e) S (made m) (u .set-slip .ensures)),
+      rw (c .done3 .ensures),
     )
 
 pub drop-first-spec : {M : Type 1} → statement M
@@ -267,7 +379,7 @@ drop-first-spec =
     held-requires
     same-length
     returns
-    sub-find
+    sub-head
     find-requires
     past-end-requires
     same-length-2
@@ -276,13 +388,17 @@ drop-first-spec =
     same-length-3
     returns-3
     wanted-requires
-    cast-wanted
-    piece-room-requires
+    move-to-requires
+    done-requires-2
     same-length-4
     returns-4
-    settle-requires
-    add-turn
-    turn-requires
-    done-requires-2
+    room-in-front-requires
     same-length-5
-    returns-5)
+    returns-5
+    give-back-requires
+    make-requires
+    add-set-slip
+    set-slip-requires
+    done-requires-3
+    same-length-6
+    returns-6)

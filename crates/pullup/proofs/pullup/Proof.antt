@@ -1,7 +1,8 @@
 -- `pullup::pullup` meets its contract. Assumes nothing.
 use mathlib.Core.Path.{_≡_, sym, ap, subst, _∙_}
 use mathlib.Core.Logic.{_≢_}
-use Prim.Native.Nat.{ℕ, _+_, _-_, _≤_, _<_}
+use mathlib.Core.List.{List}
+use Prim.Native.Nat.{ℕ, suc, _+_, _-_, _≤_, _<_}
 use native.Mathlib.Omega.{arith}
 use lib.ListN.{length}
 use lib.Dec.{ltb, leb}
@@ -12,18 +13,22 @@ use Rattle.kinds.proofs.Laws.{entry-none, entry-some}
 use Rattle.rules.specs.Basics.{Is}
 use Rattle.rules.specs.Tables.{Tables, slipTotal, pieceTotal, bufferTotal}
 use Rattle.rules.specs.Bytes.{decode}
-use Rattle.rules.specs.Chain.{spans, firstLength, lengthOf}
-use Rattle.rules.specs.Room.{isFree, isUnheld, freePieces, freeBuffers}
+use Rattle.rules.specs.Chain.{spans, firstLength, lengthOf, ownPieces, ownOf}
+use Rattle.rules.specs.Room.{isFreeWith, isUnheld, freePieces, freeBuffers}
 use Rattle.rules.specs.Build.{Plan}
 use Rattle.rules.specs.Rule.{unnamed}
-use Rattle.rules.specs.Drop.{dropped}
+use Rattle.rules.specs.Drop.{dropped, dropBack}
 use Rattle.rules.proofs.Logic.{not-less}
+use Rattle.rules.proofs.Moves.{SoundNow}
+use Rattle.rules.proofs.Audit.{tables-now}
+use Rattle.rules.proofs.Drop.{drop-count}
+use Rattle.rules.proofs.Back.{pieces-most, pullup-room}
 use Rattle.tables.proofs.Laws.{whole, total-buffers}
 use Rattle.chain.specs.Enter.{Enters}
 use Rattle.chain.specs.Length.{stretchesFrom}
 use Rattle.chain.specs.Find.{pastEnd}
 use Rattle.chain.proofs.Spots.{past-range}
-use Rattle.room.proofs.Free.{first-lies, no-buffer, buffer-first, lowest-some}
+use Rattle.room.proofs.Free.{first-lies, no-buffer, buffer-first}
 use Rattle.rest.proofs.Dropped.{dropped-at}
 use Rattle.pullup.specs.Pull.{Pullable}
 use Rattle.pullup.proofs.Laws.{pullup-slip, pullup-long, pullup-range, pullup-nothing, pullup-pieces, pullup-buffers, pullup-done}
@@ -182,15 +187,6 @@ scattered c =
 wanted-requires : tie.Need-wanted-requires
 wanted-requires c κs = search needs
 
-cast-wanted : tie.Need-cast-wanted
-cast-wanted c = search needs
-
-add-wanted : tie.Need-add-wanted
-add-wanted c = search needs
-
-piece-room-requires : tie.Need-piece-room-requires
-piece-room-requires c κs = search needs
-
 module _ (w : tie.After-wanted) where
   abbrev looked : tie.After-in-first
   looked = w .before .before
@@ -198,14 +194,63 @@ module _ (w : tie.After-wanted) where
   abbrev first : tie.Else1
   first = origin looked
 
-  -- the new pieces that drop takes
-  wants : w .wanted .result ≡ length (dropped (tables first) (slip first) (start first .args .n) .more)
+  sound-here : SoundNow (tables first)
+  sound-here = tables-now (tables first) (start first .pre .0 .sound)
+
+  -- the new pieces that drop takes, and what it gives back
+  abbrev more : ℕ
+  more = length (dropped (tables first) (slip first) (start first .args .n) .more)
+
+  abbrev back : List ℕ
+  back = dropBack (tables first) (slip first) (start first .args .n)
+
+  wants : w .wanted .result ≡ more
   wants =
       w .wanted .ensures (tables first) ∙ ap (λ (p : Plan). length (p .more)) (sym (dropped-at (tables first) (slip first) (start first .args .n) (entry first .link-is) (there looked .find .ensures)))
 
--- whether there is a piece more
-enough-pieces : (p : tie.After-piece-room) → let w = p .before .before in p .piece-room .result .enough ≡ leb (w .wanted .result + 1) (length (freePieces (tables (first w))))
-enough-pieces p = p .piece-room .ensures .1
+  -- one at the most
+  wants-one : w .wanted .result ≤ 1
+  wants-one =
+      let T = tables first in
+      omega (arith, wants, drop-count T (slip first) (start first .args .n) sound-here, pieces-most T (slip first) (start first .args .n))
+
+add-wanted : tie.Need-add-wanted
+add-wanted c = omega (arith, wants-one c)
+
+room-in-front-requires : tie.Need-room-in-front-requires
+room-in-front-requires c κs = let w = c .before in (start (first w) .pre .0, entry (first w) .good, omega (arith, wants-one w))
+
+-- ---- room with what is given back
+
+module _ (r : tie.After-room-in-front) where
+  abbrev asked : tie.After-wanted
+  asked = r .before .before
+
+  abbrev source : tie.Else1
+  source = first asked
+
+  -- whether there is a piece more, with all own pieces, and so with those given back
+  own-is : r .room-in-front .result .enough ≡ leb (suc (more asked)) (length (ownOf (tables source) (slip source)) + length (freePieces (tables source)))
+  own-is =
+      let T = tables source in
+      let e : asked .wanted .result + 1 ≡ suc (more asked) = omega (arith, wants asked) in
+      r .room-in-front .ensures .there ∙ (λ i. leb (e i) (length (ownPieces (pieceTotal T) T (entry source .link-is i)) + length (freePieces T)))
+
+  room-is : r .room-in-front .result .enough ≡ leb (suc (more asked)) (length (back asked) + length (freePieces (tables source)))
+  room-is =
+      let T = tables source in
+      own-is ∙ sym (pullup-room T (slip source) (start source .args .n) (sound-here asked) (scattered (asked .before)) (length (freePieces T)))
+
+  -- none below the number found, or between it and the one beyond, is free once the own pieces are given back
+  none-below : (d : ℕ) → d < r .room-in-front .result .from .0 → Is (isFreeWith (tables source) (ownOf (tables source) (slip source)) d) → ⊥
+  none-below d l t =
+      let T = tables source in
+      r .room-in-front .ensures .none-below d l (subst (λ n. Is (isFreeWith T (ownPieces (pieceTotal T) T n) d)) (sym (entry source .link-is)) t)
+
+  none-between : (d : ℕ) → r .room-in-front .result .from .0 < d → d < r .room-in-front .result .beyond .0 → Is (isFreeWith (tables source) (ownOf (tables source) (slip source)) d) → ⊥
+  none-between d l m t =
+      let T = tables source in
+      r .room-in-front .ensures .none-between d l m (subst (λ n. Is (isFreeWith T (ownPieces (pieceTotal T) T n) d)) (sym (entry source .link-is)) t)
 
 same-length-5 : tie.Need-same-length-5
 same-length-5 c = search needs
@@ -213,28 +258,33 @@ same-length-5 c = search needs
 returns-5 : tie.Need-returns-5
 returns-5 c =
     let h = c .before .before in
-    let w = h .before .before in
+    let w = asked h in
     let k = looked w in
     let e = first w in
     let a = start e .args in
-    let few = leb-false _ (length (freePieces (tables e))) (sym (enough-pieces h) ∙ not-true _ (c .if5 .taken)) in
-    (pullup-pieces (a .pool .now) (a .storage .now) (slip e) (a .n) (named-here e) (fits-here (fitting (there k))) (in-range (ranged k)) (scattered (w .before)) (omega (arith, few, wants w)), tt)
+    let few = leb-false (suc (more w)) (length (back w) + length (freePieces (tables e))) (sym (room-is h) ∙ not-true _ (c .if5 .taken)) in
+    (pullup-pieces (a .pool .now) (a .storage .now) (slip e) (a .n) (named-here e) (fits-here (fitting (there k))) (in-range (ranged k)) (scattered (w .before)) (omega (arith, few)), tt)
 
 module _ (c : tie.Else5) where
-  abbrev asked : tie.After-wanted
-  asked = c .before .before .before .before
+  abbrev roomy : tie.After-room-in-front
+  roomy = c .before .before
 
-  abbrev source : tie.Else1
-  source = first asked
+  abbrev left : tie.Else1
+  left = source roomy
 
   -- there is a piece more than drop takes
-  enough : length (dropped (tables source) (slip source) (start source .args .n) .more) < length (freePieces (tables source))
+  enough : more (asked roomy) < length (back (asked roomy)) + length (freePieces (tables left))
   enough =
-      let most = leb-true _ (length (freePieces (tables source))) (sym (enough-pieces (c .before .before)) ∙ not-false _ (c .if5 .left)) in
-      omega (arith, most, wants asked)
+      let most = leb-true (suc (more (asked roomy))) (length (back (asked roomy)) + length (freePieces (tables left))) (sym (room-is roomy) ∙ not-false _ (c .if5 .left)) in
+      omega (arith, most)
+
+  own-enough : more (asked roomy) < length (ownOf (tables left) (slip left)) + length (freePieces (tables left))
+  own-enough =
+      let most = leb-true (suc (more (asked roomy))) (length (ownOf (tables left) (slip left)) + length (freePieces (tables left))) (sym (own-is roomy) ∙ not-false _ (c .if5 .left)) in
+      omega (arith, most)
 
 next-free-buffer-requires : tie.Need-next-free-buffer-requires
-next-free-buffer-requires c κs = start (source (c .before .before)) .pre .0 .shaped
+next-free-buffer-requires c κs = start (left (c .before .before .before)) .pre .0 .shaped
 
 same-length-6 : tie.Need-same-length-6
 same-length-6 c = search needs
@@ -242,10 +292,10 @@ same-length-6 c = search needs
 returns-6 : tie.Need-returns-6
 returns-6 c =
     let u = c .before .before .before in
-    let r = u .before .before .before in
-    let w = asked r in
+    let r = u .before .before .before .before in
+    let w = asked (roomy r) in
     let k = looked w in
-    let e = source r in
+    let e = left r in
     let a = start e .args in
     let all : u .next-free-buffer .result .0 ≡ bufferTotal (tables e) = omega (arith, c .if6 .taken, total-buffers (whole (start e .pre .0 .shaped))) in
     let none = ap length (no-buffer (tables e) (u .next-free-buffer .ensures) all) in
@@ -257,11 +307,11 @@ module _ (c : tie.Else6) where
   abbrev lowest : tie.After-next-free-buffer
   lowest = c .before .before .before
 
-  abbrev roomy : tie.Else5
-  roomy = lowest .before .before .before
+  abbrev room : tie.Else5
+  room = lowest .before .before .before .before
 
   abbrev base : tie.Else1
-  base = source roomy
+  base = left room
 
   -- the lowest free buffer is one of the pool's
   buffer-below : lowest .next-free-buffer .result .0 < bufferTotal (tables base)
@@ -273,11 +323,11 @@ module _ (c : tie.Else6) where
   buffer-there = omega (arith, ap length (buffer-first (tables base) (lowest .next-free-buffer .ensures) buffer-below))
 
   -- so the bytes can go there
-  pullable : let f = there (looked (asked roomy)) in
+  pullable : let f = there (looked (asked (roomy room))) in
       Pullable (tables base) (slip base) (start base .args .n) (base .before .before .before .enter .result - 1) (f .find .result)
-      (roomy .before .before .piece-room .result .lowest .0) (lowest .next-free-buffer .result .0)
+      (roomy room .room-in-front .result .from .0) (roomy room .room-in-front .result .beyond .0) (lowest .next-free-buffer .result .0)
   pullable =
-      let w = asked roomy in
+      let w = asked (roomy room) in
       let f = there (looked w) in
       record {
         named = inside base;
@@ -286,10 +336,11 @@ module _ (c : tie.Else6) where
         fits = fits-here (fitting f);
         enough = not-less _ _ (in-range (ranged (looked w)));
         scattered = scattered (w .before);
-        lowest-piece = roomy .before .before .piece-room .ensures .0 ∙ lowest-some (isFree (tables base)) (w .wanted .result + 1) (pieceTotal (tables base)) (λ z. omega arith);
+        none-below = none-below (roomy room);
+        none-between = none-between (roomy room);
         lowest = lowest .next-free-buffer .ensures;
         inside = buffer-below;
-        room = enough roomy;
+        room = own-enough room;
       }
 
 pull-requires : tie.Need-pull-requires
@@ -311,11 +362,11 @@ returns-7 c =
     let o = c .before .before .before .before in
     let m = o .before .before in
     let r = m .before .before .before in
-    let w = asked (roomy r) in
+    let w = asked (roomy (room r)) in
     let k = looked w in
     let e = base r in
     let a = start e .args in (
-      pullup-done (a .pool .now) (a .storage .now) (slip e) (a .n) (named-here e) (fits-here (fitting (there k))) (in-range (ranged k)) (scattered (w .before)) (enough (roomy r)) (buffer-there r)
+      pullup-done (a .pool .now) (a .storage .now) (slip e) (a .n) (named-here e) (fits-here (fitting (there k))) (in-range (ranged k)) (scattered (w .before)) (enough (room r)) (buffer-there r)
           (c .done2 .ensures) (λ i. omega (arith, o .slice-known3 .given i)) (m .pull .ensures),
       rw (c .done2 .ensures),
     )
@@ -342,9 +393,8 @@ pullup-spec =
     same-length-4
     returns-4
     wanted-requires
-    cast-wanted
     add-wanted
-    piece-room-requires
+    room-in-front-requires
     same-length-5
     returns-5
     next-free-buffer-requires

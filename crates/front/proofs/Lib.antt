@@ -1,0 +1,2 @@
+-- The laws of front.
+pub mod Front

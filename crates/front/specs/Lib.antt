@@ -1,0 +1,2 @@
+-- What the contracts of front cite.
+pub mod Front
