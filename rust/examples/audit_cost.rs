@@ -15,12 +15,12 @@ fn put16(p: &mut [u8], at: usize, v: usize) {
 
 /// A pool in which every piece is in use: S chains of about P / S pieces, spread over the B buffers.
 fn full_pool(b: usize, p: usize, s: usize) -> (Vec<u8>, Vec<u8>) {
-    let mut pool = vec![0u8; 11 + 2 * s + 10 * p + 2 * b];
+    let mut pool = vec![0u8; 11 + 4 * s + 10 * p + 2 * b];
     pool[..3].copy_from_slice(b"SLP");
-    for (at, v) in [(3, 1), (5, b), (7, p), (9, s)] {
+    for (at, v) in [(3, 2), (5, b), (7, p), (9, s)] {
         put16(&mut pool, at, v);
     }
-    let pieces = 11 + 2 * s;
+    let pieces = 11 + 4 * s;
     let counts = pieces + 10 * p;
     for d in 0..p {
         let at = pieces + 10 * d;
@@ -36,7 +36,7 @@ fn full_pool(b: usize, p: usize, s: usize) -> (Vec<u8>, Vec<u8>) {
     for slip in 0..s {
         put16(
             &mut pool,
-            11 + 2 * slip,
+            11 + 4 * slip,
             if slip < p { slip + 2 } else { 1 },
         );
     }

@@ -15,7 +15,7 @@ use std::env;
 use std::hint::black_box;
 use std::sync::OnceLock;
 
-use fulcrumnest::{Answer, Gathered, Shape, Shown, Stretch};
+use fulcrumnest::{Answer, Gathered, Shape, Shown, Slip, Stretch};
 
 /// Buffers, pieces and slips of every case's pool: FULCRUMNEST_SHAPE, three numbers, or the most.
 fn shape() -> [usize; 3] {
@@ -48,6 +48,13 @@ fn slips() -> usize {
 /// The bytes of most pieces: two lie on a buffer.
 const PIECE: usize = 256;
 
+/// The serial of every slip in every case's pool.
+const SERIAL: u16 = 7;
+
+fn slip(number: u16) -> Slip {
+    Slip::new(number, SERIAL)
+}
+
 /// All that a call is lent, and what it answers.
 #[derive(Clone, Debug, PartialEq, Eq)]
 struct Lent {
@@ -57,8 +64,8 @@ struct Lent {
     output: Vec<u8>,
     list: Vec<u32>,
     records: Vec<Stretch>,
-    slip: u16,
-    other: u16,
+    slip: Slip,
+    other: Slip,
     offset: u32,
     n: u32,
     answer: Answer,
@@ -76,8 +83,8 @@ impl Lent {
             output: Vec::new(),
             list: Vec::new(),
             records: Vec::new(),
-            slip: 0,
-            other: 0,
+            slip: slip(0),
+            other: slip(0),
             offset: 0,
             n: 0,
             answer: Answer { code: 0, number: 0 },
@@ -111,6 +118,7 @@ impl Lent {
     }
 
     fn other(self, other: u16) -> Lent {
+        let other = slip(other);
         Lent { other, ..self }
     }
 
@@ -168,7 +176,7 @@ fn put16(pool: &mut [u8], at: usize, v: usize) {
 
 /// The bytes of a slip, of a piece and of a buffer's count.
 fn slip_at(s: usize) -> usize {
-    11 + 2 * s
+    11 + 4 * s
 }
 
 fn piece_at(d: usize) -> usize {
@@ -183,8 +191,11 @@ impl Builder {
     fn new(room: Room) -> Builder {
         let mut pool = vec![0; count_at(buffers())];
         pool[..3].copy_from_slice(b"SLP");
-        for (at, v) in [(3, 1), (5, buffers()), (7, pieces()), (9, slips())] {
+        for (at, v) in [(3, 2), (5, buffers()), (7, pieces()), (9, slips())] {
             put16(&mut pool, at, v);
+        }
+        for s in 0..slips() {
+            put16(&mut pool, slip_at(s) + 2, SERIAL as usize);
         }
         Builder {
             pool,
@@ -194,9 +205,9 @@ impl Builder {
         }
     }
 
-    /// The next slip takes this entry.
-    fn slip(mut self, entry: usize) -> Builder {
-        put16(&mut self.pool, slip_at(self.slips), entry);
+    /// The next slip takes this state.
+    fn slip(mut self, state: usize) -> Builder {
+        put16(&mut self.pool, slip_at(self.slips), state);
         self.slips += 1;
         self
     }
@@ -260,7 +271,10 @@ fn shared_last(count: usize, length: usize, from: usize, room: Room) -> Lent {
     let before = pieces() - room.pieces - count;
     let built = Builder::new(room).chain(before, PIECE).chain(count, length);
     let lent = built.slip(before + from + 2).full();
-    Lent { slip: 1, ..lent }
+    Lent {
+        slip: slip(1),
+        ..lent
+    }
 }
 
 /// One way to do something with what is lent.

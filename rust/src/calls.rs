@@ -2,9 +2,11 @@
 //! code and a number. [`Pool`](crate::Pool) and [`gather`](crate::gather) are what stands on them.
 //!
 //! Any bytes may be lent, of any length: the library judges them itself. An empty slice goes over
-//! with a dangling pointer, which is never read.
+//! with a dangling pointer, which is never read. A slip is named by number and serial; the number
+//! that is answered for one is taken apart by [`Slip::from_answer`].
 
 use crate::ffi::{self, Answer, Gathered, Shown, Stretch};
+use crate::slip::Slip;
 
 // In every call below the pointers and lengths are those of live slices that stand apart from each
 // other, because Rust lends no byte twice while one loan may write it; that is all the calls ask.
@@ -43,125 +45,135 @@ pub fn put(pool: &mut [u8], storage: &mut [u8], data: &[u8]) -> Answer {
     }
 }
 
-/// Releases the head; the slip is vacant.
-pub fn free(pool: &mut [u8], storage: &mut [u8], slip: u16) -> Answer {
+/// Releases the head; the slip is vacant, and its serial one more.
+pub fn free(pool: &mut [u8], storage: &mut [u8], slip: Slip) -> Answer {
     unsafe {
         ffi::slp_free(
             pool.as_mut_ptr(),
             pool.len(),
             storage.as_mut_ptr(),
             storage.len(),
-            slip,
+            slip.number,
+            slip.serial,
         )
     }
 }
 
 /// A new slip on one new piece equal to the head; answers the new slip.
-pub fn dup(pool: &mut [u8], storage: &[u8], slip: u16) -> Answer {
+pub fn dup(pool: &mut [u8], storage: &[u8], slip: Slip) -> Answer {
     unsafe {
         ffi::slp_dup(
             pool.as_mut_ptr(),
             pool.len(),
             storage.as_ptr(),
             storage.len(),
-            slip,
+            slip.number,
+            slip.serial,
         )
     }
 }
 
 /// A new slip on one new piece for each piece that overlaps the range; answers the new slip.
-pub fn cut(pool: &mut [u8], storage: &[u8], slip: u16, offset: u32, length: u32) -> Answer {
+pub fn cut(pool: &mut [u8], storage: &[u8], slip: Slip, offset: u32, length: u32) -> Answer {
     unsafe {
         ffi::slp_cut(
             pool.as_mut_ptr(),
             pool.len(),
             storage.as_ptr(),
             storage.len(),
-            slip,
+            slip.number,
+            slip.serial,
             offset,
             length,
         )
     }
 }
 
-/// Slip a reads as a then b; slip b is vacant.
-pub fn append(pool: &mut [u8], storage: &mut [u8], a: u16, b: u16) -> Answer {
+/// Slip a reads as a then b; slip b is vacant, and its serial one more.
+pub fn append(pool: &mut [u8], storage: &mut [u8], a: Slip, b: Slip) -> Answer {
     unsafe {
         ffi::slp_append(
             pool.as_mut_ptr(),
             pool.len(),
             storage.as_mut_ptr(),
             storage.len(),
-            a,
-            b,
+            a.number,
+            a.serial,
+            b.number,
+            b.serial,
         )
     }
 }
 
 /// The first n bytes go.
-pub fn drop(pool: &mut [u8], storage: &mut [u8], slip: u16, n: u32) -> Answer {
+pub fn drop(pool: &mut [u8], storage: &mut [u8], slip: Slip, n: u32) -> Answer {
     unsafe {
         ffi::slp_drop(
             pool.as_mut_ptr(),
             pool.len(),
             storage.as_mut_ptr(),
             storage.len(),
-            slip,
+            slip.number,
+            slip.serial,
             n,
         )
     }
 }
 
 /// The first n bytes stay.
-pub fn keep(pool: &mut [u8], storage: &mut [u8], slip: u16, n: u32) -> Answer {
+pub fn keep(pool: &mut [u8], storage: &mut [u8], slip: Slip, n: u32) -> Answer {
     unsafe {
         ffi::slp_keep(
             pool.as_mut_ptr(),
             pool.len(),
             storage.as_mut_ptr(),
             storage.len(),
-            slip,
+            slip.number,
+            slip.serial,
             n,
         )
     }
 }
 
 /// The first n bytes come to lie in the first piece.
-pub fn pullup(pool: &mut [u8], storage: &mut [u8], slip: u16, n: u32) -> Answer {
+pub fn pullup(pool: &mut [u8], storage: &mut [u8], slip: Slip, n: u32) -> Answer {
     unsafe {
         ffi::slp_pullup(
             pool.as_mut_ptr(),
             pool.len(),
             storage.as_mut_ptr(),
             storage.len(),
-            slip,
+            slip.number,
+            slip.serial,
             n,
         )
     }
 }
 
 /// The chain's bytes are put afresh under the same slip.
-pub fn pack(pool: &mut [u8], storage: &mut [u8], slip: u16) -> Answer {
+pub fn pack(pool: &mut [u8], storage: &mut [u8], slip: Slip) -> Answer {
     unsafe {
         ffi::slp_pack(
             pool.as_mut_ptr(),
             pool.len(),
             storage.as_mut_ptr(),
             storage.len(),
-            slip,
+            slip.number,
+            slip.serial,
         )
     }
 }
 
 /// Answers the chain's length.
-pub fn length(pool: &[u8], storage: &[u8], slip: u16) -> Answer {
+pub fn length(pool: &[u8], storage: &[u8], slip: Slip) -> Answer {
     unsafe {
         ffi::slp_length(
             pool.as_ptr(),
             pool.len(),
             storage.as_ptr(),
             storage.len(),
-            slip,
+            slip.number,
+            slip.serial,
         )
     }
 }
@@ -170,7 +182,7 @@ pub fn length(pool: &[u8], storage: &[u8], slip: u16) -> Answer {
 pub fn read(
     pool: &[u8],
     storage: &[u8],
-    slip: u16,
+    slip: Slip,
     offset: u32,
     length: u32,
     output: &mut [u8],
@@ -181,7 +193,8 @@ pub fn read(
             pool.len(),
             storage.as_ptr(),
             storage.len(),
-            slip,
+            slip.number,
+            slip.serial,
             offset,
             length,
             output.as_mut_ptr(),
@@ -191,14 +204,15 @@ pub fn read(
 }
 
 /// The first n bytes in one stretch, in storage where they lie so, else copied to the scratch.
-pub fn show(pool: &[u8], storage: &[u8], slip: u16, n: u32, scratch: &mut [u8]) -> Shown {
+pub fn show(pool: &[u8], storage: &[u8], slip: Slip, n: u32, scratch: &mut [u8]) -> Shown {
     unsafe {
         ffi::slp_show(
             pool.as_ptr(),
             pool.len(),
             storage.as_ptr(),
             storage.len(),
-            slip,
+            slip.number,
+            slip.serial,
             n,
             scratch.as_mut_ptr(),
             scratch.len(),
@@ -208,14 +222,15 @@ pub fn show(pool: &[u8], storage: &[u8], slip: u16, n: u32, scratch: &mut [u8]) 
 
 /// Writes one record of two numbers for each piece to the front of the list, position in storage
 /// and length, and answers how many records they are.
-pub fn list(pool: &[u8], storage: &[u8], slip: u16, list: &mut [u32]) -> Answer {
+pub fn list(pool: &[u8], storage: &[u8], slip: Slip, list: &mut [u32]) -> Answer {
     unsafe {
         ffi::slp_list(
             pool.as_ptr(),
             pool.len(),
             storage.as_ptr(),
             storage.len(),
-            slip,
+            slip.number,
+            slip.serial,
             list.as_mut_ptr(),
             list.len(),
         )
@@ -237,14 +252,15 @@ pub fn gather(storage: &[u8], list: &[u32], output: &mut [u8]) -> Gathered {
 }
 
 /// As [`list`], into a list of records.
-pub fn stretches(pool: &[u8], storage: &[u8], slip: u16, list: &mut [Stretch]) -> Answer {
+pub fn stretches(pool: &[u8], storage: &[u8], slip: Slip, list: &mut [Stretch]) -> Answer {
     unsafe {
         ffi::slp_stretches(
             pool.as_ptr(),
             pool.len(),
             storage.as_ptr(),
             storage.len(),
-            slip,
+            slip.number,
+            slip.serial,
             list.as_mut_ptr(),
             list.len(),
         )

@@ -4,7 +4,7 @@ use std::error::Error;
 use std::fmt;
 
 use crate::shape::{storage_length, Shape, BUFFER_LENGTH};
-use crate::tables::{Link, State, Tables};
+use crate::tables::{Link, State, Tables, VERSION};
 
 /// The first thing found that keeps a pool from being sound. Print it to read it.
 ///
@@ -40,7 +40,7 @@ impl fmt::Display for Fault {
         match self.0 {
             Header(length) => write!(f, "the pool has {length} bytes, its header alone 11"),
             Mark => write!(f, "the pool doesn't begin with the mark SLP"),
-            Version(version) => write!(f, "the version is {version}, not 1"),
+            Version(version) => write!(f, "the version is {version}, not {VERSION}"),
             Counts(shape) => write!(f, "a count is outside its range: {}", Told(shape)),
             PoolLength(length, asked) => {
                 write!(f, "the pool has {length} bytes, its counts ask {asked}")
@@ -123,7 +123,7 @@ fn pieces(tables: &Tables<'_>) -> Result<(), Fault> {
     Ok(())
 }
 
-/// Each slip is vacant, or empty, or heads a piece in use.
+/// Each slip is vacant, or empty, or heads a piece in use; its serial may be any.
 fn slips(tables: &Tables<'_>) -> Result<(), Fault> {
     for slip in 0..tables.shape.slips {
         let State::Heads(head) = tables.slip(slip) else {

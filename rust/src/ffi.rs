@@ -13,7 +13,8 @@
 pub struct Answer {
     /// 0, or the code of a [`Refusal`](crate::Refusal).
     pub code: u16,
-    /// What the call answers: a slip, a count of bytes or of records, or 0.
+    /// What the call answers: a slip ([`Slip::from_answer`](crate::Slip::from_answer)), a count of
+    /// bytes or of records, or 0.
     pub number: u32,
 }
 
@@ -94,6 +95,7 @@ extern "C" {
         storage: *mut u8,
         storage_length: usize,
         slip: u16,
+        serial: u16,
     ) -> Answer;
 
     /// [`calls::dup`](crate::calls::dup)
@@ -103,6 +105,7 @@ extern "C" {
         storage: *const u8,
         storage_length: usize,
         slip: u16,
+        serial: u16,
     ) -> Answer;
 
     /// [`calls::cut`](crate::calls::cut)
@@ -112,6 +115,7 @@ extern "C" {
         storage: *const u8,
         storage_length: usize,
         slip: u16,
+        serial: u16,
         offset: u32,
         length: u32,
     ) -> Answer;
@@ -123,7 +127,9 @@ extern "C" {
         storage: *mut u8,
         storage_length: usize,
         a: u16,
+        a_serial: u16,
         b: u16,
+        b_serial: u16,
     ) -> Answer;
 
     /// [`calls::drop`](crate::calls::drop)
@@ -133,6 +139,7 @@ extern "C" {
         storage: *mut u8,
         storage_length: usize,
         slip: u16,
+        serial: u16,
         n: u32,
     ) -> Answer;
 
@@ -143,6 +150,7 @@ extern "C" {
         storage: *mut u8,
         storage_length: usize,
         slip: u16,
+        serial: u16,
         n: u32,
     ) -> Answer;
 
@@ -153,6 +161,7 @@ extern "C" {
         storage: *mut u8,
         storage_length: usize,
         slip: u16,
+        serial: u16,
         n: u32,
     ) -> Answer;
 
@@ -163,6 +172,7 @@ extern "C" {
         storage: *mut u8,
         storage_length: usize,
         slip: u16,
+        serial: u16,
     ) -> Answer;
 
     /// [`calls::length`](crate::calls::length)
@@ -172,6 +182,7 @@ extern "C" {
         storage: *const u8,
         storage_length: usize,
         slip: u16,
+        serial: u16,
     ) -> Answer;
 
     /// [`calls::read`](crate::calls::read)
@@ -181,6 +192,7 @@ extern "C" {
         storage: *const u8,
         storage_length: usize,
         slip: u16,
+        serial: u16,
         offset: u32,
         length: u32,
         output: *mut u8,
@@ -194,6 +206,7 @@ extern "C" {
         storage: *const u8,
         storage_length: usize,
         slip: u16,
+        serial: u16,
         n: u32,
         scratch: *mut u8,
         scratch_length: usize,
@@ -206,6 +219,7 @@ extern "C" {
         storage: *const u8,
         storage_length: usize,
         slip: u16,
+        serial: u16,
         list: *mut u32,
         numbers: usize,
     ) -> Answer;
@@ -227,6 +241,7 @@ extern "C" {
         storage: *const u8,
         storage_length: usize,
         slip: u16,
+        serial: u16,
         list: *mut Stretch,
         records: usize,
     ) -> Answer;

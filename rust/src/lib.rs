@@ -2,10 +2,11 @@
 //! again while a message still lies in it.
 //!
 //! The caller lends two slices: a pool, which holds the tables, and storage, which holds the
-//! buffers. [`Pool`] makes the calls on them; a chain is known by its [`Slip`], and a call that
-//! can't be done says why ([`Refusal`]) and changes nothing. A card that reads storage itself is
-//! given a chain's wire list ([`Pool::list`], [`Pool::stretches`]), and [`gather`] reads one.
-//! [`Picture`] draws what a pool holds.
+//! buffers. [`Pool`] makes the calls on them; a chain is known by its [`Slip`], whose serial tells
+//! it from those that had the same number before, and a call that can't be done says why
+//! ([`Refusal`]) and changes nothing. A card that reads storage itself is given a chain's wire list
+//! ([`Pool::list`], [`Pool::stretches`]), and [`gather`] reads one. [`Picture`] draws what a pool
+//! holds.
 //!
 //! ```
 //! use fulcrumnest::{pool_length, storage_length, Pool, Refusal, Shape};
@@ -18,9 +19,11 @@
 //! let message = pool.put(b"pay 00120 to account 7")?;
 //! let amount = pool.cut(message, 4, 5)?;
 //! pool.free(message)?;
+//! let other = pool.put(b"another message under the same number")?;
 //!
 //! let mut scratch = [0; 512];
 //! assert_eq!(pool.show(amount, 5, &mut scratch)?, b"00120");
+//! assert_eq!(other.number, message.number);
 //! assert_eq!(pool.length(message), Err(Refusal::Slip));
 //! println!("{}", pool.picture());
 //! # Ok::<(), Refusal>(())
@@ -42,6 +45,7 @@ mod picture;
 mod pool;
 mod refusal;
 mod shape;
+mod slip;
 mod svg;
 mod tables;
 mod wire;
@@ -49,8 +53,9 @@ mod wire;
 pub use fault::Fault;
 pub use ffi::{Answer, Gathered, Shown, Stretch};
 pub use picture::Picture;
-pub use pool::{Pool, Slip};
+pub use pool::Pool;
 pub use refusal::Refusal;
 pub use shape::{pool_length, storage_length, Shape, BUFFER_LENGTH};
+pub use slip::{NotASlip, Slip};
 pub use svg::Svg;
 pub use wire::gather;

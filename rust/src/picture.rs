@@ -13,6 +13,9 @@ use crate::tables::{Link, State, Tables};
 /// it where more than one slip or piece holds it: such a piece stands in several lines, and is
 /// shared.
 ///
+/// A slip is written as a [`Slip`](crate::Slip) is, so with its serial where that is not 0; a vacant
+/// one as it is given next. One that is spent is not given again, and its line says so.
+///
 /// Any bytes can be drawn. A torn pool is drawn as far as it goes, with a last line that says what
 /// is wrong; no chain is followed for more steps than there are pieces.
 ///
@@ -20,7 +23,7 @@ use crate::tables::{Link, State, Tables};
 /// use fulcrumnest::{Pool, Shape};
 ///
 /// let shape = Shape { buffers: 4, pieces: 6, slips: 4 };
-/// let (mut pool, mut storage) = ([0; 87], [0; 2048]);
+/// let (mut pool, mut storage) = ([0; 95], [0; 2048]);
 /// let mut pool = Pool::open(&mut pool, &mut storage, shape)?;
 /// let slip = pool.put(&[1; 600])?;
 /// pool.cut(slip, 500, 50)?;
@@ -49,7 +52,7 @@ impl<'a> Picture<'a> {
     /// use fulcrumnest::Picture;
     ///
     /// let picture = Picture::new(b"SLP and more", &[]);
-    /// assert_eq!(picture.to_string(), "torn     the version is 24864, not 1");
+    /// assert_eq!(picture.to_string(), "torn     the version is 24864, not 2");
     /// ```
     pub fn new(pool: &'a [u8], storage: &'a [u8]) -> Picture<'a> {
         Picture { pool, storage }
@@ -61,11 +64,11 @@ impl<'a> Picture<'a> {
     /// use fulcrumnest::{Picture, Pool, Shape};
     ///
     /// let shape = Shape { buffers: 4, pieces: 6, slips: 4 };
-    /// let (mut pool, mut storage) = ([0; 87], [0; 2048]);
+    /// let (mut pool, mut storage) = ([0; 95], [0; 2048]);
     /// Pool::open(&mut pool, &mut storage, shape)?;
     /// assert_eq!(Picture::new(&pool, &storage).fault(), None);
     ///
-    /// pool[79] = 5;
+    /// pool[87] = 5;
     /// let fault = Picture::new(&pool, &storage).fault().unwrap();
     /// assert_eq!(fault.to_string(), "buffer 0 has count 5, pieces 0");
     /// # Ok::<(), fulcrumnest::Refusal>(())
@@ -80,7 +83,7 @@ impl<'a> Picture<'a> {
     /// use fulcrumnest::{Pool, Shape};
     ///
     /// let shape = Shape { buffers: 4, pieces: 6, slips: 4 };
-    /// let (mut pool, mut storage) = ([0; 87], [0; 2048]);
+    /// let (mut pool, mut storage) = ([0; 95], [0; 2048]);
     /// let pool = Pool::open(&mut pool, &mut storage, shape)?;
     /// let text = pool.picture().svg().to_string();
     /// assert!(text.ends_with("</svg>\n"));
@@ -120,6 +123,9 @@ impl fmt::Display for Picture<'_> {
     }
 }
 
+/// What is said of a spent slip.
+pub(crate) const SPENT: &str = "vacant and spent: not given again until an open";
+
 /// How many decimal digits a number has.
 fn digits(n: u64) -> usize {
     n.to_string().len()
@@ -134,16 +140,18 @@ fn length(chain: &[Link]) -> u64 {
     chain.iter().map(of).sum()
 }
 
-/// One line a slip, the vacant ones at the end of a large pool in one.
+/// One line a slip, the vacant ones at serial 0 at the end of a large pool in one.
 fn slip_lines(f: &mut fmt::Formatter<'_>, tables: &Tables<'_>) -> fmt::Result {
     let tail = tables.vacant_tail();
     let chains: Vec<Vec<Link>> = (0..tail).map(|s| tables.chain(tables.slip(s))).collect();
     let widest = chains.iter().map(|chain| digits(length(chain))).max();
     let wide = widest.unwrap_or(1);
-    let number = digits(u64::from(tail.saturating_sub(1)));
+    let names: Vec<String> = (0..tail).map(|s| tables.name(s).to_string()).collect();
+    let longest = names.iter().map(String::len).max().unwrap_or(0);
     for (slip, chain) in (0..tail).zip(&chains) {
-        write!(f, "slip {slip:<number$}  ")?;
+        write!(f, "slip {:<longest$}  ", names[slip as usize])?;
         match tables.slip(slip) {
+            State::Vacant if tables.is_spent(slip) => writeln!(f, "{SPENT}")?,
             State::Vacant => writeln!(f, "vacant")?,
             State::Empty => writeln!(f, "{:>wide$} bytes  empty", 0)?,
             State::Heads(_) => writeln!(f, "{:>wide$} bytes  {}", length(chain), Chain(chain))?,

@@ -7,19 +7,7 @@ use crate::ffi::{Answer, Stretch};
 use crate::picture::Picture;
 use crate::refusal::Refusal;
 use crate::shape::Shape;
-
-/// The number of a slip: the caller's one name for a chain.
-///
-/// A freed slip's number is given again, so a caller lets go of it with [`Pool::free`] and, for the
-/// second slip, with [`Pool::append`].
-#[derive(Clone, Copy, Debug, PartialEq, Eq, PartialOrd, Ord, Hash)]
-pub struct Slip(pub u16);
-
-impl fmt::Display for Slip {
-    fn fmt(&self, f: &mut fmt::Formatter<'_>) -> fmt::Result {
-        write!(f, "slip {}", self.0)
-    }
-}
+use crate::slip::Slip;
 
 /// A pool and its storage, both lent for as long as this lives.
 ///
@@ -38,7 +26,7 @@ impl fmt::Display for Slip {
 /// use fulcrumnest::{Pool, Shape};
 ///
 /// let shape = Shape { buffers: 4, pieces: 6, slips: 4 };
-/// let (mut pool, mut storage) = ([0; 87], [0; 2048]);
+/// let (mut pool, mut storage) = ([0; 95], [0; 2048]);
 /// let mut pool = Pool::open(&mut pool, &mut storage, shape)?;
 ///
 /// let message = pool.put(b"to 7: 00120")?;
@@ -64,8 +52,9 @@ impl fmt::Debug for Pool<'_> {
 }
 
 impl<'a> Pool<'a> {
-    /// Writes a fresh pool over whatever the bytes were: every slip vacant, every piece and buffer
-    /// free. Storage is unchanged.
+    /// Writes a fresh pool over whatever the bytes were: every slip vacant at serial 0, every piece
+    /// and buffer free. Storage is unchanged. Slips of the pool before it are to be forgotten, since
+    /// their names are given anew.
     ///
     /// Refused with [`Counts`](Refusal::Counts) where a count is outside its range or a slice has
     /// not exactly the length that [`pool_length`](crate::pool_length) and
@@ -99,13 +88,13 @@ impl<'a> Pool<'a> {
     /// use fulcrumnest::{Pool, Refusal, Shape};
     ///
     /// let shape = Shape { buffers: 4, pieces: 6, slips: 4 };
-    /// let (mut pool, mut storage) = ([0; 87], [0; 2048]);
+    /// let (mut pool, mut storage) = ([0; 95], [0; 2048]);
     /// let slip = Pool::open(&mut pool, &mut storage, shape)?.put(b"kept")?;
     ///
     /// let again = Pool::attach(&mut pool, &mut storage)?;
     /// assert_eq!(again.length(slip)?, 4);
     ///
-    /// pool[86] = 1;
+    /// pool[94] = 1;
     /// let torn = Pool::attach(&mut pool, &mut storage);
     /// assert_eq!(torn.unwrap_err(), Refusal::Torn);
     /// # Ok::<(), Refusal>(())
@@ -149,7 +138,7 @@ impl<'a> Pool<'a> {
     /// ```
     /// # use fulcrumnest::{Pool, Refusal, Shape};
     /// # let shape = Shape { buffers: 4, pieces: 6, slips: 4 };
-    /// # let (mut pool, mut storage) = ([0; 87], [0; 2048]);
+    /// # let (mut pool, mut storage) = ([0; 95], [0; 2048]);
     /// # let mut pool = Pool::open(&mut pool, &mut storage, shape)?;
     /// assert_eq!(pool.put(&[7; 2049]), Err(Refusal::Buffers));
     /// let slip = pool.put(&[7; 2048])?;
@@ -160,22 +149,26 @@ impl<'a> Pool<'a> {
         slip_of(calls::put(self.pool, self.storage, data))
     }
 
-    /// Gives up a chain and with it what nobody else holds; the slip is vacant.
+    /// Gives up a chain and with it what nobody else holds; the slip is vacant and its serial one
+    /// more, so that the old name is refused, also when the slip is given again. Once the serial has
+    /// come to 65,535 the slip is spent and not given again.
     ///
     /// Refused with [`Slip`](Refusal::Slip).
     ///
     /// ```
     /// # use fulcrumnest::{Pool, Refusal, Shape};
     /// # let shape = Shape { buffers: 4, pieces: 6, slips: 4 };
-    /// # let (mut pool, mut storage) = ([0; 87], [0; 2048]);
+    /// # let (mut pool, mut storage) = ([0; 95], [0; 2048]);
     /// # let mut pool = Pool::open(&mut pool, &mut storage, shape)?;
     /// let slip = pool.put(b"short-lived")?;
     /// pool.free(slip)?;
+    /// let other = pool.put(b"another")?;
+    /// assert_eq!((other.number, other.serial), (slip.number, slip.serial + 1));
     /// assert_eq!(pool.free(slip), Err(Refusal::Slip));
     /// # Ok::<(), Refusal>(())
     /// ```
     pub fn free(&mut self, slip: Slip) -> Result<(), Refusal> {
-        done(calls::free(self.pool, self.storage, slip.0))
+        done(calls::free(self.pool, self.storage, slip))
     }
 
     /// A second slip that reads the same, at one new piece and no byte copied.
@@ -186,7 +179,7 @@ impl<'a> Pool<'a> {
     /// ```
     /// # use fulcrumnest::{Pool, Refusal, Shape};
     /// # let shape = Shape { buffers: 4, pieces: 6, slips: 4 };
-    /// # let (mut pool, mut storage) = ([0; 87], [0; 2048]);
+    /// # let (mut pool, mut storage) = ([0; 95], [0; 2048]);
     /// # let mut pool = Pool::open(&mut pool, &mut storage, shape)?;
     /// let slip = pool.put(b"for two")?;
     /// let other = pool.dup(slip)?;
@@ -195,7 +188,7 @@ impl<'a> Pool<'a> {
     /// # Ok::<(), Refusal>(())
     /// ```
     pub fn dup(&mut self, slip: Slip) -> Result<Slip, Refusal> {
-        slip_of(calls::dup(self.pool, self.storage, slip.0))
+        slip_of(calls::dup(self.pool, self.storage, slip))
     }
 
     /// A new slip that reads as `length` bytes of this one from `offset` on: one new piece for each
@@ -207,7 +200,7 @@ impl<'a> Pool<'a> {
     /// ```
     /// # use fulcrumnest::{Pool, Refusal, Shape};
     /// # let shape = Shape { buffers: 4, pieces: 6, slips: 4 };
-    /// # let (mut pool, mut storage) = ([0; 87], [0; 2048]);
+    /// # let (mut pool, mut storage) = ([0; 95], [0; 2048]);
     /// # let mut pool = Pool::open(&mut pool, &mut storage, shape)?;
     /// let slip = pool.put(b"head and body")?;
     /// let body = pool.cut(slip, 9, 4)?;
@@ -217,10 +210,11 @@ impl<'a> Pool<'a> {
     /// # Ok::<(), Refusal>(())
     /// ```
     pub fn cut(&mut self, slip: Slip, offset: u32, length: u32) -> Result<Slip, Refusal> {
-        slip_of(calls::cut(self.pool, self.storage, slip.0, offset, length))
+        slip_of(calls::cut(self.pool, self.storage, slip, offset, length))
     }
 
-    /// Slip `a` reads as `a` and then `b`; `b` is vacant. Other slips read as before.
+    /// Slip `a` reads as `a` and then `b`; `b` is vacant and its serial one more, as after
+    /// [`free`](Pool::free). Other slips read as before.
     ///
     /// Refused with [`Slip`](Refusal::Slip), [`Same`](Refusal::Same) or
     /// [`Pieces`](Refusal::Pieces): pieces of `a` that others hold too are replaced by new ones.
@@ -228,7 +222,7 @@ impl<'a> Pool<'a> {
     /// ```
     /// # use fulcrumnest::{Pool, Refusal, Shape};
     /// # let shape = Shape { buffers: 4, pieces: 6, slips: 4 };
-    /// # let (mut pool, mut storage) = ([0; 87], [0; 2048]);
+    /// # let (mut pool, mut storage) = ([0; 95], [0; 2048]);
     /// # let mut pool = Pool::open(&mut pool, &mut storage, shape)?;
     /// let (head, body) = (pool.put(b"head, ")?, pool.put(b"body")?);
     /// pool.append(head, body)?;
@@ -239,7 +233,7 @@ impl<'a> Pool<'a> {
     /// # Ok::<(), Refusal>(())
     /// ```
     pub fn append(&mut self, a: Slip, b: Slip) -> Result<(), Refusal> {
-        done(calls::append(self.pool, self.storage, a.0, b.0))
+        done(calls::append(self.pool, self.storage, a, b))
     }
 
     /// The first `n` bytes go; of the whole length, an empty chain stays. Other slips read as
@@ -251,7 +245,7 @@ impl<'a> Pool<'a> {
     /// ```
     /// # use fulcrumnest::{Pool, Refusal, Shape};
     /// # let shape = Shape { buffers: 4, pieces: 6, slips: 4 };
-    /// # let (mut pool, mut storage) = ([0; 87], [0; 2048]);
+    /// # let (mut pool, mut storage) = ([0; 95], [0; 2048]);
     /// # let mut pool = Pool::open(&mut pool, &mut storage, shape)?;
     /// let slip = pool.put(b"header body")?;
     /// pool.drop(slip, 7)?;
@@ -261,7 +255,7 @@ impl<'a> Pool<'a> {
     /// # Ok::<(), Refusal>(())
     /// ```
     pub fn drop(&mut self, slip: Slip, n: u32) -> Result<(), Refusal> {
-        done(calls::drop(self.pool, self.storage, slip.0, n))
+        done(calls::drop(self.pool, self.storage, slip, n))
     }
 
     /// The first `n` bytes stay and the rest goes; of 0, an empty chain stays. Other slips read as
@@ -273,7 +267,7 @@ impl<'a> Pool<'a> {
     /// ```
     /// # use fulcrumnest::{Pool, Refusal, Shape};
     /// # let shape = Shape { buffers: 4, pieces: 6, slips: 4 };
-    /// # let (mut pool, mut storage) = ([0; 87], [0; 2048]);
+    /// # let (mut pool, mut storage) = ([0; 95], [0; 2048]);
     /// # let mut pool = Pool::open(&mut pool, &mut storage, shape)?;
     /// let slip = pool.put(b"body and trailer")?;
     /// pool.keep(slip, 4)?;
@@ -282,7 +276,7 @@ impl<'a> Pool<'a> {
     /// # Ok::<(), Refusal>(())
     /// ```
     pub fn keep(&mut self, slip: Slip, n: u32) -> Result<(), Refusal> {
-        done(calls::keep(self.pool, self.storage, slip.0, n))
+        done(calls::keep(self.pool, self.storage, slip, n))
     }
 
     /// The first `n` bytes, at most 512, come to lie in the first piece, where they don't already:
@@ -294,7 +288,7 @@ impl<'a> Pool<'a> {
     /// ```
     /// # use fulcrumnest::{Pool, Refusal, Shape};
     /// # let shape = Shape { buffers: 4, pieces: 6, slips: 4 };
-    /// # let (mut pool, mut storage) = ([0; 87], [0; 2048]);
+    /// # let (mut pool, mut storage) = ([0; 95], [0; 2048]);
     /// # let mut pool = Pool::open(&mut pool, &mut storage, shape)?;
     /// let (slip, rest) = (pool.put(b"he")?, pool.put(b"ader")?);
     /// pool.append(slip, rest)?;
@@ -305,7 +299,7 @@ impl<'a> Pool<'a> {
     /// # Ok::<(), Refusal>(())
     /// ```
     pub fn pullup(&mut self, slip: Slip, n: u32) -> Result<(), Refusal> {
-        done(calls::pullup(self.pool, self.storage, slip.0, n))
+        done(calls::pullup(self.pool, self.storage, slip, n))
     }
 
     /// Puts a chain of two or more pieces afresh under the same slip, in as few buffers as hold it.
@@ -316,7 +310,7 @@ impl<'a> Pool<'a> {
     /// ```
     /// # use fulcrumnest::{Pool, Refusal, Shape};
     /// # let shape = Shape { buffers: 4, pieces: 6, slips: 4 };
-    /// # let (mut pool, mut storage) = ([0; 87], [0; 2048]);
+    /// # let (mut pool, mut storage) = ([0; 95], [0; 2048]);
     /// # let mut pool = Pool::open(&mut pool, &mut storage, shape)?;
     /// let (slip, rest) = (pool.put(b"one ")?, pool.put(b"piece")?);
     /// pool.append(slip, rest)?;
@@ -325,7 +319,7 @@ impl<'a> Pool<'a> {
     /// # Ok::<(), Refusal>(())
     /// ```
     pub fn pack(&mut self, slip: Slip) -> Result<(), Refusal> {
-        done(calls::pack(self.pool, self.storage, slip.0))
+        done(calls::pack(self.pool, self.storage, slip))
     }
 
     /// The chain's length in bytes.
@@ -335,15 +329,15 @@ impl<'a> Pool<'a> {
     /// ```
     /// # use fulcrumnest::{Pool, Refusal, Shape, Slip};
     /// # let shape = Shape { buffers: 4, pieces: 6, slips: 4 };
-    /// # let (mut pool, mut storage) = ([0; 87], [0; 2048]);
+    /// # let (mut pool, mut storage) = ([0; 95], [0; 2048]);
     /// # let mut pool = Pool::open(&mut pool, &mut storage, shape)?;
     /// let slip = pool.put(&[0; 600])?;
     /// assert_eq!(pool.length(slip)?, 600);
-    /// assert_eq!(pool.length(Slip(4)), Err(Refusal::Slip));
+    /// assert_eq!(pool.length(Slip::new(4, 0)), Err(Refusal::Slip));
     /// # Ok::<(), Refusal>(())
     /// ```
     pub fn length(&self, slip: Slip) -> Result<u32, Refusal> {
-        calls::length(self.pool, self.storage, slip.0).result()
+        calls::length(self.pool, self.storage, slip).result()
     }
 
     /// Copies `length` bytes from `offset` on to the front of the output and hands that front back;
@@ -355,7 +349,7 @@ impl<'a> Pool<'a> {
     /// ```
     /// # use fulcrumnest::{Pool, Refusal, Shape};
     /// # let shape = Shape { buffers: 4, pieces: 6, slips: 4 };
-    /// # let (mut pool, mut storage) = ([0; 87], [0; 2048]);
+    /// # let (mut pool, mut storage) = ([0; 95], [0; 2048]);
     /// # let mut pool = Pool::open(&mut pool, &mut storage, shape)?;
     /// let slip = pool.put(b"head and body")?;
     /// let mut output = [b'.'; 6];
@@ -371,7 +365,7 @@ impl<'a> Pool<'a> {
         length: u32,
         output: &'o mut [u8],
     ) -> Result<&'o [u8], Refusal> {
-        let answer = calls::read(self.pool, self.storage, slip.0, offset, length, output);
+        let answer = calls::read(self.pool, self.storage, slip, offset, length, output);
         let copied = answer.result()?;
         Ok(&output[..copied as usize])
     }
@@ -386,7 +380,7 @@ impl<'a> Pool<'a> {
     /// ```
     /// # use fulcrumnest::{Pool, Refusal, Shape};
     /// # let shape = Shape { buffers: 4, pieces: 6, slips: 4 };
-    /// # let (mut pool, mut storage) = ([0; 87], [0; 2048]);
+    /// # let (mut pool, mut storage) = ([0; 95], [0; 2048]);
     /// # let mut pool = Pool::open(&mut pool, &mut storage, shape)?;
     /// let (slip, rest) = (pool.put(b"head")?, pool.put(b"er")?);
     /// pool.append(slip, rest)?;
@@ -401,7 +395,7 @@ impl<'a> Pool<'a> {
     /// ```compile_fail,E0502
     /// # use fulcrumnest::{Pool, Refusal, Shape};
     /// # let shape = Shape { buffers: 4, pieces: 6, slips: 4 };
-    /// # let (mut pool, mut storage) = ([0; 87], [0; 2048]);
+    /// # let (mut pool, mut storage) = ([0; 95], [0; 2048]);
     /// # let mut pool = Pool::open(&mut pool, &mut storage, shape)?;
     /// let slip = pool.put(b"head")?;
     /// let mut scratch = [0; 512];
@@ -416,7 +410,7 @@ impl<'a> Pool<'a> {
         n: u32,
         scratch: &'v mut [u8],
     ) -> Result<&'v [u8], Refusal> {
-        let shown = calls::show(self.pool, self.storage, slip.0, n, scratch);
+        let shown = calls::show(self.pool, self.storage, slip, n, scratch);
         shown.result()?;
         Ok(shown.view(self.storage, scratch))
     }
@@ -431,7 +425,7 @@ impl<'a> Pool<'a> {
     /// ```
     /// # use fulcrumnest::{Pool, Refusal, Shape};
     /// # let shape = Shape { buffers: 4, pieces: 6, slips: 4 };
-    /// # let (mut pool, mut storage) = ([0; 87], [0; 2048]);
+    /// # let (mut pool, mut storage) = ([0; 95], [0; 2048]);
     /// # let mut pool = Pool::open(&mut pool, &mut storage, shape)?;
     /// let slip = pool.put(&[7; 600])?;
     /// let part = pool.cut(slip, 500, 50)?;
@@ -441,7 +435,7 @@ impl<'a> Pool<'a> {
     /// # Ok::<(), Refusal>(())
     /// ```
     pub fn list<'l>(&self, slip: Slip, list: &'l mut [u32]) -> Result<&'l [u32], Refusal> {
-        let records = calls::list(self.pool, self.storage, slip.0, list).result()?;
+        let records = calls::list(self.pool, self.storage, slip, list).result()?;
         Ok(&list[..2 * records as usize])
     }
 
@@ -452,7 +446,7 @@ impl<'a> Pool<'a> {
     /// ```
     /// # use fulcrumnest::{Pool, Refusal, Shape, Stretch};
     /// # let shape = Shape { buffers: 4, pieces: 6, slips: 4 };
-    /// # let (mut pool, mut storage) = ([0; 87], [0; 2048]);
+    /// # let (mut pool, mut storage) = ([0; 95], [0; 2048]);
     /// # let mut pool = Pool::open(&mut pool, &mut storage, shape)?;
     /// let slip = pool.put(&[7; 600])?;
     /// let mut list = [Stretch::default(); 6];
@@ -466,7 +460,7 @@ impl<'a> Pool<'a> {
         slip: Slip,
         list: &'l mut [Stretch],
     ) -> Result<&'l [Stretch], Refusal> {
-        let records = calls::stretches(self.pool, self.storage, slip.0, list).result()?;
+        let records = calls::stretches(self.pool, self.storage, slip, list).result()?;
         Ok(&list[..records as usize])
     }
 }
@@ -476,7 +470,7 @@ fn done(answer: Answer) -> Result<(), Refusal> {
     answer.result().map(|_| ())
 }
 
-/// An answer whose number is a slip's, which has 16 bits.
+/// An answer whose number is a slip's, with its serial.
 fn slip_of(answer: Answer) -> Result<Slip, Refusal> {
-    answer.result().map(|number| Slip(number as u16))
+    answer.result().map(Slip::from_answer)
 }

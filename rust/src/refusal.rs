@@ -63,9 +63,10 @@ codes! {
         /// Any other call that has a pool: the pool isn't sound.
         Torn = 2, "TORN",
             "the pool isn't sound";
-        /// A named slip is S or more (S: how many slips the pool has), or vacant.
+        /// A named slip is S or more (S: how many slips the pool has), or vacant, or its serial is
+        /// another: the name of a slip that was given up.
         Slip = 3, "SLIP",
-            "a named slip is S or more, or vacant";
+            "a named slip is S or more, or vacant, or its serial is another";
         /// append names one slip twice.
         Same = 4, "SAME",
             "append names one slip twice";
@@ -80,9 +81,9 @@ codes! {
         /// records.
         Narrow = 7, "NARROW",
             "the lent output, scratch or list can't take the bytes or records";
-        /// A new slip is wanted and none is vacant.
+        /// A new slip is wanted and none is vacant but spent ones, those at serial 65,535.
         Slips = 8, "SLIPS",
-            "a new slip is wanted and none is vacant";
+            "a new slip is wanted and none is vacant but spent ones";
         /// More new pieces are wanted than free; to drop and pullup those are free too that they
         /// give back first.
         Pieces = 9, "PIECES",

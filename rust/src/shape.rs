@@ -40,17 +40,17 @@ impl Shape {
     }
 }
 
-/// The exact length of a pool of this shape: 11 bytes, 2 a slip, 10 a piece and 2 a buffer.
+/// The exact length of a pool of this shape: 11 bytes, 4 a slip, 10 a piece and 2 a buffer.
 ///
 /// ```
 /// use fulcrumnest::{pool_length, Shape};
 ///
 /// const SHAPE: Shape = Shape { buffers: 4, pieces: 6, slips: 4 };
 /// let pool = [0; pool_length(SHAPE)];
-/// assert_eq!(pool.len(), 87);
+/// assert_eq!(pool.len(), 95);
 /// ```
 pub const fn pool_length(shape: Shape) -> usize {
-    11 + 2 * shape.slips as usize + 10 * shape.pieces as usize + 2 * shape.buffers as usize
+    11 + 4 * shape.slips as usize + 10 * shape.pieces as usize + 2 * shape.buffers as usize
 }
 
 /// The exact length of the storage of so many buffers.

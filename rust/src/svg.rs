@@ -5,17 +5,19 @@ mod layout;
 
 use std::fmt;
 
-use crate::picture::Picture;
+use crate::picture::{Picture, SPENT};
 use crate::shape::BUFFER_LENGTH;
+use crate::slip::Slip;
 use crate::tables::{Link, Piece, State, Tables};
 use bars::Bars;
 use layout::{Layout, Spot, COLUMN, COLUMNS, HIGH, LANE, TOP, WIDE};
 
 /// A picture of a pool in Scalable Vector Graphics: print it into a file.
 ///
-/// Slips stand on the left, each before the boxes of its pieces; a piece that several slips or
-/// pieces hold is drawn once, with an arrow from each of them. Below are the buffers as bars of 512
-/// bytes, with a stretch in the piece's colour for each piece that lies on them.
+/// Slips stand on the left, each before the boxes of its pieces and above its serial, where that is
+/// not 0; a piece that several slips or pieces hold is drawn once, with an arrow from each of them.
+/// Below are the buffers as bars of 512 bytes, with a stretch in the piece's colour for each piece
+/// that lies on them.
 #[derive(Clone, Copy, Debug)]
 pub struct Svg<'a> {
     picture: Picture<'a>,
@@ -124,25 +126,21 @@ fn heading(f: &mut fmt::Formatter<'_>, tables: &Tables<'_>) -> fmt::Result {
     text(f, "head", LABELS, 26, &what)
 }
 
-/// The slips with an arrow each to the piece that they head.
+/// The slips with their serials, and an arrow each to the piece that they head.
 fn slips(f: &mut fmt::Formatter<'_>, tables: &Tables<'_>, layout: &Layout) -> fmt::Result {
     for slip in 0..layout.slips {
         let lane = slip as usize;
         let middle = Spot { lane, column: 0 }.middle();
         let state = tables.slip(slip);
-        let class = match state {
-            State::Vacant => "vacant",
-            _ => "slip",
-        };
-        writeln!(
-            f,
-            "<rect class=\"{class}\" x=\"{LABELS}\" y=\"{}\" width=\"{SLIP_WIDE}\" height=\"24\" rx=\"12\"/>",
-            middle - 12
-        )?;
-        text(f, "head", LABELS + 10, middle + 4, &format!("slip {slip}"))?;
+        draw_slip(f, tables.name(slip), state, middle)?;
         let from = (LABELS + SLIP_WIDE, middle);
+        let vacant = if tables.is_spent(slip) {
+            SPENT
+        } else {
+            "vacant"
+        };
         match state {
-            State::Vacant => text(f, "small", COLUMNS - 24, middle + 4, "vacant")?,
+            State::Vacant => text(f, "small", COLUMNS - 24, middle + 4, vacant)?,
             State::Empty => text(f, "small", COLUMNS - 24, middle + 4, "empty")?,
             State::Heads(d) => arrow(f, from, tables.link(d), layout)?,
         }
@@ -155,6 +153,31 @@ fn slips(f: &mut fmt::Formatter<'_>, tables: &Tables<'_>, layout: &Layout) -> fm
         text(f, "small", LABELS, y, &what)?;
     }
     Ok(())
+}
+
+/// One slip: its number, and under it its serial where that is not 0.
+fn draw_slip(f: &mut fmt::Formatter<'_>, name: Slip, state: State, middle: usize) -> fmt::Result {
+    let class = match state {
+        State::Vacant => "vacant",
+        _ => "slip",
+    };
+    writeln!(
+        f,
+        "<rect class=\"{class}\" x=\"{LABELS}\" y=\"{}\" width=\"{SLIP_WIDE}\" height=\"24\" rx=\"12\"/>",
+        middle - 12
+    )?;
+    let number = format!("slip {}", name.number);
+    text(f, "head", LABELS + 10, middle + 4, &number)?;
+    match name.serial {
+        0 => Ok(()),
+        serial => text(
+            f,
+            "small",
+            LABELS + 10,
+            middle + 22,
+            &format!("serial {serial}"),
+        ),
+    }
 }
 
 /// The boxes of the pieces, each once, with an arrow to its next.

@@ -3,9 +3,16 @@
 
 use crate::fault::{Fault, Kind};
 use crate::shape::{pool_length, Shape};
+use crate::slip::Slip;
 
 /// The bytes of mark, version and counts.
 const HEADER: usize = 11;
+
+/// The bytes of a slip's entry: its state and its serial.
+const SLIP: usize = 4;
+
+/// The version that the tables are read by.
+pub(crate) const VERSION: u16 = 2;
 
 /// What a slip's entry says.
 #[derive(Clone, Copy, Debug, PartialEq, Eq)]
@@ -57,7 +64,7 @@ impl<'a> Tables<'a> {
             return Err(Fault(Kind::Mark));
         }
         let version = word(pool, 3);
-        if version != 1 {
+        if version != VERSION {
             return Err(Fault(Kind::Version(version)));
         }
         let shape = Shape {
@@ -75,18 +82,28 @@ impl<'a> Tables<'a> {
         Ok(Tables { pool, shape })
     }
 
-    /// The entry of a slip below S.
+    /// The state of a slip below S.
     pub(crate) fn slip(&self, s: u16) -> State {
-        match word(self.pool, HEADER + 2 * s as usize) {
+        match word(self.pool, HEADER + SLIP * s as usize) {
             0 => State::Vacant,
             1 => State::Empty,
             heads => State::Heads(heads - 2),
         }
     }
 
+    /// The name of a slip below S: as it is held or, vacant, as it would be given.
+    pub(crate) fn name(&self, s: u16) -> Slip {
+        Slip::new(s, word(self.pool, HEADER + SLIP * s as usize + 2))
+    }
+
+    /// Whether a slip below S is vacant at the last serial, and so never given again.
+    pub(crate) fn is_spent(&self, s: u16) -> bool {
+        self.slip(s) == State::Vacant && self.name(s).serial == Slip::LAST_SERIAL
+    }
+
     /// Where the entry of a piece starts.
     fn piece_start(&self, d: u16) -> usize {
-        HEADER + 2 * self.shape.slips as usize + 10 * d as usize
+        HEADER + SLIP * self.shape.slips as usize + 10 * d as usize
     }
 
     /// The entry of a piece below P.
@@ -155,11 +172,12 @@ impl<'a> Tables<'a> {
     }
 
     /// The first slip of those at the end that are told in one line: in a pool of more than 8
-    /// slips, the vacant ones behind the last held one, if they are more than one.
+    /// slips, the vacant ones at serial 0 behind all others, if they are more than one.
     pub(crate) fn vacant_tail(&self) -> u16 {
         let slips = self.shape.slips;
-        let held = (0..slips).rev().find(|s| self.slip(*s) != State::Vacant);
-        let tail = held.map_or(0, |s| s + 1);
+        let plain = |s: u16| self.slip(s) == State::Vacant && self.name(s).serial == 0;
+        let other = (0..slips).rev().find(|s| !plain(*s));
+        let tail = other.map_or(0, |s| s + 1);
         if slips > 8 && slips - tail > 1 {
             tail
         } else {

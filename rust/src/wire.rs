@@ -15,7 +15,7 @@ use crate::refusal::Refusal;
 /// ```
 /// # use fulcrumnest::{gather, Pool, Refusal, Shape};
 /// # let shape = Shape { buffers: 4, pieces: 6, slips: 4 };
-/// # let (mut pool, mut storage) = ([0; 87], [0; 2048]);
+/// # let (mut pool, mut storage) = ([0; 95], [0; 2048]);
 /// # let mut pool = Pool::open(&mut pool, &mut storage, shape)?;
 /// let (slip, rest) = (pool.put(b"head, ")?, pool.put(b"body")?);
 /// pool.append(slip, rest)?;

@@ -6,13 +6,14 @@ mod common;
 use std::error::Error;
 
 use common::desk::data;
-use common::model::{Call, Outcome, View, NO_VIEW};
+use common::model::{Call, Name, Outcome, View, NO_VIEW};
 use common::morning::{self, Chain, MORNING};
 use common::random::SHAPES;
 use common::sequence::{pools, run_lists, setting};
 use common::wire;
 use fulcrumnest::{
-    pool_length, storage_length, Fault, Picture, Pool, Refusal, Shape, Slip, Stretch, BUFFER_LENGTH,
+    pool_length, storage_length, Fault, NotASlip, Picture, Pool, Refusal, Shape, Slip, Stretch,
+    BUFFER_LENGTH,
 };
 
 const SHAPE: Shape = Shape {
@@ -54,6 +55,16 @@ fn with(buffers: u16, pieces: u16, slips: u16, work: impl FnOnce(Pool<'_>)) {
     work(Memory::new(shape).open(shape));
 }
 
+/// The slip of this number at serial 0.
+fn nth(number: u16) -> Slip {
+    Slip::new(number, 0)
+}
+
+/// The slip that the model names.
+fn named(name: Name) -> Slip {
+    Slip::new(name.number, name.serial)
+}
+
 fn bytes(pool: &Pool<'_>, slip: Slip) -> Vec<u8> {
     let length = pool.length(slip).expect("a held slip");
     let mut output = vec![0; length as usize];
@@ -67,8 +78,8 @@ fn open() {
     let pool = memory.open(SHAPE);
     assert_eq!(pool.shape(), SHAPE);
     assert_eq!(pool.audit(), Ok(()));
-    let mut fresh = b"SLP\x01\x00\x04\x00\x06\x00\x04\x00".to_vec();
-    fresh.resize(87, 0);
+    let mut fresh = b"SLP\x02\x00\x04\x00\x06\x00\x04\x00".to_vec();
+    fresh.resize(95, 0);
     assert_eq!(memory.pool, fresh);
     assert!(memory.storage.iter().all(|byte| *byte == 0xEE));
 }
@@ -113,8 +124,8 @@ fn lengths() {
             assert_eq!(pool.audit(), Ok(()));
         });
     }
-    assert_eq!(pool_length(SHAPE), 87);
-    assert_eq!(pool_length(Shape::MOST), 11 + 512 + 20_480 + 2_048);
+    assert_eq!(pool_length(SHAPE), 95);
+    assert_eq!(pool_length(Shape::MOST), 11 + 1_024 + 20_480 + 2_048);
     assert_eq!(storage_length(Shape::MOST.buffers), 524_288);
 }
 
@@ -125,7 +136,8 @@ fn attach() {
     let pool = Pool::attach(&mut memory.pool, &mut memory.storage).unwrap();
     assert_eq!(bytes(&pool, slip), b"kept");
     assert_eq!(pool.shape(), SHAPE);
-    // Any byte that is off tears the pool, but for the offset and the length of a piece in use.
+    // Any byte that is off tears the pool, but for the serials of the slips and the offset and the
+    // length of a piece in use.
     let mut sound = Vec::new();
     for at in 0..memory.pool.len() {
         let mut other = memory.pool.clone();
@@ -140,7 +152,7 @@ fn attach() {
             differ => panic!("byte {at}: {differ:?}"),
         }
     }
-    assert_eq!(sound, [23, 25]);
+    assert_eq!(sound, [13, 14, 17, 18, 21, 22, 25, 26, 31, 33]);
     let none = Pool::attach(&mut [], &mut []);
     assert_eq!(none.unwrap_err(), Refusal::Torn);
 }
@@ -149,15 +161,15 @@ fn attach() {
 fn put() {
     with(4, 6, 4, |mut pool| {
         assert_eq!(pool.put(&data(2049)), Err(Refusal::Buffers));
-        assert_eq!(pool.put(&data(600)), Ok(Slip(0)));
-        assert_eq!(bytes(&pool, Slip(0)), data(600));
-        assert_eq!(pool.put(&[]), Ok(Slip(1)));
-        assert_eq!(pool.length(Slip(1)), Ok(0));
+        assert_eq!(pool.put(&data(600)), Ok(nth(0)));
+        assert_eq!(bytes(&pool, nth(0)), data(600));
+        assert_eq!(pool.put(&[]), Ok(nth(1)));
+        assert_eq!(pool.length(nth(1)), Ok(0));
     });
     with(2, 1, 2, |mut pool| {
         assert_eq!(pool.put(&data(513)), Err(Refusal::Pieces));
-        assert_eq!(pool.put(&data(512)), Ok(Slip(0)));
-        assert_eq!(pool.put(&[]), Ok(Slip(1)));
+        assert_eq!(pool.put(&data(512)), Ok(nth(0)));
+        assert_eq!(pool.put(&[]), Ok(nth(1)));
         assert_eq!(pool.put(&[]), Err(Refusal::Slips));
     });
 }
@@ -169,9 +181,10 @@ fn free() {
         assert_eq!(pool.put(b"more"), Err(Refusal::Buffers));
         assert_eq!(pool.free(slip), Ok(()));
         assert_eq!(pool.free(slip), Err(Refusal::Slip));
-        assert_eq!(pool.free(Slip(4)), Err(Refusal::Slip));
-        assert_eq!(pool.free(Slip(u16::MAX)), Err(Refusal::Slip));
-        assert_eq!(pool.put(b"more"), Ok(slip));
+        assert_eq!(pool.free(nth(4)), Err(Refusal::Slip));
+        assert_eq!(pool.free(nth(u16::MAX)), Err(Refusal::Slip));
+        assert_eq!(pool.put(b"more"), Ok(Slip::new(slip.number, 1)));
+        assert_eq!(pool.free(slip), Err(Refusal::Slip));
     });
 }
 
@@ -179,11 +192,11 @@ fn free() {
 fn dup() {
     with(4, 3, 3, |mut pool| {
         let slip = pool.put(&data(600)).unwrap();
-        assert_eq!(pool.dup(slip), Ok(Slip(1)));
-        assert_eq!(bytes(&pool, Slip(1)), data(600));
-        assert_eq!(pool.dup(Slip(2)), Err(Refusal::Slip));
+        assert_eq!(pool.dup(slip), Ok(nth(1)));
+        assert_eq!(bytes(&pool, nth(1)), data(600));
+        assert_eq!(pool.dup(nth(2)), Err(Refusal::Slip));
         assert_eq!(pool.dup(slip), Err(Refusal::Pieces));
-        assert_eq!(pool.put(&[]), Ok(Slip(2)));
+        assert_eq!(pool.put(&[]), Ok(nth(2)));
         assert_eq!(pool.dup(slip), Err(Refusal::Slips));
     });
 }
@@ -192,14 +205,14 @@ fn dup() {
 fn cut() {
     with(4, 4, 3, |mut pool| {
         let slip = pool.put(&data(600)).unwrap();
-        assert_eq!(pool.cut(slip, 500, 50), Ok(Slip(1)));
-        assert_eq!(bytes(&pool, Slip(1)), data(600)[500..550]);
-        assert_eq!(pool.cut(Slip(2), 0, 0), Err(Refusal::Slip));
+        assert_eq!(pool.cut(slip, 500, 50), Ok(nth(1)));
+        assert_eq!(bytes(&pool, nth(1)), data(600)[500..550]);
+        assert_eq!(pool.cut(nth(2), 0, 0), Err(Refusal::Slip));
         assert_eq!(pool.cut(slip, 600, 1), Err(Refusal::Range));
         assert_eq!(pool.cut(slip, 601, 0), Err(Refusal::Range));
         assert_eq!(pool.cut(slip, 1, u32::MAX), Err(Refusal::Range));
         assert_eq!(pool.cut(slip, 0, 1), Err(Refusal::Pieces));
-        assert_eq!(pool.cut(slip, 600, 0), Ok(Slip(2)));
+        assert_eq!(pool.cut(slip, 600, 0), Ok(nth(2)));
         assert_eq!(pool.cut(slip, 0, 0), Err(Refusal::Slips));
     });
 }
@@ -210,8 +223,8 @@ fn append() {
         let (a, b) = (pool.put(b"one, ").unwrap(), pool.put(b"two").unwrap());
         let other = pool.dup(a).unwrap();
         assert_eq!(pool.append(a, a), Err(Refusal::Same));
-        assert_eq!(pool.append(a, Slip(3)), Err(Refusal::Slip));
-        assert_eq!(pool.append(Slip(9), Slip(9)), Err(Refusal::Slip));
+        assert_eq!(pool.append(a, nth(3)), Err(Refusal::Slip));
+        assert_eq!(pool.append(nth(9), nth(9)), Err(Refusal::Slip));
         assert_eq!(pool.append(a, b), Ok(()));
         assert_eq!(bytes(&pool, a), b"one, two");
         assert_eq!(bytes(&pool, other), b"one, ");
@@ -250,7 +263,7 @@ fn append_wants_pieces() {
 fn drop_bytes() {
     with(4, 3, 3, |mut pool| {
         let (slip, other) = shared(&mut pool);
-        assert_eq!(pool.drop(Slip(2), 0), Err(Refusal::Slip));
+        assert_eq!(pool.drop(nth(2), 0), Err(Refusal::Slip));
         assert_eq!(pool.drop(slip, 601), Err(Refusal::Range));
         assert_eq!(pool.drop(slip, 512), Ok(()));
         assert_eq!(bytes(&pool, slip), data(600)[512..]);
@@ -285,7 +298,7 @@ fn drop_wants_pieces() {
 fn keep() {
     with(4, 3, 3, |mut pool| {
         let (slip, other) = shared(&mut pool);
-        assert_eq!(pool.keep(Slip(2), 0), Err(Refusal::Slip));
+        assert_eq!(pool.keep(nth(2), 0), Err(Refusal::Slip));
         assert_eq!(pool.keep(slip, 601), Err(Refusal::Range));
         assert_eq!(pool.keep(slip, 599), Err(Refusal::Pieces));
         assert_eq!(pool.keep(slip, 600), Ok(()));
@@ -308,7 +321,7 @@ fn pullup() {
         assert_eq!(pool.pullup(slip, 20), Ok(()));
         assert_eq!(pool.show(slip, 20, &mut []).unwrap(), &before[..20]);
         assert_eq!(bytes(&pool, slip), before);
-        assert_eq!(pool.pullup(Slip(1), 0), Err(Refusal::Slip));
+        assert_eq!(pool.pullup(nth(1), 0), Err(Refusal::Slip));
         assert_eq!(pool.pullup(slip, 513), Err(Refusal::Long));
         let short = pool.put(&data(5)).unwrap();
         assert_eq!(pool.pullup(short, 6), Err(Refusal::Range));
@@ -344,7 +357,7 @@ fn pack() {
         pool.append(slip, rest).unwrap();
         assert_eq!(pool.pack(slip), Ok(()));
         assert_eq!(pool.show(slip, 9, &mut []).unwrap(), b"one piece");
-        assert_eq!(pool.pack(Slip(1)), Err(Refusal::Slip));
+        assert_eq!(pool.pack(nth(1)), Err(Refusal::Slip));
     });
     with(3, 2, 2, |mut pool| {
         let (slip, rest) = (pool.put(b"a").unwrap(), pool.put(b"b").unwrap());
@@ -363,8 +376,8 @@ fn length() {
     with(4, 6, 4, |mut pool| {
         let slip = pool.put(&data(600)).unwrap();
         assert_eq!(pool.length(slip), Ok(600));
-        assert_eq!(pool.length(Slip(1)), Err(Refusal::Slip));
-        assert_eq!(pool.length(Slip(4)), Err(Refusal::Slip));
+        assert_eq!(pool.length(nth(1)), Err(Refusal::Slip));
+        assert_eq!(pool.length(nth(4)), Err(Refusal::Slip));
     });
 }
 
@@ -378,7 +391,7 @@ fn read() {
         assert_eq!(output[30..], [0x99; 10]);
         let mut output = [0x99; 40];
         for (slip, offset, length, refusal) in [
-            (Slip(1), 0, 0, Refusal::Slip),
+            (nth(1), 0, 0, Refusal::Slip),
             (slip, 600, 1, Refusal::Range),
             (slip, 601, 0, Refusal::Range),
             (slip, u32::MAX, 2, Refusal::Range),
@@ -423,7 +436,7 @@ fn show() {
     let mut small = [0x99; 19];
     assert_eq!(pool.show(slip, 20, &mut small), Err(Refusal::Narrow));
     assert_eq!(pool.show(slip, 513, &mut small), Err(Refusal::Long));
-    assert_eq!(pool.show(Slip(1), 0, &mut small), Err(Refusal::Slip));
+    assert_eq!(pool.show(nth(1), 0, &mut small), Err(Refusal::Slip));
     assert_eq!(small, [0x99; 19]);
     assert_eq!(pool.show(slip, 0, &mut []).unwrap(), b"");
     let short = pool.put(b"short").unwrap();
@@ -439,7 +452,7 @@ fn views_are_handed_back() {
     with(4, 6, 4, |mut pool| {
         let slip = pool.put(b"front and rest").unwrap();
         assert_eq!(front(&pool, slip, &mut [0; 4]), b"fron");
-        assert_eq!(front(&pool, Slip(3), &mut [0; 4]), b"");
+        assert_eq!(front(&pool, nth(3), &mut [0; 4]), b"");
     });
 }
 
@@ -461,15 +474,15 @@ fn list() {
     let (mut memory, [whole, part]) = whole_and_part();
     let mut pool = memory.attach();
     let mut numbers = vec![0x99; part.list.len() + 3];
-    let written = pool.list(Slip(part.slip), &mut numbers).unwrap();
+    let written = pool.list(named(part.slip), &mut numbers).unwrap();
     assert_eq!(written, part.list);
     assert_eq!(numbers[part.list.len()..], [0x99; 3]);
     let old = vec![0x99; whole.list.len() - 1];
     let mut numbers = old.clone();
-    let narrow = pool.list(Slip(whole.slip), &mut numbers);
+    let narrow = pool.list(named(whole.slip), &mut numbers);
     assert_eq!(narrow, Err(Refusal::Narrow));
-    assert_eq!(pool.list(Slip(2), &mut numbers), Err(Refusal::Slip));
-    assert_eq!(pool.list(Slip(4), &mut []), Err(Refusal::Slip));
+    assert_eq!(pool.list(nth(2), &mut numbers), Err(Refusal::Slip));
+    assert_eq!(pool.list(nth(4), &mut []), Err(Refusal::Slip));
     assert_eq!(numbers, old);
     let empty = pool.put(&[]).unwrap();
     assert_eq!(pool.list(empty, &mut []).unwrap(), [0; 0]);
@@ -487,14 +500,14 @@ fn stretches() {
     let old = stretch(&[7, 9]);
     let wanted: Vec<Stretch> = part.list.chunks(2).map(stretch).collect();
     let mut records = vec![old; wanted.len() + 1];
-    let written = pool.stretches(Slip(part.slip), &mut records).unwrap();
+    let written = pool.stretches(named(part.slip), &mut records).unwrap();
     assert_eq!(written, wanted);
     assert_eq!(records[wanted.len()], old);
     let mut records = vec![old; whole.list.len() / 2 - 1];
     let before = records.clone();
-    let narrow = pool.stretches(Slip(whole.slip), &mut records);
+    let narrow = pool.stretches(named(whole.slip), &mut records);
     assert_eq!(narrow, Err(Refusal::Narrow));
-    assert_eq!(pool.stretches(Slip(2), &mut records), Err(Refusal::Slip));
+    assert_eq!(pool.stretches(nth(2), &mut records), Err(Refusal::Slip));
     assert_eq!(records, before);
     let empty = pool.put(&[]).unwrap();
     assert_eq!(pool.stretches(empty, &mut []).unwrap(), []);
@@ -508,7 +521,7 @@ fn gather() {
     let wanted = part.bytes();
     let mut numbers = vec![0; part.list.len() + 4];
     let mut output = vec![0x99; wanted.len() + 2];
-    let list = pool.list(Slip(part.slip), &mut numbers).unwrap();
+    let list = pool.list(named(part.slip), &mut numbers).unwrap();
     let copied = fulcrumnest::gather(pool.storage(), list, &mut output).unwrap();
     assert_eq!(copied, wanted);
     assert_eq!(output[wanted.len()..], [0x99; 2]);
@@ -541,7 +554,7 @@ fn refusals_change_nothing() {
     let before = (memory.pool.clone(), memory.storage.clone());
     let mut pool = Pool::attach(&mut memory.pool, &mut memory.storage).unwrap();
     assert_eq!(pool.put(&data(513)), Err(Refusal::Pieces));
-    assert_eq!(pool.free(Slip(3)), Err(Refusal::Slip));
+    assert_eq!(pool.free(nth(3)), Err(Refusal::Slip));
     assert_eq!(pool.cut(slip, 0, 600), Err(Refusal::Pieces));
     assert_eq!(pool.append(slip, slip), Err(Refusal::Same));
     assert_eq!(pool.drop(slip, 601), Err(Refusal::Range));
@@ -551,6 +564,185 @@ fn refusals_change_nothing() {
     assert_eq!(pool.list(slip, &mut [0; 3]), Err(Refusal::Narrow));
     assert_eq!(pool.storage(), before.1);
     assert_eq!((memory.pool, memory.storage), before);
+}
+
+/// A slip is printed and read as its number, with its serial where that is not 0.
+#[test]
+fn slips_as_text() {
+    for (slip, text) in [
+        (Slip::new(0, 0), "0"),
+        (Slip::new(3, 0), "3"),
+        (Slip::new(2, 1), "2.1"),
+        (Slip::new(0, 65_535), "0.65535"),
+        (Slip::new(65_535, 65_535), "65535.65535"),
+    ] {
+        assert_eq!(slip.to_string(), text);
+        assert_eq!(text.parse(), Ok(slip));
+    }
+    // Other writings of the same slips.
+    for (text, slip) in [("3.0", nth(3)), ("03", nth(3)), ("2.01", Slip::new(2, 1))] {
+        assert_eq!(text.parse(), Ok(slip), "{text}");
+    }
+    for text in [
+        "",
+        ".",
+        "2.",
+        ".1",
+        "2.1.",
+        "2..1",
+        "2.1.0",
+        " 2",
+        "2 ",
+        "2 .1",
+        "2. 1",
+        "+2",
+        "-2",
+        "2.+1",
+        "2.-1",
+        "x",
+        "2.x",
+        "0x2",
+        "2,1",
+        "2:1",
+        "slip 2",
+        "65536",
+        "2.65536",
+        "65536.1",
+        "1e1",
+        "99999999999999999999",
+        "\u{662}",
+        "\n2",
+    ] {
+        assert_eq!(text.parse::<Slip>(), Err(NotASlip), "{text:?}");
+    }
+    let error: Box<dyn Error> = Box::new(NotASlip);
+    let text = "not a slip: NUMBER or NUMBER.SERIAL, each 0 to 65535";
+    assert_eq!(error.to_string(), text);
+}
+
+/// The number that is answered for a slip, and back.
+#[test]
+fn slips_as_answers() {
+    for (slip, answer) in [
+        (Slip::new(0, 0), 0),
+        (Slip::new(65_535, 0), 65_535),
+        (Slip::new(0, 1), 65_536),
+        (Slip::new(3, 7), 3 + 65_536 * 7),
+        (Slip::new(255, 65_534), 255 + 65_536 * 65_534),
+        (Slip::new(65_535, 65_535), u32::MAX),
+    ] {
+        assert_eq!(slip.answer(), answer);
+        assert_eq!(Slip::from_answer(answer), slip);
+    }
+    // By number and then by serial.
+    assert!(Slip::new(1, 9) < Slip::new(2, 0) && Slip::new(2, 0) < Slip::new(2, 1));
+}
+
+/// Every call refuses this name, and changes nothing.
+fn refused_everywhere(pool: &mut Pool<'_>, old: Slip, held: Slip) {
+    let before = pool.picture().to_string();
+    let no = Refusal::Slip;
+    let (mut output, mut list) = ([0x99; 8], [0x99; 8]);
+    assert_eq!(pool.free(old), Err(no));
+    assert_eq!(pool.dup(old), Err(no));
+    assert_eq!(pool.cut(old, 0, 0), Err(no));
+    assert_eq!(pool.append(old, held), Err(no));
+    assert_eq!(pool.append(held, old), Err(no));
+    assert_eq!(pool.append(old, old), Err(no));
+    assert_eq!(pool.drop(old, 0), Err(no));
+    assert_eq!(pool.keep(old, 0), Err(no));
+    assert_eq!(pool.pullup(old, 0), Err(no));
+    assert_eq!(pool.pack(old), Err(no));
+    assert_eq!(pool.length(old), Err(no));
+    assert_eq!(pool.read(old, 0, 0, &mut output), Err(no));
+    assert_eq!(pool.show(old, 0, &mut output), Err(no));
+    assert_eq!(pool.list(old, &mut list), Err(no));
+    assert_eq!(pool.stretches(old, &mut []), Err(no));
+    assert_eq!((output, list), ([0x99; 8], [0x99; 8]));
+    assert_eq!(pool.picture().to_string(), before);
+}
+
+/// A name that was given up is refused by every call, while its slip is vacant and when it is held
+/// by another.
+#[test]
+fn old_names() {
+    with(4, 6, 3, |mut pool| {
+        let old = pool.put(&data(600)).unwrap();
+        let held = pool.dup(old).unwrap();
+        pool.free(old).unwrap();
+        refused_everywhere(&mut pool, old, held);
+        // Nor is a vacant slip held by the name that it is given next.
+        refused_everywhere(&mut pool, Slip::new(0, 1), held);
+        let new = pool.put(b"another").unwrap();
+        assert_eq!(new, Slip::new(0, 1));
+        refused_everywhere(&mut pool, old, held);
+        refused_everywhere(&mut pool, Slip::new(0, 2), held);
+        // append is the other call that gives one up, also where either side is empty.
+        pool.append(held, new).unwrap();
+        refused_everywhere(&mut pool, new, held);
+        let empty = pool.put(b"").unwrap();
+        assert_eq!(empty, Slip::new(0, 2));
+        pool.append(held, empty).unwrap();
+        let empty = pool.put(b"").unwrap();
+        assert_eq!(empty, Slip::new(0, 3));
+        pool.append(empty, held).unwrap();
+        assert_eq!(pool.length(empty), Ok(607));
+        assert_eq!(pool.cut(empty, 0, 1), Ok(Slip::new(1, 1)));
+        refused_everywhere(&mut pool, held, empty);
+    });
+}
+
+/// append judges both names first, and then whether the numbers are one.
+#[test]
+fn append_by_number_and_serial() {
+    with(4, 6, 4, |mut pool| {
+        let old = pool.put(b"old").unwrap();
+        pool.free(old).unwrap();
+        let new = pool.put(b"new").unwrap();
+        assert_eq!(new.number, old.number);
+        assert_eq!(pool.append(new, old), Err(Refusal::Slip));
+        assert_eq!(pool.append(old, new), Err(Refusal::Slip));
+        assert_eq!(pool.append(new, new), Err(Refusal::Same));
+    });
+}
+
+/// Sets the serial of each slip by hand.
+fn set_serials(memory: &mut Memory, serials: &[u16]) {
+    for (slip, serial) in serials.iter().enumerate() {
+        memory.pool[13 + 4 * slip..][..2].copy_from_slice(&serial.to_le_bytes());
+    }
+}
+
+/// A vacant slip at the last serial is spent: not given again and no room, until an open.
+#[test]
+fn spent_slips() {
+    let last = Slip::LAST_SERIAL;
+    let mut memory = Memory::new(SHAPE);
+    memory.open(SHAPE);
+    set_serials(&mut memory, &[last, last - 1, last, 7]);
+    let mut pool = memory.attach();
+    let slip = pool.put(&data(600)).unwrap();
+    assert_eq!(slip, Slip::new(1, last - 1));
+    assert_eq!(pool.dup(slip), Ok(Slip::new(3, 7)));
+    assert_eq!(pool.put(&[]), Err(Refusal::Slips));
+    assert_eq!(pool.dup(slip), Err(Refusal::Slips));
+    assert_eq!(pool.cut(slip, 0, 0), Err(Refusal::Slips));
+    refused_everywhere(&mut pool, Slip::new(0, last), slip);
+    pool.free(slip).unwrap();
+    refused_everywhere(&mut pool, Slip::new(1, last), Slip::new(3, 7));
+    assert_eq!(pool.put(&[]), Err(Refusal::Slips));
+
+    // Held at the last serial, as bytes may have it, a slip is as good as any; given up, it is spent.
+    set_serials(&mut memory, &[last, last, last, last]);
+    let mut pool = memory.attach();
+    let slip = Slip::new(3, last);
+    assert_eq!(bytes(&pool, slip), data(600));
+    assert_eq!(pool.free(slip), Ok(()));
+    assert_eq!(pool.free(slip), Err(Refusal::Slip));
+    assert_eq!(pool.put(&[]), Err(Refusal::Slips));
+    assert_eq!(pool.audit(), Ok(()));
+    assert_eq!(memory.pool[11..27], [[0, 0, 255, 255]; 4].concat());
+    assert_eq!(memory.open(SHAPE).put(&[]), Ok(nth(0)));
 }
 
 #[test]
@@ -566,7 +758,6 @@ fn texts() {
     assert!(Refusal::ALL.windows(2).all(|pair| pair[0] < pair[1]));
     assert_eq!(Refusal::from_code(0), None);
     assert_eq!(Refusal::from_code(Refusal::ALL.len() as u16 + 1), None);
-    assert_eq!(Slip(3).to_string(), "slip 3");
     with(4, 6, 4, |pool| {
         let text = "Pool { shape: Shape { buffers: 4, pieces: 6, slips: 4 }, .. }";
         assert_eq!(format!("{pool:?}"), text);
@@ -622,7 +813,7 @@ fn listing(
 ) -> Result<(u64, View), Refusal> {
     let number = match call {
         Call::List { slip, .. } => {
-            let numbers = Pool::attach(pool, storage)?.list(Slip(*slip), list)?.len();
+            let numbers = Pool::attach(pool, storage)?.list(named(*slip), list)?.len();
             assert_eq!(numbers % 2, 0);
             numbers / 2
         }
@@ -633,7 +824,7 @@ fn listing(
             };
             let mut records: Vec<Stretch> = list.chunks(2).map(record).collect();
             let pool = Pool::attach(pool, storage)?;
-            let written = pool.stretches(Slip(*slip), &mut records).map(<[_]>::len);
+            let written = pool.stretches(named(*slip), &mut records).map(<[_]>::len);
             for (two, record) in list.chunks_mut(2).zip(records) {
                 two.copy_from_slice(&[record.position, record.length]);
             }
@@ -666,31 +857,31 @@ fn answer(
     let start = storage.as_ptr() as usize;
     let scratch = lent.as_ptr_range();
     let mut pool = Pool::attach(pool, storage)?;
-    let slipped = |slip: Slip| u64::from(slip.0);
+    let slipped = |slip: Slip| u64::from(slip.answer());
     let number = match call {
         Call::Open { .. } | Call::Audit => pool.audit().map(|()| 0)?,
         Call::Put { data } => pool.put(data).map(slipped)?,
-        Call::Free { slip } => pool.free(Slip(*slip)).map(|()| 0)?,
-        Call::Dup { slip } => pool.dup(Slip(*slip)).map(slipped)?,
+        Call::Free { slip } => pool.free(named(*slip)).map(|()| 0)?,
+        Call::Dup { slip } => pool.dup(named(*slip)).map(slipped)?,
         Call::Cut {
             slip,
             offset,
             length,
-        } => pool.cut(Slip(*slip), *offset, *length).map(slipped)?,
-        Call::Append { a, b } => pool.append(Slip(*a), Slip(*b)).map(|()| 0)?,
-        Call::Drop { slip, n } => pool.drop(Slip(*slip), *n).map(|()| 0)?,
-        Call::Keep { slip, n } => pool.keep(Slip(*slip), *n).map(|()| 0)?,
-        Call::Pullup { slip, n } => pool.pullup(Slip(*slip), *n).map(|()| 0)?,
-        Call::Pack { slip } => pool.pack(Slip(*slip)).map(|()| 0)?,
-        Call::Length { slip } => pool.length(Slip(*slip)).map(u64::from)?,
+        } => pool.cut(named(*slip), *offset, *length).map(slipped)?,
+        Call::Append { a, b } => pool.append(named(*a), named(*b)).map(|()| 0)?,
+        Call::Drop { slip, n } => pool.drop(named(*slip), *n).map(|()| 0)?,
+        Call::Keep { slip, n } => pool.keep(named(*slip), *n).map(|()| 0)?,
+        Call::Pullup { slip, n } => pool.pullup(named(*slip), *n).map(|()| 0)?,
+        Call::Pack { slip } => pool.pack(named(*slip)).map(|()| 0)?,
+        Call::Length { slip } => pool.length(named(*slip)).map(u64::from)?,
         Call::Read {
             slip,
             offset,
             length,
             ..
-        } => pool.read(Slip(*slip), *offset, *length, lent)?.len() as u64,
+        } => pool.read(named(*slip), *offset, *length, lent)?.len() as u64,
         Call::Show { slip, n, .. } => {
-            let view = pool.show(Slip(*slip), *n, lent)?;
+            let view = pool.show(named(*slip), *n, lent)?;
             let in_scratch = *n > 0 && scratch.contains(&view.as_ptr());
             let from = if in_scratch {
                 scratch.start as usize

@@ -6,11 +6,11 @@ mod common;
 
 use std::time::Instant;
 
-use common::model::{Call, Outcome, View, NO_VIEW, TRUE};
+use common::model::{Call, Name, Outcome, View, NO_VIEW, TRUE};
 use common::random::{Mood, SHAPES};
 use common::sequence::{largest, run_lists, run_on, setting, Tally, KINDS};
 use common::wire;
-use fulcrumnest::{Answer, Shown, Stretch};
+use fulcrumnest::{Answer, Shown, Slip, Stretch};
 
 /// The records that numbers make, two by two.
 fn records(numbers: &[u32]) -> Vec<Stretch> {
@@ -62,6 +62,11 @@ fn step(pool: &[u8], storage: &[u8], call: &Call) -> Outcome {
     }
 }
 
+/// The slip that the model names.
+fn slip_of(name: Name) -> Slip {
+    Slip::new(name.number, name.serial)
+}
+
 /// A call on a sound pool.
 unsafe fn answer(all: &mut Lent, call: &Call) -> Answer {
     let (p, s, l) = (&mut all.pool[..], &mut all.storage[..], &mut all.lent[..]);
@@ -69,30 +74,32 @@ unsafe fn answer(all: &mut Lent, call: &Call) -> Answer {
         Call::Open { .. } | Call::Gather { .. } => unreachable!("made above"),
         Call::Audit => by_hand::audit(p, s),
         Call::Put { data } => by_hand::put(p, s, data),
-        Call::Free { slip } => by_hand::free(p, s, *slip),
-        Call::Dup { slip } => by_hand::dup(p, s, *slip),
+        Call::Free { slip } => by_hand::free(p, s, slip_of(*slip)),
+        Call::Dup { slip } => by_hand::dup(p, s, slip_of(*slip)),
         Call::Cut {
             slip,
             offset,
             length,
-        } => by_hand::cut(p, s, *slip, *offset, *length),
-        Call::Append { a, b } => by_hand::append(p, s, *a, *b),
-        Call::Drop { slip, n } => by_hand::drop(p, s, *slip, *n),
-        Call::Keep { slip, n } => by_hand::keep(p, s, *slip, *n),
-        Call::Pullup { slip, n } => by_hand::pullup(p, s, *slip, *n),
-        Call::Pack { slip } => by_hand::pack(p, s, *slip),
-        Call::Length { slip } => by_hand::length(p, s, *slip),
+        } => by_hand::cut(p, s, slip_of(*slip), *offset, *length),
+        Call::Append { a, b } => by_hand::append(p, s, slip_of(*a), slip_of(*b)),
+        Call::Drop { slip, n } => by_hand::drop(p, s, slip_of(*slip), *n),
+        Call::Keep { slip, n } => by_hand::keep(p, s, slip_of(*slip), *n),
+        Call::Pullup { slip, n } => by_hand::pullup(p, s, slip_of(*slip), *n),
+        Call::Pack { slip } => by_hand::pack(p, s, slip_of(*slip)),
+        Call::Length { slip } => by_hand::length(p, s, slip_of(*slip)),
         Call::Read {
             slip,
             offset,
             length,
             ..
-        } => by_hand::read(p, s, *slip, *offset, *length, l),
-        Call::Show { slip, n, .. } => shown(by_hand::show(p, s, *slip, *n, l), &mut all.view),
-        Call::List { slip, .. } => by_hand::list(p, s, *slip, &mut all.list),
+        } => by_hand::read(p, s, slip_of(*slip), *offset, *length, l),
+        Call::Show { slip, n, .. } => {
+            shown(by_hand::show(p, s, slip_of(*slip), *n, l), &mut all.view)
+        }
+        Call::List { slip, .. } => by_hand::list(p, s, slip_of(*slip), &mut all.list),
         Call::Stretches { slip, .. } => {
             let mut written = records(&all.list);
-            let answer = by_hand::stretches(p, s, *slip, &mut written);
+            let answer = by_hand::stretches(p, s, slip_of(*slip), &mut written);
             let numbers = written.iter().flat_map(|r| [r.position, r.length]);
             all.list = numbers.collect();
             answer
@@ -112,7 +119,8 @@ fn shown(shown: Shown, view: &mut View) -> Answer {
     }
 }
 
-paper_cases! { step; morning; full_table_done, full_table_refused, }
+paper_cases! { step; serials }
+paper_cases! { step; morning; ten_rows, full_table_done, full_table_refused, }
 paper_cases! { step; scenarios;
     reading_31_front_given_back, reading_32_room_in_front, reading_33_copied_first, full_table_of_the_largest,
 }

@@ -10,8 +10,8 @@ use std::time::Instant;
 use common::compare;
 use common::damage;
 use common::library;
-use common::model::{Call, TORN, TRUE};
-use common::random::{Mood, Random, SHAPES};
+use common::model::{Call, Name, Tables, TORN, TRUE};
+use common::random::{self, Mood, Random, SHAPES};
 use common::recount::recount;
 use common::sequence::{largest, run_lists, run_on, setting, List, Tally, KINDS};
 use fulcrumnest::ffi;
@@ -51,6 +51,18 @@ fn largest_pools() {
     assert!(met > KINDS.len() / 2, "{:?}", tally.kinds);
 }
 
+/// A slip by the serial that stands in the pool, if it can be read, and now and then by another.
+fn any_name(random: &mut Random, pool: &[u8], storage: &[u8], slips: u16) -> Name {
+    let slip = random.below(slips as u64) as u16;
+    match Tables::parse(pool, storage) {
+        Some(tables) if (slip as usize) < tables.slips.len() && !random.once_in(8) => {
+            tables.name(slip)
+        }
+        Some(tables) => Name::new(slip, random::other_serial(random, &tables, slip)),
+        None => Name::from(slip),
+    }
+}
+
 /// On a damaged pool every changing call does as the model does: code 2 and nothing changed where
 /// the pool is torn, and the call itself where it is still sound.
 #[test]
@@ -66,8 +78,8 @@ fn damaged_pools() {
         let mut random = Random::new(seed);
         let mut arguments = Random::new(!seed);
         let mut visit = |what: &str, pool: &[u8], storage: &[u8]| {
-            let slip = arguments.below(list.shape.2 as u64) as u16;
-            let other = arguments.below(list.shape.2 as u64) as u16;
+            let slip = any_name(&mut arguments, pool, storage, list.shape.2);
+            let other = any_name(&mut arguments, pool, storage, list.shape.2);
             let n = arguments.below(20) as u32;
             for call in [
                 Call::Put { data: vec![1; 600] },
@@ -107,7 +119,8 @@ fn damaged_pools() {
 #[test]
 fn library_alone() {
     let mut list = List::start(9, Some((12, 40, 10)));
-    for _ in 0..5_000 {
+    for made in 0..5_000 {
+        list.wear(made);
         let call = list.call();
         let outcome = library::step(&list.pool, &list.storage, &call);
         assert!(outcome.code != TORN, "{}", call.brief());
@@ -129,14 +142,14 @@ fn null_pointers() {
         let torn = (2, 0);
         let none = null_mut();
         assert_eq!(pair(ffi::slp_put(none, 0, none, 0, null(), 0)), torn);
-        assert_eq!(pair(ffi::slp_free(none, 0, none, 0, 0)), torn);
-        assert_eq!(pair(ffi::slp_dup(none, 0, null(), 0, 0)), torn);
-        assert_eq!(pair(ffi::slp_cut(none, 0, null(), 0, 0, 0, 0)), torn);
-        assert_eq!(pair(ffi::slp_append(none, 0, none, 0, 0, 1)), torn);
-        assert_eq!(pair(ffi::slp_drop(none, 0, none, 0, 0, 0)), torn);
-        assert_eq!(pair(ffi::slp_keep(none, 0, none, 0, 0, 0)), torn);
-        assert_eq!(pair(ffi::slp_pullup(none, 0, none, 0, 0, 0)), torn);
-        assert_eq!(pair(ffi::slp_pack(none, 0, none, 0, 0)), torn);
+        assert_eq!(pair(ffi::slp_free(none, 0, none, 0, 0, 0)), torn);
+        assert_eq!(pair(ffi::slp_dup(none, 0, null(), 0, 0, 0)), torn);
+        assert_eq!(pair(ffi::slp_cut(none, 0, null(), 0, 0, 0, 0, 0)), torn);
+        assert_eq!(pair(ffi::slp_append(none, 0, none, 0, 0, 0, 1, 0)), torn);
+        assert_eq!(pair(ffi::slp_drop(none, 0, none, 0, 0, 0, 0)), torn);
+        assert_eq!(pair(ffi::slp_keep(none, 0, none, 0, 0, 0, 0)), torn);
+        assert_eq!(pair(ffi::slp_pullup(none, 0, none, 0, 0, 0, 0)), torn);
+        assert_eq!(pair(ffi::slp_pack(none, 0, none, 0, 0, 0)), torn);
         assert_eq!(
             pair(ffi::slp_put(pool.as_mut_ptr(), size, none, 0, null(), 0)),
             torn

@@ -82,7 +82,19 @@ fn morning() {
 /// What the proved walk-through prints.
 const WALKED: &str = include_str!("../../crates/walkthrough/stdout");
 
-/// The proved walk-through prints the same rows, drawn the same: its first call is named open, and it shows where the morning reads.
+/// Rows without the spaces that align what stands behind a slip.
+fn unaligned(rows: &str) -> String {
+    let line = |line: &str| match line.strip_prefix("  slip ") {
+        Some(slip) => {
+            let (name, holds) = slip.split_once(' ').expect("what it holds");
+            format!("  slip {name} {}\n", holds.trim_start())
+        }
+        None => format!("{line}\n"),
+    };
+    rows.lines().map(line).collect()
+}
+
+/// The proved walk-through prints the same rows, drawn the same but for alignment: its first call is named open, and it shows where the morning reads.
 #[test]
 fn walkthrough() {
     let rows = MORNING.split_inclusive("\n\n");
@@ -90,7 +102,7 @@ fn walkthrough() {
     let rows = rows.replacen("pool ", "open ", 1);
     let walked = WALKED.split_inclusive("\n\n");
     let walked: String = walked.filter(|row| !row.starts_with("show ")).collect();
-    assert_eq!(rows, walked);
+    assert_eq!(unaligned(&rows), unaligned(&walked));
 }
 
 /// Its shows see the bytes that the interface for Rust shows after the same calls, and where: in the scratch before the pullup, in storage after it.
@@ -253,8 +265,8 @@ list 0 -> 2
   512 9
 list 2 -> 0
 list 3 -> 3 SLIP
-dup 0 -> slip 1
-cut 0 1 2 -> slip 3
+dup 0 -> slip 1.1
+cut 0 1 2 -> slip 3.1
 keep 0 8 -> done
 drop 0 6 -> done
 pullup 0 2 -> done
@@ -268,6 +280,76 @@ read 0 0 4294967295 -> 6 RANGE
     assert_eq!(answers(calls), wanted);
     let windows = calls.replace('\n', "\r\n");
     assert_eq!(answers(&windows), wanted);
+}
+
+/// Slips are written and read by number and serial; once one is given up, its old name is refused.
+#[test]
+fn serials() {
+    let wanted = "\
+pool 4 6 4 -> done
+put 600 -> slip 0
+dup 0 -> slip 1
+free 0 -> done
+length 0 -> 3 SLIP
+length 0.1 -> 3 SLIP
+cut 1 500 50 -> slip 0.1
+length 0 -> 3 SLIP
+length 0.1 -> 50
+append 0.1 0 -> 3 SLIP
+append 0 0 -> 3 SLIP
+append 0.1 0.1 -> 4 SAME
+append 1 0.1 -> done
+free 0.1 -> 3 SLIP
+put \"again\" -> slip 0.2
+free 0.1 -> 3 SLIP
+free 0.2 -> done
+put 10 -> slip 0.3
+free 1.65535 -> 3 SLIP
+length 1 -> 650
+pool 4 6 4 -> done
+put 10 -> slip 0
+";
+    let call = |line: &str| line.split_once(" -> ").expect("an answer").0.to_string() + "\n";
+    let calls: String = wanted.lines().map(call).collect();
+    assert_eq!(answers(&calls), wanted);
+    // The same in other digits.
+    let longer = calls.replace("length 1\n", "length 001.0  # in full\n");
+    assert_eq!(answers(&longer), wanted);
+}
+
+/// A saved pool keeps its serials: they are drawn, and a list is asked by them. A spent slip is drawn as such.
+#[test]
+fn saved_serials() {
+    let place = directory("saved-serials");
+    let (pool, storage) = (named(&place, "pool"), named(&place, "storage"));
+    let calls = b"pool 4 6 4\nput 600\ndup 0\nfree 0\ncut 1 500 50\n";
+    let left = slp(&["save", "-", &pool, &storage], calls);
+    assert_eq!((left.err.as_str(), left.status), ("", 0));
+    let left = slp(&["list", &pool, &storage, "0.1"], b"");
+    assert_eq!((left.out.as_str(), left.status), ("500 12\n512 38\n", 0));
+    let left = slp(&["list", &pool, &storage, "0"], b"");
+    assert!(left.err.contains("list 0: 3 SLIP"), "{}", left.err);
+    assert_eq!((left.out.as_str(), left.status), ("", 2));
+
+    // Slip 3 comes to its last serial.
+    let mut bytes = fs::read(&pool).unwrap();
+    bytes[11 + 4 * 3 + 2..][..2].copy_from_slice(&[255, 255]);
+    fs::write(&pool, bytes).unwrap();
+    let left = slp(&["audit", &pool, &storage], b"");
+    assert_eq!((left.out.as_str(), left.status), ("audit -> done\n", 0));
+    let drawing = "\
+slip 0.1       50 bytes  p0[b0 500+12] > p3[b1 0+38]
+slip 1        600 bytes  p2[b0 0+512] > p1[b1 0+88]
+slip 2        vacant
+slip 3.65535  vacant and spent: not given again until an open
+buffers  b0 x2  b1 x2  b2 free  b3 free
+pieces   4 in use, 2 free
+";
+    let left = slp(&["draw", &pool, &storage], b"");
+    assert_eq!((left.out.as_str(), left.status), (drawing, 0));
+    let left = slp(&["draw", &pool, &storage, "--svg"], b"");
+    xml::elements(&left.out).expect("well-formed");
+    assert!(left.out.contains(">serial 1<") && left.out.contains(">serial 65535<"));
 }
 
 /// Each bad line, and what is said of it: the place, then what is wrong.
@@ -284,11 +366,47 @@ fn bad_lines() {
         ("append 1", "append takes SLIP SLIP, 1 given"),
         ("list", "list takes SLIP, 0 given"),
         ("list 0 1", "list takes SLIP, 2 given"),
-        ("free x", "free: SLIP 'x' is not a whole number"),
-        ("free -1", "free: SLIP '-1' is not a whole number"),
-        ("free +1", "free: SLIP '+1' is not a whole number"),
+        (
+            "free x",
+            "free: SLIP 'x' is not a slip: NUMBER or NUMBER.SERIAL, each 0 to 65535",
+        ),
+        (
+            "free -1",
+            "free: SLIP '-1' is not a slip: NUMBER or NUMBER.SERIAL, each 0 to 65535",
+        ),
+        (
+            "free +1",
+            "free: SLIP '+1' is not a slip: NUMBER or NUMBER.SERIAL, each 0 to 65535",
+        ),
         ("drop 0 5.5", "drop: N '5.5' is not a whole number"),
-        ("free 65536", "free: SLIP '65536' is above 65535"),
+        (
+            "free 65536",
+            "free: SLIP '65536' is not a slip: NUMBER or NUMBER.SERIAL, each 0 to 65535",
+        ),
+        (
+            "free 2.65536",
+            "free: SLIP '2.65536' is not a slip: NUMBER or NUMBER.SERIAL, each 0 to 65535",
+        ),
+        (
+            "free 2.",
+            "free: SLIP '2.' is not a slip: NUMBER or NUMBER.SERIAL, each 0 to 65535",
+        ),
+        (
+            "free .1",
+            "free: SLIP '.1' is not a slip: NUMBER or NUMBER.SERIAL, each 0 to 65535",
+        ),
+        (
+            "cut 2.1.0 0 1",
+            "cut: SLIP '2.1.0' is not a slip: NUMBER or NUMBER.SERIAL, each 0 to 65535",
+        ),
+        (
+            "append 0 2.x",
+            "append: SLIP '2.x' is not a slip: NUMBER or NUMBER.SERIAL, each 0 to 65535",
+        ),
+        (
+            "show 0.-1 1",
+            "show: SLIP '0.-1' is not a slip: NUMBER or NUMBER.SERIAL, each 0 to 65535",
+        ),
         ("pool 65536 1 1", "pool: BUFFERS '65536' is above 65535"),
         (
             "cut 0 4294967296 1",
@@ -405,11 +523,16 @@ fn bad_arguments() {
         ),
         (
             &["list", "a", "b", "x"],
-            "list: SLIP 'x' is not a whole number".to_string(),
+            "list: SLIP 'x' is not a slip: NUMBER or NUMBER.SERIAL, each 0 to 65535".to_string(),
         ),
         (
             &["list", "a", "b", "65536"],
-            "list: SLIP '65536' is above 65535".to_string(),
+            "list: SLIP '65536' is not a slip: NUMBER or NUMBER.SERIAL, each 0 to 65535"
+                .to_string(),
+        ),
+        (
+            &["list", "a", "b", "1."],
+            "list: SLIP '1.' is not a slip: NUMBER or NUMBER.SERIAL, each 0 to 65535".to_string(),
         ),
     ] {
         let left = slp(arguments, b"");
@@ -448,7 +571,7 @@ fn save_audit_draw() {
     // The first four blocks of the morning.
     assert!(MORNING.starts_with(&left.out));
     assert_eq!(left.out.matches("\n\n").count(), 4);
-    assert_eq!(fs::read(&pool).unwrap().len(), 87);
+    assert_eq!(fs::read(&pool).unwrap().len(), 95);
     assert_eq!(fs::read(&storage).unwrap().len(), 2048);
 
     let left = slp(&["audit", &pool, &storage], b"");
@@ -466,7 +589,7 @@ pieces   5 in use, 1 free
 
     // Piece 1 loses a reference that it counts.
     let mut bytes = fs::read(&pool).unwrap();
-    bytes[11 + 8 + 10] = 1;
+    bytes[11 + 16 + 10] = 1;
     fs::write(&pool, bytes).unwrap();
     let left = slp(&["audit", &pool, &storage], b"");
     let torn = "audit -> 2 TORN\n  piece 1 has count 1, references 2\n";
@@ -501,10 +624,10 @@ fn list() {
         assert_eq!((left.out.as_str(), left.err.as_str()), (records, ""));
         assert_eq!(left.status, 0);
     }
-    // Slip 2 is vacant, slip 4 is none.
-    for slip in ["2", "4", "65535"] {
+    // Slip 2 is vacant, slip 4 is none, slip 0 is held at serial 0.
+    for slip in ["2", "2.1", "4", "65535", "0.1", "65535.65535"] {
         let left = slp(&["list", &pool, &storage, slip], b"");
-        let what = "3 SLIP: a named slip is S or more, or vacant";
+        let what = "3 SLIP: a named slip is S or more, or vacant, or its serial is another";
         assert_eq!(left.err, format!("{pool}: list {slip}: {what}\n"));
         assert_eq!((left.out.as_str(), left.status), ("", 2));
     }
@@ -512,7 +635,7 @@ fn list() {
     assert_eq!(fs::read(&storage).unwrap(), before.1);
 
     // Torn, with what was found, also where the slip is none.
-    fs::write(&pool, [&before.0[..86], &[7]].concat()).unwrap();
+    fs::write(&pool, [&before.0[..94], &[7]].concat()).unwrap();
     for slip in ["0", "9"] {
         let left = slp(&["list", &pool, &storage, slip], b"");
         let what = "2 TORN: the pool isn't sound; buffer 3 has count 1792, pieces 0";

@@ -9,8 +9,8 @@ use std::time::Instant;
 
 use common::compare;
 use common::damage;
-use common::library;
-use common::model::{Call, Slip, Tables, TRUE};
+use common::library::{self, slip_of};
+use common::model::{Call, Name, Slip, Tables, LAST, SLIP, TRUE, VERSION};
 use common::random::{self, Random, Shape, LARGEST, SHAPES};
 use common::sequence::{largest, pools, setting, List};
 use fulcrumnest::{calls, ffi};
@@ -65,7 +65,7 @@ impl Pair {
                 (slip, looks(random, tables, slip))
             }
             None => {
-                let slip = random.below(3) as u16;
+                let slip = Name::from(random.below(3) as u16);
                 (slip, any_looks(random, slip))
             }
         };
@@ -87,7 +87,7 @@ impl Pair {
 }
 
 /// A call of each kind that is lent something to write, for a sound pool.
-fn looks(random: &mut Random, tables: &Tables, slip: u16) -> [Call; 4] {
+fn looks(random: &mut Random, tables: &Tables, slip: Name) -> [Call; 4] {
     [
         random::read(random, tables, slip, 20),
         random::show(random, tables, slip, 20),
@@ -97,7 +97,7 @@ fn looks(random: &mut Random, tables: &Tables, slip: u16) -> [Call; 4] {
 }
 
 /// The same where the pool is torn, so that no argument matters.
-fn any_looks(random: &mut Random, slip: u16) -> [Call; 4] {
+fn any_looks(random: &mut Random, slip: Name) -> [Call; 4] {
     let reading = Call::Read {
         slip,
         offset: random.below(3) as u32,
@@ -120,15 +120,25 @@ fn any_looks(random: &mut Random, slip: u16) -> [Call; 4] {
     [reading, showing, listing, stretches]
 }
 
-fn held_slip(random: &mut Random, tables: &Tables) -> u16 {
+/// A held slip, now and then any number or another serial.
+fn held_slip(random: &mut Random, tables: &Tables) -> Name {
     let held: Vec<u16> = (0..tables.slips.len())
         .filter(|i| tables.slips[*i] != Slip::Vacant)
         .map(|i| i as u16)
         .collect();
     if held.is_empty() || random.once_in(12) {
-        return random.below(tables.slips.len() as u64 + 2) as u16;
+        let any = random.below(tables.slips.len() as u64 + 2) as u16;
+        return Name::new(any, random::other_serial(random, tables, any));
     }
-    random.pick(&held)
+    tables.name(random.pick(&held))
+}
+
+/// The slip of this number as it is called, or with serial 0 if there is none.
+fn named(tables: &Tables, number: u16) -> Name {
+    match (number as usize) < tables.slips.len() {
+        true => tables.name(number),
+        false => Name::from(number),
+    }
 }
 
 /// Every slip, every border and every kind of output and scratch, on sound pools.
@@ -141,9 +151,10 @@ fn sound_pools() {
         let random = &mut list.random;
         pair.compare(&from, &list.pool, &list.storage, &Call::Audit);
         let s = tables.slips.len() as u16;
-        for slip in (0..s).chain([s, s + 1, 255, 256, u16::MAX]) {
+        for number in (0..s).chain([s, s + 1, 255, 256, u16::MAX]) {
+            let slip = named(&tables, number);
             pair.compare(&from, &list.pool, &list.storage, &Call::Length { slip });
-            let chain = tables.held(slip).map(|state| tables.chain(state));
+            let chain = tables.state(number).map(|state| tables.chain(state));
             let spans = tables.spans(&chain.unwrap_or_default());
             let whole = spans.last().map_or(0, |(_, end)| *end);
             // Show around the first piece's end, the chain's end and the most of 512.
@@ -207,6 +218,33 @@ fn sound_pools() {
     pair.print("sound pools");
     assert!(pair.sound > 0 && pair.torn == 0);
     assert!(pair.calls > 100_000);
+}
+
+/// Every slip by every kind of wrong serial, and numbers of S or more by any: each look is refused with 3.
+#[test]
+fn wrong_serials() {
+    let mut pair = Pair::new();
+    for (seed, mut list) in pools(200, 60) {
+        let from = format!("seed {seed}, shape {:?}", list.shape);
+        let tables = Tables::parse(&list.pool, &list.storage).expect("sound");
+        let s = tables.slips.len() as u16;
+        for number in (0..s).chain([s, s + 1, 2 * s, 255, 256, u16::MAX]) {
+            for _ in 0..4 {
+                let serial = random::other_serial(&mut list.random, &tables, number);
+                let slip = Name::new(number, serial);
+                if tables.held(slip).is_some() {
+                    continue;
+                }
+                let looks = looks(&mut list.random, &tables, slip);
+                for call in looks.iter().chain([&Call::Length { slip }]) {
+                    let code = pair.compare(&from, &list.pool, &list.storage, call);
+                    assert_eq!(code, SLIP, "{from}: {}", call.brief());
+                }
+            }
+        }
+    }
+    pair.print("wrong serials");
+    assert!(pair.calls > 20_000);
 }
 
 /// Each field of each entry off by one, up and down.
@@ -287,16 +325,18 @@ fn largest_pools() {
     for (what, mut list) in largest() {
         let tables = Tables::parse(&list.pool, &list.storage).expect("sound");
         let last = LARGEST.2 - 1;
-        for slip in [0, 1, 2, last / 2, last - 1, last, last + 1] {
+        for number in [0, 1, 2, last / 2, last - 1, last, last + 1] {
+            let slip = named(&tables, number);
             pair.compare(what, &list.pool, &list.storage, &Call::Length { slip });
             for call in looks(&mut list.random, &tables, slip) {
                 pair.compare(what, &list.pool, &list.storage, &call);
             }
         }
+        let slip = tables.name(last);
         let mut visit = |damage: &str, pool: &[u8], storage: &[u8]| {
             let from = format!("{what}, {damage}");
             pair.compare(&from, pool, storage, &Call::Audit);
-            pair.compare(&from, pool, storage, &Call::Length { slip: last });
+            pair.compare(&from, pool, storage, &Call::Length { slip });
         };
         visit("whole", &list.pool, &list.storage);
         damage::borders(&list.pool, &list.storage, &mut visit);
@@ -328,12 +368,14 @@ fn every_small_pool() {
     let mut pair = Pair::new();
     let mut visit = |pool: &[u8], storage: &[u8]| {
         pair.compare("small pool", pool, storage, &Call::Audit);
-        pair.compare("small pool", pool, storage, &Call::Length { slip: 0 });
+        let slip = Name::from(0);
+        pair.compare("small pool", pool, storage, &Call::Length { slip });
     };
-    // Words of one slip, then of count, buffer, offset, length and next, then of a buffer count.
-    let far = 65_535;
+    // Words of one slip and its serial, then of count, buffer, offset, length and next, then of a buffer count.
+    let far = LAST as u16;
     let one = [
         &[0, 1, 2, 3, far][..],
+        &[0, 1, far][..],
         &[0, 1, 2][..],
         &[0, 1][..],
         &[0, 1, 511, 512, far][..],
@@ -351,12 +393,19 @@ fn every_small_pool() {
     ];
     let slip = &[0, 1, 2, 3, 4][..];
     let count = &[0, 1, 2, 3][..];
-    let two = [&[slip, slip][..], &piece, &piece, &[count]].concat();
+    let (serial, far_too) = (&[0][..], [0, far]);
+    let two = [
+        &[slip, &far_too, slip, serial][..],
+        &piece,
+        &piece,
+        &[count],
+    ]
+    .concat();
     every_pool((1, 2, 2), &two, &mut visit);
     // Three pieces on one buffer: every way in which they may point at each other.
     let free_or_used = [count, &[0], &[0], &[1], &[0, 1, 2, 3]];
     let three = [
-        &[&[0, 2, 3, 4][..], &[0, 4][..]][..],
+        &[&[0, 2, 3, 4][..], serial, &[0, 4][..], serial][..],
         &free_or_used,
         &free_or_used,
         &free_or_used,
@@ -371,19 +420,19 @@ fn every_small_pool() {
 /// All pools of the shape whose words are drawn from these lists, each with its storage.
 fn every_pool(shape: Shape, lists: &[&[u16]], visit: &mut dyn FnMut(&[u8], &[u8])) {
     let (b, p, s) = shape;
-    assert_eq!(lists.len(), (s + 5 * p + b) as usize);
+    assert_eq!(lists.len(), (2 * s + 5 * p + b) as usize);
     let storage = vec![3; 512 * b as usize];
     let mut turn = vec![0; lists.len()];
     loop {
         let words: Vec<u16> = lists.iter().zip(&turn).map(|(l, i)| l[*i]).collect();
         let mut pool = b"SLP".to_vec();
-        for word in [1, b, p, s].iter().chain(&words) {
+        for word in [VERSION as u16, b, p, s].iter().chain(&words) {
             pool.extend(word.to_le_bytes());
         }
         // Where the list fixes the length, a piece with count 0 gets none, so that it can be free.
         for d in 0..p as usize {
-            let at = 11 + 2 * s as usize + 10 * d;
-            if pool[at] == 0 && lists[s as usize + 5 * d + 3].len() == 1 {
+            let at = 11 + 4 * s as usize + 10 * d;
+            if pool[at] == 0 && lists[2 * s as usize + 5 * d + 3].len() == 1 {
                 pool[at + 6] = 0;
             }
         }
@@ -418,8 +467,8 @@ fn open_of_every_shape() {
             (b - 1, p, s),
             (b, p - 1, s),
             (b, p, s - 1),
-            (b, p - 1, s + 5),
-            (b, p + 1, s.wrapping_sub(5)),
+            (b, p.wrapping_sub(2), s + 5),
+            (b, p + 2, s.wrapping_sub(5)),
             (b.wrapping_sub(5), p + 1, s),
             (s, p, b),
             (0, p, s),
@@ -465,7 +514,7 @@ fn null_pointers() {
         assert_eq!(pair(ffi::slp_audit(at, size, null(), 0)), (2, 0));
         assert_eq!(pair(ffi::slp_audit(null(), 0, stored, room)), (2, 0));
         assert_eq!(pair(ffi::slp_audit(at, size, stored, room)), (0, 0));
-        assert_eq!(pair(ffi::slp_length(null(), 0, null(), 0, 0)), (2, 0));
+        assert_eq!(pair(ffi::slp_length(null(), 0, null(), 0, 0, 0)), (2, 0));
         assert_eq!(
             pair(ffi::slp_open(null_mut(), 0, null_mut(), 0, 1, 1, 1)),
             (1, 0)
@@ -483,30 +532,35 @@ fn null_pointers() {
             (1, 0)
         );
         // Slip 0 is empty, slip 1 has 600 bytes.
-        for (slip, offset, length, wanted) in [
-            (0, 0, 0, (0, 0)),
-            (1, 0, 0, (0, 0)),
-            (1, 600, 0, (0, 0)),
-            (1, 601, 0, (6, 0)),
-            (1, 0, 1, (7, 0)),
-            (2, 0, 0, (3, 0)),
+        for (slip, serial, offset, length, wanted) in [
+            (0, 0, 0, 0, (0, 0)),
+            (1, 0, 0, 0, (0, 0)),
+            (1, 1, 0, 0, (3, 0)),
+            (1, 0, 600, 0, (0, 0)),
+            (1, 0, 601, 0, (6, 0)),
+            (1, 0, 0, 1, (7, 0)),
+            (2, 0, 0, 0, (3, 0)),
         ] {
-            let answer = ffi::slp_read(at, size, stored, room, slip, offset, length, null_mut(), 0);
+            let (output, none) = (null_mut(), 0);
+            let answer = ffi::slp_read(
+                at, size, stored, room, slip, serial, offset, length, output, none,
+            );
             assert_eq!(pair(answer), wanted);
         }
-        for (slip, n, wanted) in [
-            (0, 0, (0, 0, 0, 0)),
-            (1, 0, (0, 0, 0, 0)),
-            (1, 512, (0, 512, 0, 0)),
-            (1, 513, (5, 0, 0, 0)),
-            (0, 1, (6, 0, 0, 0)),
-            (2, 0, (3, 0, 0, 0)),
+        for (slip, serial, n, wanted) in [
+            (0, 0, 0, (0, 0, 0, 0)),
+            (1, 0, 0, (0, 0, 0, 0)),
+            (1, 0, 512, (0, 512, 0, 0)),
+            (1, 65_535, 512, (3, 0, 0, 0)),
+            (1, 0, 513, (5, 0, 0, 0)),
+            (0, 0, 1, (6, 0, 0, 0)),
+            (2, 0, 0, (3, 0, 0, 0)),
         ] {
-            let shown = ffi::slp_show(at, size, stored, room, slip, n, null_mut(), 0);
+            let shown = ffi::slp_show(at, size, stored, room, slip, serial, n, null_mut(), 0);
             let got = (shown.code, shown.number, shown.in_scratch, shown.start);
             assert_eq!(got, wanted);
         }
-        let shown = ffi::slp_show(null(), 0, null(), 0, 0, 0, null_mut(), 0);
+        let shown = ffi::slp_show(null(), 0, null(), 0, 0, 0, 0, null_mut(), 0);
         assert_eq!((shown.code, shown.number), (2, 0));
     }
     assert_eq!((pool, storage), (list.pool, list.storage));
@@ -521,15 +575,15 @@ fn null_pointers_of_lists() {
     let pair = |answer: ffi::Answer| (answer.code, answer.number);
     // The pointers come from live slices or are null with length 0.
     unsafe {
-        for (slip, wanted) in [(0, (0, 0)), (1, (7, 0)), (2, (3, 0))] {
-            let answer = ffi::slp_list(at, size, stored, room, slip, null_mut(), 0);
-            assert_eq!(pair(answer), wanted);
-            let answer = ffi::slp_stretches(at, size, stored, room, slip, null_mut(), 0);
-            assert_eq!(pair(answer), wanted);
+        for (slip, serial, code) in [(0, 0, 0), (0, 1, 3), (1, 0, 7), (1, 1, 3), (2, 0, 3)] {
+            let answer = ffi::slp_list(at, size, stored, room, slip, serial, null_mut(), 0);
+            assert_eq!(pair(answer), (code, 0));
+            let answer = ffi::slp_stretches(at, size, stored, room, slip, serial, null_mut(), 0);
+            assert_eq!(pair(answer), (code, 0));
         }
-        let answer = ffi::slp_list(null(), 0, null(), 0, 0, null_mut(), 0);
+        let answer = ffi::slp_list(null(), 0, null(), 0, 0, 0, null_mut(), 0);
         assert_eq!(pair(answer), (2, 0));
-        let answer = ffi::slp_stretches(null(), 0, null(), 0, 0, null_mut(), 0);
+        let answer = ffi::slp_stretches(null(), 0, null(), 0, 0, 0, null_mut(), 0);
         assert_eq!(pair(answer), (2, 0));
     }
 }
@@ -567,8 +621,9 @@ fn view_holds_what_the_model_reads() {
     let mut seen = [0, 0, 0];
     for (seed, list) in pools(200, 40) {
         let tables = Tables::parse(&list.pool, &list.storage).expect("sound");
-        for slip in 0..=tables.slips.len() as u16 {
-            let held = tables.held(slip);
+        for number in 0..=tables.slips.len() as u16 {
+            let name = named(&tables, number);
+            let (held, slip) = (tables.held(name), slip_of(name));
             let bytes = held.map(|held| tables.read(&list.storage, &tables.chain(held)));
             let whole = bytes.as_ref().map_or(0, |bytes| bytes.len() as u32);
             for n in [0, 1, whole / 2, whole, whole + 1, 512, 513] {
@@ -597,7 +652,8 @@ fn view_reads_the_same() {
     let mut views = [0, 0];
     for (seed, list) in pools(200, 40) {
         let tables = Tables::parse(&list.pool, &list.storage).expect("sound");
-        for slip in 0..tables.slips.len() as u16 {
+        for number in 0..tables.slips.len() as u16 {
+            let slip = slip_of(tables.name(number));
             let whole = calls::length(&list.pool, &list.storage, slip);
             if whole.code != 0 {
                 continue;

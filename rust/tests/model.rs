@@ -5,8 +5,8 @@ mod common;
 
 use std::time::Instant;
 
-use common::desk::{by_model, Desk};
-use common::model::{Call, Tables, TRUE};
+use common::desk::{by_model, cut, dup, Desk};
+use common::model::{Call, Name, Tables, LAST, TRUE};
 use common::morning::{Full, FULL};
 use common::random::{self, SHAPES};
 use common::recount::recount;
@@ -98,6 +98,55 @@ fn full_exactly_when() {
     }
 }
 
+/// The recount leaves spent slips out of those vacant: only they are no room, and any answer but 8 is denied.
+#[test]
+fn full_where_all_are_spent() {
+    let mut list = List::start(3, Some((2, 4, 3)));
+    let mut tables = Tables::parse(&list.pool, &list.storage).expect("sound");
+    for (serials, slips) in [
+        ([0, 0, 0], 3),
+        ([LAST, 0, LAST - 1], 2),
+        ([LAST, LAST, LAST - 1], 1),
+        ([LAST; 3], 0),
+    ] {
+        tables.serials = serials.to_vec();
+        list.pool = tables.bytes();
+        let before = recount(&list.pool).expect("a sound pool");
+        assert_eq!(before.room(), (slips, 4, 2));
+        let call = Call::Put { data: vec![9; 600] };
+        let mut after = TRUE.step(&list.pool, &list.storage, &call);
+        let code = if slips == 0 { 8 } else { 0 };
+        assert_eq!(after.code, code);
+        assert!(demand_three(&before, &call, &after).is_ok());
+        for wrong in [0, 8, 9, 10].into_iter().filter(|wrong| *wrong != code) {
+            after.code = wrong;
+            assert!(demand_three(&before, &call, &after).is_err());
+        }
+    }
+}
+
+/// The recount finds nothing wanted by a wrong serial: full is never said of it.
+#[test]
+fn full_by_the_right_name_only() {
+    let mut desk = Desk::open(by_model, 1, 1, 1);
+    desk.put(10, 0);
+    desk.set_serials(&[7]);
+    let before = recount(&desk.pool).expect("a sound pool");
+    for (serial, full) in [
+        (7, Some(8)),
+        (6, None),
+        (8, None),
+        (0, None),
+        (65_535, None),
+    ] {
+        for call in [dup((0, serial)), cut((0, serial), 0, 5)] {
+            assert_eq!(before.full(&call), full, "{}", call.brief());
+            let after = TRUE.step(&desk.pool, &desk.storage, &call);
+            assert_eq!(after.code, full.unwrap_or(3), "{}", call.brief());
+        }
+    }
+}
+
 /// Full is judged by what drop and pullup give back: of the full tables each other answer is denied.
 #[test]
 fn full_by_what_is_given_back() {
@@ -127,7 +176,11 @@ fn lists_only_look() {
         list.run(80);
         let before = recount(&list.pool).expect("the model's own pool");
         let tables = Tables::parse(&list.pool, &list.storage).expect("sound");
-        for slip in 0..=list.shape.2 {
+        for slip in 0..=tables.slips.len() as u16 {
+            let slip = match list.random.once_in(4) || slip as usize == tables.slips.len() {
+                true => Name::new(slip, random::other_serial(&mut list.random, &tables, slip)),
+                false => tables.name(slip),
+            };
             for call in [
                 random::list(&mut list.random, &tables, slip),
                 random::stretches(&mut list.random, &tables, slip),

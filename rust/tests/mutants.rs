@@ -31,7 +31,8 @@ impl Suspect<'_> {
     /// The first call of a random list that tells them apart, and then of random gathers, which
     /// come in no list, since they are lent no pool.
     fn by_list(&mut self, list: &mut List) -> Option<String> {
-        for _ in 0..200 {
+        for made in 0..200 {
+            list.wear(made);
             let call = list.call();
             let (different, wanted) = self.differs(&list.pool, &list.storage, &call);
             if different {
@@ -88,7 +89,7 @@ fn caught_after(mutant: &dyn Rules, first_seed: u64) -> Option<(u64, String)> {
 
 #[test]
 fn each_mutant_is_caught() {
-    assert!(MUTATIONS.len() >= 67, "{} mutants", MUTATIONS.len());
+    assert!(MUTATIONS.len() >= 99, "{} mutants", MUTATIONS.len());
     let mut free = Vec::new();
     for (name, mutant) in MUTATIONS {
         match caught_after(*mutant, 100) {

@@ -54,13 +54,90 @@ fn vacant_slips_at_the_end() {
         for _ in 0..11 {
             pool.put(&[]).unwrap();
         }
-        pool.free(Slip(1)).unwrap();
+        pool.free(Slip::new(1, 0)).unwrap();
     });
     let lines: Vec<&str> = text.lines().collect();
-    assert_eq!(lines[0], "slip 0   0 bytes  empty");
-    assert_eq!(lines[1], "slip 1   vacant");
-    assert_eq!(lines[10], "slip 10  0 bytes  empty");
-    assert_eq!(lines[11], "slip 11  vacant");
+    assert_eq!(lines[0], "slip 0    0 bytes  empty");
+    assert_eq!(lines[1], "slip 1.1  vacant");
+    assert_eq!(lines[10], "slip 10   0 bytes  empty");
+    assert_eq!(lines[11], "slip 11   vacant");
+}
+
+/// A pool of so many slips and what it holds at these serials: slip 0 a part of what slip 1 holds.
+fn at_serials(slips: u16, serials: &[u16]) -> (Vec<u8>, Vec<u8>) {
+    let shape = Shape {
+        buffers: 4,
+        pieces: 6,
+        slips,
+    };
+    let mut pool = vec![0; fulcrumnest::pool_length(shape)];
+    let mut storage = vec![0; fulcrumnest::storage_length(4)];
+    let mut open = Pool::open(&mut pool, &mut storage, shape).unwrap();
+    let first = open.put(&data(600)).unwrap();
+    let second = open.dup(first).unwrap();
+    open.free(first).unwrap();
+    open.cut(second, 500, 50).unwrap();
+    for (slip, serial) in serials.iter().enumerate() {
+        pool[13 + 4 * slip..][..2].copy_from_slice(&serial.to_le_bytes());
+    }
+    (pool, storage)
+}
+
+/// A slip is named with its serial where that is not 0; a spent one, which is vacant, is marked.
+#[test]
+fn serials_and_spent_slips() {
+    let (pool, storage) = at_serials(4, &[]);
+    let wanted = "\
+slip 0.1   50 bytes  p0[b0 500+12] > p3[b1 0+38]
+slip 1    600 bytes  p2[b0 0+512] > p1[b1 0+88]
+slip 2    vacant
+slip 3    vacant
+buffers  b0 x2  b1 x2  b2 free  b3 free
+pieces   4 in use, 2 free";
+    assert_eq!(Picture::new(&pool, &storage).to_string(), wanted);
+    let (pool, storage) = at_serials(4, &[1, 65_535, 65_535, 65_534]);
+    let wanted = "\
+slip 0.1       50 bytes  p0[b0 500+12] > p3[b1 0+38]
+slip 1.65535  600 bytes  p2[b0 0+512] > p1[b1 0+88]
+slip 2.65535  vacant and spent: not given again until an open
+slip 3.65534  vacant
+buffers  b0 x2  b1 x2  b2 free  b3 free
+pieces   4 in use, 2 free";
+    assert_eq!(Picture::new(&pool, &storage).to_string(), wanted);
+}
+
+/// At the end of a large pool only vacant slips at serial 0 share a line.
+#[test]
+fn vacant_slips_with_serials() {
+    let (pool, storage) = at_serials(12, &[0, 0, 0, 0, 0, 0, 0, 0, 65_535, 3]);
+    let text = Picture::new(&pool, &storage).to_string();
+    let lines: Vec<&str> = text.lines().collect();
+    assert_eq!(lines[7], "slip 7        vacant");
+    let spent = "slip 8.65535  vacant and spent: not given again until an open";
+    assert_eq!(lines[8], spent);
+    assert_eq!(lines[9], "slip 9.3      vacant");
+    assert_eq!(lines[10], "slips 10 to 11  vacant");
+    assert_eq!(lines.len(), 13);
+}
+
+/// The drawing has each serial that is not 0 under its slip, and says which slips are spent.
+#[test]
+fn serials_in_the_drawing() {
+    let (pool, storage) = at_serials(4, &[0; 4]);
+    let svg = Picture::new(&pool, &storage).svg().to_string();
+    assert!(!svg.contains("serial") && !svg.contains("spent"));
+    let (pool, storage) = at_serials(4, &[1, 65_535, 65_535, 7]);
+    let svg = Picture::new(&pool, &storage).svg().to_string();
+    let count = |text: &str| svg.matches(text).count();
+    assert_eq!(count(">serial 1<") + count(">serial 7<"), 2);
+    assert_eq!(count(">serial 65535<"), 2);
+    assert_eq!(
+        count(">vacant and spent: not given again until an open<"),
+        1
+    );
+    assert_eq!(count(">vacant<"), 1);
+    assert_eq!(boxes(&svg).len(), 4);
+    apart(&boxes(&svg), &svg);
 }
 
 /// One box for each piece in use, and each in the lane of a slip.
@@ -128,6 +205,7 @@ fn slips_as_the_model_has_them() {
         let text = Picture::new(&list.pool, &list.storage).to_string();
         let tables = Tables::parse(&list.pool, &list.storage).expect("sound");
         for slip in 0..tables.slips.len() as u16 {
+            let slip = tables.name(slip);
             let Some(state) = tables.held(slip) else {
                 continue;
             };
@@ -145,6 +223,7 @@ fn slips_as_the_model_has_them() {
                 true => "0 bytes  empty".to_string(),
                 false => format!("{} bytes  {}", tables.length(&chain), pieces.join(" > ")),
             };
+            let slip = Slip::new(slip.number, slip.serial);
             let name = format!("slip {slip} ");
             let line = text.lines().find(|line| line.starts_with(&name));
             let line = line.unwrap_or_else(|| panic!("seed {seed}: no {name}"));
@@ -193,9 +272,9 @@ fn torn_pools() {
 fn a_ring_of_all_pieces() {
     let words = |words: &[u16]| -> Vec<u8> { words.iter().flat_map(|w| w.to_le_bytes()).collect() };
     let (b, p, s) = LARGEST;
-    let mut pool = [b"SLP".to_vec(), words(&[1, b, p, s])].concat();
+    let mut pool = [b"SLP".to_vec(), words(&[2, b, p, s])].concat();
     for slip in 0..s {
-        pool.extend(words(&[2 + slip]));
+        pool.extend(words(&[2 + slip, 0]));
     }
     for d in 0..p {
         let next = 1 + (d + 1) % p;
@@ -223,7 +302,7 @@ fn a_ring_of_all_pieces() {
 #[test]
 fn any_bytes() {
     let mut random = Random::new(setting("FULCRUMNEST_SEED", 5));
-    for length in (0..400).chain([2_955, 23_051, 100_000]) {
+    for length in (0..400).chain([3_083, 23_563, 100_000]) {
         let pool = random.bytes(length);
         let storage = random.bytes(length % 7 * 512);
         let picture = Picture::new(&pool, &storage);
@@ -246,15 +325,16 @@ fn faults_in_words() {
     let slip = open.put(&data(600)).unwrap();
     open.dup(slip).unwrap();
     // Pieces 0, 1 and 2 are in use; 0 and 2 have piece 1 next. Slips 0 and 1 head 0 and 2.
-    let entry = |d: usize, field: usize| 15 + 10 * d + 2 * field;
+    let entry = |d: usize, field: usize| 19 + 10 * d + 2 * field;
     for (at, word, text) in [
-        (3, 2, "the version is 2, not 1"),
+        (3, 1, "the version is 1, not 2"),
+        (3, 3, "the version is 3, not 2"),
         (
             9,
             257,
             "a count is outside its range: 2 buffers, 4 pieces, 257 slips",
         ),
-        (9, 3, "the pool has 59 bytes, its counts ask 61"),
+        (9, 3, "the pool has 63 bytes, its counts ask 67"),
         (entry(3, 2), 9, "piece 3 has count 0 and is not all zero"),
         (entry(0, 1), 2, "piece 0 lies on buffer 2, which is none"),
         (entry(0, 3), 0, "piece 0 has length 0"),
@@ -265,7 +345,7 @@ fn faults_in_words() {
         (11, 6, "slip 0 heads piece 4, which is none"),
         (11, 5, "slip 0 heads piece 3, which is free"),
         (entry(1, 0), 3, "piece 1 has count 3, references 2"),
-        (55, 1, "buffer 0 has count 1, pieces 2"),
+        (59, 1, "buffer 0 has count 1, pieces 2"),
     ] {
         let mut torn = pool.clone();
         torn[at..at + 2].copy_from_slice(&u16::to_le_bytes(word));

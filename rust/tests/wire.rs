@@ -6,8 +6,8 @@ mod common;
 
 use common::compare;
 use common::library;
-use common::model::{Call, Tables, TRUE};
-use common::random::Random;
+use common::model::{Call, Name, Tables, TRUE};
+use common::random::{self, Random};
 use common::sequence::{pools, setting};
 use common::wire;
 use fulcrumnest::calls;
@@ -19,8 +19,13 @@ fn lists_of_sound_pools() {
     for (seed, list) in pools(300, 60) {
         let tables = Tables::parse(&list.pool, &list.storage).expect("sound");
         let mut random = Random::new(seed);
-        for slip in (0..list.shape.2 + 2).chain([255, 256, u16::MAX]) {
-            let chain = tables.held(slip).map(|state| tables.chain(state));
+        let slips = tables.slips.len() as u16;
+        for slip in (0..slips + 2).chain([255, 256, u16::MAX]) {
+            let slip = match slip < slips && !random.once_in(8) {
+                true => tables.name(slip),
+                false => Name::new(slip, random::other_serial(&mut random, &tables, slip)),
+            };
+            let chain = tables.state(slip.number).map(|state| tables.chain(state));
             let pieces = chain.map_or(0, |chain| chain.len());
             for call in lists(&mut random, slip, pieces) {
                 let wanted = TRUE.step(&list.pool, &list.storage, &call);
@@ -40,7 +45,7 @@ fn lists_of_sound_pools() {
 }
 
 /// Lists from none to some past a chain of few pieces, and around the length of a long one.
-fn lists(random: &mut Random, slip: u16, pieces: usize) -> Vec<Call> {
+fn lists(random: &mut Random, slip: Name, pieces: usize) -> Vec<Call> {
     let most = 2 * pieces + 3;
     let lengths = (0..=most).filter(|n| pieces <= 6 || n % pieces <= 3 || *n >= 2 * pieces - 3);
     let mut calls = Vec::new();

@@ -11,7 +11,7 @@
 #include <stdlib.h>
 #include <string.h>
 
-enum { P = SLP_MOST_PIECES, S = SLP_MOST_SLIPS, B = 1, SPINE = P - S + 1, PIECES = 11 + 2 * S, COUNTS = PIECES + 10 * P };
+enum { P = SLP_MOST_PIECES, S = SLP_MOST_SLIPS, B = 1, SPINE = P - S + 1, PIECES = 11 + 4 * S, COUNTS = PIECES + 10 * P };
 
 static uint8_t pool[SLP_POOL_LENGTH(B, P, S)], storage[SLP_STORAGE_LENGTH(B)];
 
@@ -66,8 +66,8 @@ static void write_pool(void)
     for (unsigned s = 0; s < S; s++)
         if (head[s]) count[head[s] - 1]++;
     memcpy(pool, "SLP", 3);
-    put16(3, 1), put16(5, B), put16(7, P), put16(9, S);
-    for (unsigned s = 0; s < S; s++) put16(11 + 2 * s, head[s] ? head[s] + 1 : 0);
+    put16(3, 2), put16(5, B), put16(7, P), put16(9, S);
+    for (unsigned s = 0; s < S; s++) put16(11 + 4 * s, head[s] ? head[s] + 1 : 0);
     for (unsigned d = 0; d < P; d++) {
         put16(PIECES + 10 * d, count[d]);
         put16(PIECES + 10 * d + 6, count[d] > 0);

@@ -1,7 +1,7 @@
 /*
  * The calls from C, beside document 01: the ten marked rows of its morning with answers and every byte, its edges, full tables of pieces, the
- * refusals, the two views of show, the wire lists and their reader, and the macros of slp.h. What is lent stands in memory of exactly its
- * length, so that a checker of memory sees one byte too far.
+ * serials of slips and spent ones, the refusals, the two views of show, the wire lists and their reader, and the macros of slp.h. What is lent
+ * stands in memory of exactly its length, so that a checker of memory sees one byte too far.
  * C11 and C++17 alike. Exit status 0 only where every check holds.
  */
 #include <slp.h>
@@ -16,15 +16,23 @@ static_assert(sizeof(slp_answer) == 8 && offsetof(slp_answer, number) == 4, "slp
 static_assert(sizeof(slp_shown) == 16 && offsetof(slp_shown, in_scratch) == 8 && offsetof(slp_shown, start) == 12, "slp_shown");
 static_assert(sizeof(slp_gathered) == 16 && offsetof(slp_gathered, number) == 8 && sizeof(((slp_gathered *)0)->number) == 8, "slp_gathered");
 static_assert(sizeof(slp_stretch) == 8 && offsetof(slp_stretch, position) == 0 && offsetof(slp_stretch, length) == 4, "slp_stretch");
-static_assert(SLP_POOL_LENGTH(4, 6, 4) == 87 && SLP_STORAGE_LENGTH(4) == 2048, "lengths");
+static_assert(SLP_POOL_LENGTH(4, 6, 4) == 95 && SLP_STORAGE_LENGTH(4) == 2048, "lengths");
 static_assert(SLP_DONE == 0 && SLP_COUNTS == 1 && SLP_TORN == 2 && SLP_SLIP == 3 && SLP_SAME == 4 && SLP_LONG == 5, "codes 0 to 5");
 static_assert(SLP_RANGE == 6 && SLP_NARROW == 7 && SLP_SLIPS == 8 && SLP_PIECES == 9 && SLP_BUFFERS == 10 && SLP_LIST == 11,
               "codes 6 to 11");
-#if SLP_POOL_LENGTH(SLP_MOST_BUFFERS, SLP_MOST_PIECES, SLP_MOST_SLIPS) != 23051 || SLP_STORAGE_LENGTH(SLP_MOST_BUFFERS) != 524288
+static_assert(SLP_NUMBER(0) == 0 && SLP_SERIAL(0) == 0 && SLP_NUMBER(65535) == 65535 && SLP_SERIAL(65535) == 0, "slips at serial 0");
+static_assert(SLP_NUMBER(3 + 65536 * 7) == 3 && SLP_SERIAL(3 + 65536 * 7) == 7, "slip 3 at serial 7");
+static_assert(SLP_NUMBER(UINT32_MAX) == 65535 && SLP_SERIAL(UINT32_MAX) == SLP_LAST_SERIAL && SLP_LAST_SERIAL == 65535, "the last of both");
+static_assert(sizeof(SLP_NUMBER(0)) == 2 && sizeof(SLP_SERIAL(0)) == 2, "16 bits each");
+#if SLP_POOL_LENGTH(SLP_MOST_BUFFERS, SLP_MOST_PIECES, SLP_MOST_SLIPS) != 23563 || SLP_STORAGE_LENGTH(SLP_MOST_BUFFERS) != 524288
 #error "the lengths of the largest pool"
 #endif
 
-enum { OUTPUT = 64, OLD = 0xA5 };
+enum { OUTPUT = 64, OLD = 0xA5, LAST = SLP_LAST_SERIAL };
+
+/* What is answered for a slip at a serial; at serial 0 it is the slip's number alone. And an answered slip as the calls take it. */
+#define AT(slip, serial) ((slip) + 65536u * (serial))
+#define NAME(n) SLP_NUMBER(n), SLP_SERIAL(n)
 
 static unsigned checks, failures;
 
@@ -164,12 +172,12 @@ static slp_answer put(box b, size_t n)
 }
 
 /* Whether a slip reads as n bytes of the morning's data from `from` on. */
-static int reads(box b, uint16_t slip, uint32_t n, uint32_t from)
+static int reads(box b, uint32_t slip, uint32_t n, uint32_t from)
 {
     uint8_t *data = morning_data(from + n);
     uint8_t *out = lend(n, OLD);
-    slp_answer length = slp_length(LENT(b), slip);
-    slp_answer a = slp_read(LENT(b), slip, 0, n, out, n);
+    slp_answer length = slp_length(LENT(b), NAME(slip));
+    slp_answer a = slp_read(LENT(b), NAME(slip), 0, n, out, n);
     int as_wanted = length.code == SLP_DONE && length.number == n && a.code == SLP_DONE && a.number == n
         && memcmp(out, data + from, n) == 0;
     free(out);
@@ -188,26 +196,17 @@ static int listed(const void *list, const uint32_t *wanted, size_t numbers, size
 }
 
 /* Whether a slip's wire list is these records, in numbers and in records, and what is lent past them stays as it is. */
-static int lists(box b, uint16_t slip, size_t records, const uint32_t *wanted)
+static int lists(box b, uint32_t slip, size_t records, const uint32_t *wanted)
 {
     uint32_t *list = (uint32_t *)(void *)lend(4 * (2 * records + 1), OLD);
     slp_stretch *stretches = (slp_stretch *)(void *)lend(8 * (records + 1), OLD);
-    slp_answer flat = slp_list(LENT(b), slip, list, 2 * records + 1);
-    slp_answer whole = slp_stretches(LENT(b), slip, stretches, records + 1);
+    slp_answer flat = slp_list(LENT(b), NAME(slip), list, 2 * records + 1);
+    slp_answer whole = slp_stretches(LENT(b), NAME(slip), stretches, records + 1);
     int as_wanted = flat.code == SLP_DONE && flat.number == records && listed(list, wanted, 2 * records, 1)
         && whole.code == SLP_DONE && whole.number == records && listed(stretches, wanted, 2 * records, 2);
     free(list);
     free(stretches);
     return as_wanted;
-}
-
-/* Whether the pool's tables are those of a fresh one. */
-static int all_zero(box b)
-{
-    for (size_t i = 11; i < b.pool_length; i++) {
-        if (b.pool[i] != 0) return 0;
-    }
-    return 1;
 }
 
 /* The 16-bit number at a position of the pool, low byte first. */
@@ -216,48 +215,80 @@ static unsigned word_at(box b, size_t at)
     return b.pool[at] + 256u * b.pool[at + 1];
 }
 
+/* Where a slip's state and its serial stand, in any pool. */
+static size_t state_at(unsigned slip)
+{
+    return 11 + 4 * slip;
+}
+static size_t serial_at(unsigned slip)
+{
+    return 13 + 4 * slip;
+}
+
+/* Sets a slip's serial, which soundness asks nothing of. */
+static void set_serial(box b, unsigned slip, unsigned serial)
+{
+    b.pool[serial_at(slip)] = (uint8_t)(serial % 256);
+    b.pool[serial_at(slip) + 1] = (uint8_t)(serial / 256);
+}
+
+/* Whether the pool's tables are those of a fresh one, but for the serials. */
+static int fresh_but_serials(box b)
+{
+    size_t slips_end = state_at(word_at(b, 9));
+    for (size_t i = 11; i < b.pool_length; i++) {
+        int of_serial = i < slips_end && (i - 11) % 4 >= 2;
+        if (b.pool[i] != 0 && !of_serial) return 0;
+    }
+    return 1;
+}
+
 /* The entries of a pool for B 4, P 6, S 4. */
 typedef struct {
     uint16_t slip[4];      /* 0 vacant, 1 empty, 2 + d heads piece d */
+    uint16_t serial[4];
     uint16_t piece[6][5];  /* count, buffer, offset, length, next (0 none, 1 + d) */
     uint16_t buffer[4];    /* counts */
 } entries;
 
 /* The entries after each of document 01's rows, row 0 being open. */
 static const entries after[11] = {
-    /* 0 open        */ {{0, 0, 0, 0}, {{0}, {0}, {0}, {0}, {0}, {0}}, {0, 0, 0, 0}},
-    /* 1 put 600     */ {{2, 0, 0, 0}, {{1, 0, 0, 512, 2}, {1, 1, 0, 88, 0}, {0}, {0}, {0}, {0}}, {1, 1, 0, 0}},
-    /* 2 cut 0,500,50 */ {{2, 4, 0, 0},
+    /* 0 open        */ {{0, 0, 0, 0}, {0, 0, 0, 0}, {{0}, {0}, {0}, {0}, {0}, {0}}, {0, 0, 0, 0}},
+    /* 1 put 600     */ {{2, 0, 0, 0}, {0, 0, 0, 0}, {{1, 0, 0, 512, 2}, {1, 1, 0, 88, 0}, {0}, {0}, {0}, {0}}, {1, 1, 0, 0}},
+    /* 2 cut 0,500,50 */ {{2, 4, 0, 0}, {0, 0, 0, 0},
         {{1, 0, 0, 512, 2}, {1, 1, 0, 88, 0}, {1, 0, 500, 12, 4}, {1, 1, 0, 38, 0}, {0}, {0}}, {2, 2, 0, 0}},
-    /* 3 dup 0       */ {{2, 4, 6, 0},
+    /* 3 dup 0       */ {{2, 4, 6, 0}, {0, 0, 0, 0},
         {{1, 0, 0, 512, 2}, {2, 1, 0, 88, 0}, {1, 0, 500, 12, 4}, {1, 1, 0, 38, 0}, {1, 0, 0, 512, 2}, {0}}, {3, 2, 0, 0}},
-    /* 4 free 0      */ {{0, 4, 6, 0},
+    /* 4 free 0      */ {{0, 4, 6, 0}, {1, 0, 0, 0},
         {{0}, {1, 1, 0, 88, 0}, {1, 0, 500, 12, 4}, {1, 1, 0, 38, 0}, {1, 0, 0, 512, 2}, {0}}, {2, 2, 0, 0}},
-    /* 5 drop 2,520  */ {{0, 4, 3, 0}, {{0}, {1, 1, 8, 80, 0}, {1, 0, 500, 12, 4}, {1, 1, 0, 38, 0}, {0}, {0}}, {1, 2, 0, 0}},
-    /* 6 append 1,2  */ {{0, 4, 0, 0}, {{0}, {1, 1, 8, 80, 0}, {1, 0, 500, 12, 4}, {1, 1, 0, 38, 2}, {0}, {0}}, {1, 2, 0, 0}},
-    /* 7 keep 1,40   */ {{0, 4, 0, 0}, {{0}, {0}, {1, 0, 500, 12, 4}, {1, 1, 0, 28, 0}, {0}, {0}}, {1, 1, 0, 0}},
-    /* 8 pullup 1,20 */ {{0, 2, 0, 0}, {{1, 2, 0, 20, 4}, {0}, {0}, {1, 1, 8, 20, 0}, {0}, {0}}, {0, 1, 1, 0}},
-    /* 9 pack 1      */ {{0, 3, 0, 0}, {{0}, {1, 0, 0, 40, 0}, {0}, {0}, {0}, {0}}, {1, 0, 0, 0}},
-    /* 10 free 1     */ {{0, 0, 0, 0}, {{0}, {0}, {0}, {0}, {0}, {0}}, {0, 0, 0, 0}},
+    /* 5 drop 2,520  */ {{0, 4, 3, 0}, {1, 0, 0, 0}, {{0}, {1, 1, 8, 80, 0}, {1, 0, 500, 12, 4}, {1, 1, 0, 38, 0}, {0}, {0}}, {1, 2, 0, 0}},
+    /* 6 append 1,2  */ {{0, 4, 0, 0}, {1, 0, 1, 0}, {{0}, {1, 1, 8, 80, 0}, {1, 0, 500, 12, 4}, {1, 1, 0, 38, 2}, {0}, {0}}, {1, 2, 0, 0}},
+    /* 7 keep 1,40   */ {{0, 4, 0, 0}, {1, 0, 1, 0}, {{0}, {0}, {1, 0, 500, 12, 4}, {1, 1, 0, 28, 0}, {0}, {0}}, {1, 1, 0, 0}},
+    /* 8 pullup 1,20 */ {{0, 2, 0, 0}, {1, 0, 1, 0}, {{1, 2, 0, 20, 4}, {0}, {0}, {1, 1, 8, 20, 0}, {0}, {0}}, {0, 1, 1, 0}},
+    /* 9 pack 1      */ {{0, 3, 0, 0}, {1, 0, 1, 0}, {{0}, {1, 0, 0, 40, 0}, {0}, {0}, {0}, {0}}, {1, 0, 0, 0}},
+    /* 10 free 1     */ {{0, 0, 0, 0}, {1, 1, 1, 0}, {{0}, {0}, {0}, {0}, {0}, {0}}, {0, 0, 0, 0}},
 };
 
 /* The fresh pool's first eleven bytes, and what row 1 leaves behind them up to piece 2: the same as entries, byte for byte. */
-static const uint8_t head[11] = {0x53, 0x4C, 0x50, 0x01, 0x00, 0x04, 0x00, 0x06, 0x00, 0x04, 0x00};
-static const uint8_t row_1[28] = {
-    0x02, 0x00, 0x00, 0x00, 0x00, 0x00, 0x00, 0x00,
+static const uint8_t head[11] = {0x53, 0x4C, 0x50, 0x02, 0x00, 0x04, 0x00, 0x06, 0x00, 0x04, 0x00};
+static const uint8_t row_1[36] = {
+    0x02, 0x00, 0x00, 0x00, 0x00, 0x00, 0x00, 0x00, 0x00, 0x00, 0x00, 0x00, 0x00, 0x00, 0x00, 0x00,
     0x01, 0x00, 0x00, 0x00, 0x00, 0x00, 0x00, 0x02, 0x02, 0x00,
     0x01, 0x00, 0x01, 0x00, 0x00, 0x00, 0x58, 0x00, 0x00, 0x00,
 };
 
-/* The entries as a pool's 87 bytes. */
-static void write_pool(uint8_t bytes[87], const entries *e)
+/* The entries as a pool's 95 bytes. */
+static void write_pool(uint8_t bytes[95], const entries *e)
 {
-    uint16_t word[38];
-    memcpy(word, e->slip, sizeof e->slip);
-    memcpy(word + 4, e->piece, sizeof e->piece);
-    memcpy(word + 34, e->buffer, sizeof e->buffer);
+    uint16_t word[42];
+    for (int s = 0; s < 4; s++) {
+        word[2 * s] = e->slip[s];
+        word[2 * s + 1] = e->serial[s];
+    }
+    memcpy(word + 8, e->piece, sizeof e->piece);
+    memcpy(word + 38, e->buffer, sizeof e->buffer);
     memcpy(bytes, head, sizeof head);
-    for (int i = 0; i < 38; i++) {
+    for (int i = 0; i < 42; i++) {
         bytes[11 + 2 * i] = (uint8_t)(word[i] % 256);
         bytes[12 + 2 * i] = (uint8_t)(word[i] / 256);
     }
@@ -268,15 +299,15 @@ static slp_answer row_call(int row, box b)
 {
     switch (row) {
     case 1: return put(b, 600);
-    case 2: return slp_cut(LENT(b), 0, 500, 50);
-    case 3: return slp_dup(LENT(b), 0);
-    case 4: return slp_free(LENT(b), 0);
-    case 5: return slp_drop(LENT(b), 2, 520);
-    case 6: return slp_append(LENT(b), 1, 2);
-    case 7: return slp_keep(LENT(b), 1, 40);
-    case 8: return slp_pullup(LENT(b), 1, 20);
-    case 9: return slp_pack(LENT(b), 1);
-    default: return slp_free(LENT(b), 1);
+    case 2: return slp_cut(LENT(b), NAME(0), 500, 50);
+    case 3: return slp_dup(LENT(b), NAME(0));
+    case 4: return slp_free(LENT(b), NAME(0));
+    case 5: return slp_drop(LENT(b), NAME(2), 520);
+    case 6: return slp_append(LENT(b), NAME(1), NAME(2));
+    case 7: return slp_keep(LENT(b), NAME(1), 40);
+    case 8: return slp_pullup(LENT(b), NAME(1), 20);
+    case 9: return slp_pack(LENT(b), NAME(1));
+    default: return slp_free(LENT(b), NAME(1));
     }
 }
 
@@ -303,12 +334,12 @@ static void row_storage(int row, uint8_t *storage)
 static void check_row(int row, box b, uint8_t *storage)
 {
     static const uint32_t number[11] = {0, 0, 1, 2, 0, 0, 0, 0, 0, 0, 0};
-    uint8_t pool[87];
+    uint8_t pool[95];
     char what[40];
     snprintf(what, sizeof what, "row %d of the morning", row);
     if (row > 0) check_done(row_call(row, b), number[row], __LINE__, what);
     write_pool(pool, &after[row]);
-    check(memcmp(b.pool, pool, 87) == 0, __LINE__, what);
+    check(memcmp(b.pool, pool, 95) == 0, __LINE__, what);
     row_storage(row, storage);
     check(memcmp(b.storage, storage, 2048) == 0, __LINE__, what);
     check(slp_audit(LENT(b)).code == SLP_DONE, __LINE__, what);
@@ -327,8 +358,8 @@ static void morning(void)
         if (row == 2) CHECK(reads(b, 0, 600, 0) && reads(b, 1, 50, 500));
         if (row == 4) CHECK(reads(b, 2, 600, 0));
         if (row == 5) CHECK(reads(b, 2, 80, 520));
-        if (row == 6) ANSWERS(130, slp_length(LENT(b), 1));
-        if (row == 9) ANSWERS(40, slp_read(LENT(b), 1, 0, 40, b.output, OUTPUT));
+        if (row == 6) ANSWERS(130, slp_length(LENT(b), NAME(1)));
+        if (row == 9) ANSWERS(40, slp_read(LENT(b), NAME(1), 0, 40, b.output, OUTPUT));
         if (row == 9) CHECK(memcmp(b.output, packed, 40) == 0 && b.output[40] == OLD);
     }
     give_back(b);
@@ -366,20 +397,20 @@ static void edges_of_lists(void)
     box b = fresh(4, 6, 4);
     put(b, 600);
     put(b, 0);
-    for (size_t n = 0; n < 4; n++) REFUSES(SLP_NARROW, b, slp_list(LENT(b), 0, NUMBERS(b), n));
-    for (size_t n = 0; n < 2; n++) REFUSES(SLP_NARROW, b, slp_stretches(LENT(b), 0, RECORDS(b), n));
-    REFUSES(SLP_NARROW, b, slp_list(LENT(b), 0, NULL, 0));
-    REFUSES(SLP_NARROW, b, slp_stretches(LENT(b), 0, NULL, 0));
-    REFUSES(SLP_SLIP, b, slp_list(LENT(b), 2, NULL, 0));
-    REFUSES(SLP_SLIP, b, slp_stretches(LENT(b), 4, NULL, 0));
-    for (size_t n = 0; n < 3; n++) IDLE(b, slp_list(LENT(b), 1, NUMBERS(b), n));
-    for (size_t n = 0; n < 3; n++) IDLE(b, slp_stretches(LENT(b), 1, RECORDS(b), n));
-    IDLE(b, slp_list(LENT(b), 1, NULL, 0));
-    IDLE(b, slp_stretches(LENT(b), 1, NULL, 0));
-    ANSWERS(2, slp_list(LENT(b), 0, NUMBERS(b), 4));
+    for (size_t n = 0; n < 4; n++) REFUSES(SLP_NARROW, b, slp_list(LENT(b), NAME(0), NUMBERS(b), n));
+    for (size_t n = 0; n < 2; n++) REFUSES(SLP_NARROW, b, slp_stretches(LENT(b), NAME(0), RECORDS(b), n));
+    REFUSES(SLP_NARROW, b, slp_list(LENT(b), NAME(0), NULL, 0));
+    REFUSES(SLP_NARROW, b, slp_stretches(LENT(b), NAME(0), NULL, 0));
+    REFUSES(SLP_SLIP, b, slp_list(LENT(b), NAME(2), NULL, 0));
+    REFUSES(SLP_SLIP, b, slp_stretches(LENT(b), NAME(4), NULL, 0));
+    for (size_t n = 0; n < 3; n++) IDLE(b, slp_list(LENT(b), NAME(1), NUMBERS(b), n));
+    for (size_t n = 0; n < 3; n++) IDLE(b, slp_stretches(LENT(b), NAME(1), RECORDS(b), n));
+    IDLE(b, slp_list(LENT(b), NAME(1), NULL, 0));
+    IDLE(b, slp_stretches(LENT(b), NAME(1), NULL, 0));
+    ANSWERS(2, slp_list(LENT(b), NAME(0), NUMBERS(b), 4));
     CHECK(listed(b.output, whole, 4, 12));
     memset(b.output, OLD, OUTPUT);
-    ANSWERS(2, slp_stretches(LENT(b), 0, RECORDS(b), 2));
+    ANSWERS(2, slp_stretches(LENT(b), NAME(0), RECORDS(b), 2));
     CHECK(listed(b.output, whole, 4, 12) && RECORDS(b)[1].position == 512 && RECORDS(b)[1].length == 88);
     give_back(b);
 }
@@ -442,18 +473,18 @@ static void refusals_of_gathers(void)
 /* The edges of put: full buffers, and one byte more than there is room for. */
 static void edges_of_put(void)
 {
-    static const entries one = {{2, 0, 0, 0}, {{1, 0, 0, 512, 0}, {0}, {0}, {0}, {0}, {0}}, {1, 0, 0, 0}};
-    static const entries two = {{2, 0, 0, 0}, {{1, 0, 0, 512, 2}, {1, 1, 0, 1, 0}, {0}, {0}, {0}, {0}}, {1, 1, 0, 0}};
-    static const entries full = {{2, 0, 0, 0},
+    static const entries one = {{2, 0, 0, 0}, {0, 0, 0, 0}, {{1, 0, 0, 512, 0}, {0}, {0}, {0}, {0}, {0}}, {1, 0, 0, 0}};
+    static const entries two = {{2, 0, 0, 0}, {0, 0, 0, 0}, {{1, 0, 0, 512, 2}, {1, 1, 0, 1, 0}, {0}, {0}, {0}, {0}}, {1, 1, 0, 0}};
+    static const entries full = {{2, 0, 0, 0}, {0, 0, 0, 0},
         {{1, 0, 0, 512, 2}, {1, 1, 0, 512, 3}, {1, 2, 0, 512, 4}, {1, 3, 0, 512, 0}, {0}, {0}}, {1, 1, 1, 1}};
     static const entries *const wanted[3] = {&one, &two, &full};
     static const uint32_t bytes[3] = {512, 513, 2048};
     for (int i = 0; i < 3; i++) {
-        uint8_t pool[87];
+        uint8_t pool[95];
         box b = fresh(4, 6, 4);
         ANSWERS(0, put(b, bytes[i]));
         write_pool(pool, wanted[i]);
-        CHECK(memcmp(b.pool, pool, 87) == 0);
+        CHECK(memcmp(b.pool, pool, 95) == 0);
         CHECK(reads(b, 0, bytes[i], 0));
         give_back(b);
     }
@@ -467,42 +498,41 @@ static void edges_of_others(void)
 {
     box b = fresh(4, 6, 4);
     put(b, 600);
-    REFUSES(SLP_RANGE, b, slp_cut(LENT(b), 0, 601, 0));
-    ANSWERS(1, slp_cut(LENT(b), 0, 600, 0));
-    CHECK(word_at(b, 13) == 1);
-    ANSWERS(0, slp_length(LENT(b), 1));
+    REFUSES(SLP_RANGE, b, slp_cut(LENT(b), NAME(0), 601, 0));
+    ANSWERS(1, slp_cut(LENT(b), NAME(0), 600, 0));
+    CHECK(word_at(b, state_at(1)) == 1);
+    ANSWERS(0, slp_length(LENT(b), NAME(1)));
     give_back(b);
 
     b = fresh(4, 6, 4);
     put(b, 10);
-    REFUSES(SLP_LONG, b, slp_pullup(LENT(b), 0, 513));
+    REFUSES(SLP_LONG, b, slp_pullup(LENT(b), NAME(0), 513));
     give_back(b);
 
     b = fresh(4, 6, 4);
     put(b, 10);
-    REFUSES(SLP_SAME, b, slp_append(LENT(b), 0, 0));
-    REFUSES(SLP_SLIP, b, slp_append(LENT(b), 1, 1));
+    REFUSES(SLP_SAME, b, slp_append(LENT(b), NAME(0), NAME(0)));
+    REFUSES(SLP_SLIP, b, slp_append(LENT(b), NAME(1), NAME(1)));
     give_back(b);
 }
 
 enum operation { PUT, CUT, DUP, APPEND, DROP, PULLUP };
 
-/* A call with its arguments, and the number that it answers. */
+/* A call with its arguments, slips as they were answered, and the number that it answers. */
 typedef struct {
     enum operation operation;
-    uint16_t slip;
-    uint32_t first, second, number;
+    uint32_t slip, first, second, number;
 } asked;
 
 static slp_answer ask(box b, asked c)
 {
     switch (c.operation) {
     case PUT: return put(b, c.first);
-    case CUT: return slp_cut(LENT(b), c.slip, c.first, c.second);
-    case DUP: return slp_dup(LENT(b), c.slip);
-    case APPEND: return slp_append(LENT(b), c.slip, (uint16_t)c.first);
-    case DROP: return slp_drop(LENT(b), c.slip, c.first);
-    default: return slp_pullup(LENT(b), c.slip, c.first);
+    case CUT: return slp_cut(LENT(b), NAME(c.slip), c.first, c.second);
+    case DUP: return slp_dup(LENT(b), NAME(c.slip));
+    case APPEND: return slp_append(LENT(b), NAME(c.slip), NAME(c.first));
+    case DROP: return slp_drop(LENT(b), NAME(c.slip), c.first);
+    default: return slp_pullup(LENT(b), NAME(c.slip), c.first);
     }
 }
 
@@ -518,38 +548,39 @@ static const struct {
 } full_table[8] = {
     {"pullup: the old head's number comes back to the front", 4,
         {{PUT, 0, 600, 0, 0}, {CUT, 0, 500, 50, 1}, {CUT, 0, 500, 50, 2}, {PULLUP, 1, 20, 0, 0}}, SLP_DONE, 2,
-        {{2, 4, 6, 0},
+        {{2, 4, 6, 0}, {0, 0, 0, 0},
             {{1, 0, 0, 512, 2}, {1, 1, 0, 88, 0}, {1, 2, 0, 20, 4}, {1, 1, 8, 30, 0}, {1, 0, 500, 12, 6}, {1, 1, 0, 38, 0}}, {2, 3, 1, 0}}},
     {"pullup: a shared head gives nothing back", 8,
-        {{PUT, 0, 600, 0, 0}, {PUT, 0, 10, 0, 1}, {APPEND, 0, 1, 0, 0}, {DUP, 0, 0, 0, 1}, {DROP, 1, 512, 0, 0}, {CUT, 0, 0, 600, 2},
-            {DUP, 1, 0, 0, 3}, {PULLUP, 1, 98, 0, 0}}, SLP_PIECES, -1,
-        {{2, 3, 5, 7},
+        {{PUT, 0, 600, 0, 0}, {PUT, 0, 10, 0, 1}, {APPEND, 0, 1, 0, 0}, {DUP, 0, 0, 0, AT(1, 1)}, {DROP, AT(1, 1), 512, 0, 0}, {CUT, 0, 0, 600, 2},
+            {DUP, AT(1, 1), 0, 0, 3}, {PULLUP, AT(1, 1), 98, 0, 0}}, SLP_PIECES, -1,
+        {{2, 3, 5, 7}, {0, 1, 0, 0},
             {{1, 0, 0, 512, 2}, {2, 1, 0, 88, 3}, {2, 2, 0, 10, 0}, {1, 0, 0, 512, 5}, {1, 1, 0, 88, 0}, {1, 1, 0, 88, 3}}, {2, 3, 1, 0}}},
     {"drop inside a shared piece, behind an own one", 5,
         {{PUT, 0, 600, 0, 0}, {DUP, 0, 0, 0, 1}, {CUT, 0, 0, 600, 2}, {DUP, 2, 0, 0, 3}, {DROP, 0, 520, 0, 0}}, SLP_DONE, -1,
-        {{2, 4, 5, 7},
+        {{2, 4, 5, 7}, {0, 0, 0, 0},
             {{1, 1, 8, 80, 0}, {1, 1, 0, 88, 0}, {1, 0, 0, 512, 2}, {1, 0, 0, 512, 5}, {2, 1, 0, 88, 0}, {1, 0, 0, 512, 5}}, {3, 3, 0, 0}}},
     {"drop inside a shared head", 6,
         {{PUT, 0, 600, 0, 0}, {DUP, 0, 0, 0, 1}, {DROP, 1, 512, 0, 0}, {CUT, 0, 0, 600, 2}, {CUT, 0, 0, 600, 3}, {DROP, 1, 8, 0, 0}}, SLP_PIECES, -1,
-        {{2, 3, 4, 6},
+        {{2, 3, 4, 6}, {0, 0, 0, 0},
             {{1, 0, 0, 512, 2}, {2, 1, 0, 88, 0}, {1, 0, 0, 512, 4}, {1, 1, 0, 88, 0}, {1, 0, 0, 512, 6}, {1, 1, 0, 88, 0}}, {3, 3, 0, 0}}},
     {"pullup: two wanted and one given back", 5,
         {{PUT, 0, 600, 0, 0}, {CUT, 0, 500, 50, 1}, {DUP, 1, 0, 0, 2}, {DUP, 0, 0, 0, 3}, {PULLUP, 1, 20, 0, 0}}, SLP_PIECES, -1,
-        {{2, 4, 6, 7},
+        {{2, 4, 6, 7}, {0, 0, 0, 0},
             {{1, 0, 0, 512, 2}, {2, 1, 0, 88, 0}, {1, 0, 500, 12, 4}, {2, 1, 0, 38, 0}, {1, 0, 500, 12, 4}, {1, 0, 0, 512, 2}}, {4, 2, 0, 0}}},
     {"pullup: the same with piece 5 free", 4,
         {{PUT, 0, 600, 0, 0}, {CUT, 0, 500, 50, 1}, {DUP, 1, 0, 0, 2}, {PULLUP, 1, 20, 0, 0}}, SLP_DONE, 2,
-        {{2, 4, 6, 0},
+        {{2, 4, 6, 0}, {0, 0, 0, 0},
             {{1, 0, 0, 512, 2}, {1, 1, 0, 88, 0}, {1, 2, 0, 20, 6}, {1, 1, 0, 38, 0}, {1, 0, 500, 12, 4}, {1, 1, 8, 30, 0}}, {2, 3, 1, 0}}},
     {"pullup: two wanted and two given back", 9,
-        {{PUT, 0, 10, 0, 0}, {PUT, 0, 10, 0, 1}, {PUT, 0, 10, 0, 2}, {APPEND, 1, 2, 0, 0}, {APPEND, 0, 1, 0, 0}, {DUP, 0, 0, 0, 1},
-            {DROP, 1, 20, 0, 0}, {CUT, 0, 0, 30, 2}, {PULLUP, 0, 25, 0, 0}}, SLP_DONE, 3,
-        {{2, 4, 5, 0},
+        {{PUT, 0, 10, 0, 0}, {PUT, 0, 10, 0, 1}, {PUT, 0, 10, 0, 2}, {APPEND, 1, 2, 0, 0}, {APPEND, 0, 1, 0, 0}, {DUP, 0, 0, 0, AT(1, 1)},
+            {DROP, AT(1, 1), 20, 0, 0}, {CUT, 0, 0, 30, AT(2, 1)}, {PULLUP, 0, 25, 0, 0}}, SLP_DONE, 3,
+        {{2, 4, 5, 0}, {0, 1, 1, 0},
             {{1, 3, 0, 25, 2}, {1, 2, 5, 5, 0}, {1, 2, 0, 10, 0}, {1, 0, 0, 10, 5}, {1, 1, 0, 10, 6}, {1, 2, 0, 10, 0}}, {1, 1, 3, 1}}},
     {"pullup: the buffer given back is no room", 6,
-        {{PUT, 0, 10, 0, 0}, {PUT, 0, 10, 0, 1}, {APPEND, 0, 1, 0, 0}, {PUT, 0, 1024, 0, 1}, {CUT, 1, 0, 1024, 2}, {PULLUP, 0, 15, 0, 0}},
+        {{PUT, 0, 10, 0, 0}, {PUT, 0, 10, 0, 1}, {APPEND, 0, 1, 0, 0}, {PUT, 0, 1024, 0, AT(1, 1)}, {CUT, AT(1, 1), 0, 1024, 2},
+            {PULLUP, 0, 15, 0, 0}},
         SLP_BUFFERS, -1,
-        {{2, 4, 6, 0},
+        {{2, 4, 6, 0}, {0, 1, 0, 0},
             {{1, 0, 0, 10, 2}, {1, 1, 0, 10, 0}, {1, 2, 0, 512, 4}, {1, 3, 0, 512, 0}, {1, 2, 0, 512, 6}, {1, 3, 0, 512, 0}}, {1, 1, 2, 2}}},
 };
 
@@ -560,49 +591,169 @@ static void full_tables(void)
         const char *what = full_table[i].what;
         const asked *call = full_table[i].call;
         unsigned last = full_table[i].calls - 1;
-        uint8_t pool[87];
+        uint8_t pool[95];
         box b = fresh(4, 6, 4);
         for (unsigned k = 0; k < last; k++) check_done(ask(b, call[k]), call[k].number, __LINE__, what);
         box before = copy_of(b);
         if (full_table[i].buffer >= 0) {
             uint8_t *filled = before.storage + 512 * full_table[i].buffer;
             memset(filled, 0, 512);
-            check_done(slp_read(LENT(b), call[last].slip, 0, call[last].first, filled, 512), call[last].first, __LINE__, what);
+            check_done(slp_read(LENT(b), NAME(call[last].slip), 0, call[last].first, filled, 512), call[last].first, __LINE__, what);
         }
         slp_answer a = ask(b, call[last]);
         check(a.code == full_table[i].code && a.number == 0, __LINE__, what);
         write_pool(pool, &full_table[i].after);
-        check(memcmp(b.pool, pool, 87) == 0, __LINE__, what);
+        check(memcmp(b.pool, pool, 95) == 0, __LINE__, what);
         check(memcmp(b.storage, before.storage, 2048) == 0, __LINE__, what);
-        check(a.code == SLP_DONE || memcmp(b.pool, before.pool, 87) == 0, __LINE__, what);
+        check(a.code == SLP_DONE || memcmp(b.pool, before.pool, 95) == 0, __LINE__, what);
         check(slp_audit(LENT(b)).code == SLP_DONE, __LINE__, what);
         give_back(before);
         give_back(b);
     }
 }
 
-/* Every call that names a slip, with one that is vacant or no slip of the pool. */
+/* The serials of a pool with four slips. */
+static int serials(box b, unsigned s0, unsigned s1, unsigned s2, unsigned s3)
+{
+    return word_at(b, serial_at(0)) == s0 && word_at(b, serial_at(1)) == s1 && word_at(b, serial_at(2)) == s2 && word_at(b, serial_at(3)) == s3;
+}
+
+/* A name that was given up, by free or by append, is refused while the slip is vacant and when it is given again. */
+static void old_names(void)
+{
+    box b = fresh(4, 6, 4);
+    ANSWERS(0, put(b, 600));
+    ANSWERS(1, slp_dup(LENT(b), NAME(0)));
+    ANSWERS(0, slp_free(LENT(b), NAME(0)));
+    CHECK(serials(b, 1, 0, 0, 0));
+    REFUSES(SLP_SLIP, b, slp_length(LENT(b), NAME(0)));
+    REFUSES(SLP_SLIP, b, slp_length(LENT(b), NAME(AT(0, 1))));
+    ANSWERS(AT(0, 1), slp_cut(LENT(b), NAME(1), 500, 50));
+    REFUSES(SLP_SLIP, b, slp_free(LENT(b), NAME(0)));
+    CHECK(reads(b, AT(0, 1), 50, 500) && reads(b, 1, 600, 0));
+    ANSWERS(0, slp_append(LENT(b), NAME(1), NAME(AT(0, 1))));
+    CHECK(serials(b, 2, 0, 0, 0));
+    REFUSES(SLP_SLIP, b, slp_free(LENT(b), NAME(AT(0, 1))));
+    ANSWERS(AT(0, 2), slp_dup(LENT(b), NAME(1)));
+    REFUSES(SLP_SLIP, b, slp_free(LENT(b), NAME(AT(0, 1))));
+    ANSWERS(0, slp_open(LENT(b), 4, 6, 4));
+    CHECK(serials(b, 0, 0, 0, 0));
+    ANSWERS(0, put(b, 600));
+    give_back(b);
+}
+
+/* append: 3 is judged of both slips by number and serial, then 4 of the numbers; b's serial moves where a call is done, an empty side or not. */
+static void serials_of_append(void)
+{
+    box b = fresh(4, 4, 4);
+    put(b, 0);
+    ANSWERS(0, slp_free(LENT(b), NAME(0)));
+    ANSWERS(AT(0, 1), put(b, 600));
+    REFUSES(SLP_SLIP, b, slp_append(LENT(b), NAME(AT(0, 1)), NAME(0)));
+    REFUSES(SLP_SLIP, b, slp_append(LENT(b), NAME(0), NAME(AT(0, 1))));
+    REFUSES(SLP_SLIP, b, slp_append(LENT(b), NAME(0), NAME(0)));
+    REFUSES(SLP_SAME, b, slp_append(LENT(b), NAME(AT(0, 1)), NAME(AT(0, 1))));
+    ANSWERS(1, put(b, 0));
+    ANSWERS(0, slp_append(LENT(b), NAME(AT(0, 1)), NAME(1)));
+    CHECK(serials(b, 1, 1, 0, 0));
+    ANSWERS(AT(1, 1), put(b, 0));
+    ANSWERS(0, slp_append(LENT(b), NAME(AT(1, 1)), NAME(AT(0, 1))));
+    CHECK(serials(b, 2, 1, 0, 0) && reads(b, AT(1, 1), 600, 0));
+    ANSWERS(AT(0, 2), put(b, 0));
+    ANSWERS(2, put(b, 0));
+    ANSWERS(0, slp_append(LENT(b), NAME(AT(0, 2)), NAME(2)));
+    CHECK(serials(b, 2, 1, 1, 0) && word_at(b, state_at(0)) == 1 && word_at(b, state_at(2)) == 0);
+    ANSWERS(AT(2, 1), slp_dup(LENT(b), NAME(AT(1, 1))));
+    ANSWERS(3, put(b, 1));
+    REFUSES(SLP_PIECES, b, slp_append(LENT(b), NAME(AT(1, 1)), NAME(3)));
+    give_back(b);
+}
+
+/* At the last serial a held slip is a slip like any other; given up, it keeps the serial and is spent: refused, and passed over by put, dup and cut. */
+static void spent_slips(void)
+{
+    box b = fresh(4, 6, 4);
+    for (unsigned s = 0; s < 4; s++) set_serial(b, s, s == 1 ? LAST - 1 : LAST);
+    set_serial(b, 3, 0);
+    ANSWERS(AT(1, LAST - 1), put(b, 600));
+    ANSWERS(3, slp_dup(LENT(b), NAME(AT(1, LAST - 1))));
+    REFUSES(SLP_SLIPS, b, put(b, 0));
+    REFUSES(SLP_SLIPS, b, slp_dup(LENT(b), NAME(3)));
+    REFUSES(SLP_SLIPS, b, slp_cut(LENT(b), NAME(3), 0, 0));
+    REFUSES(SLP_SLIP, b, slp_free(LENT(b), NAME(AT(0, LAST))));
+    REFUSES(SLP_SLIP, b, slp_append(LENT(b), NAME(AT(0, LAST)), NAME(AT(0, LAST))));
+    set_serial(b, 3, LAST);
+    IDLE(b, slp_audit(LENT(b)));
+    CHECK(reads(b, AT(3, LAST), 600, 0));
+    ANSWERS(0, slp_free(LENT(b), NAME(AT(3, LAST))));
+    CHECK(serials(b, LAST, LAST - 1, LAST, LAST));
+    REFUSES(SLP_SLIP, b, slp_length(LENT(b), NAME(AT(3, LAST))));
+    ANSWERS(0, slp_free(LENT(b), NAME(AT(1, LAST - 1))));
+    CHECK(serials(b, LAST, LAST, LAST, LAST) && fresh_but_serials(b));
+    REFUSES(SLP_SLIPS, b, put(b, 0));
+    REFUSES(SLP_SLIPS, b, put(b, 2049));
+    IDLE(b, slp_audit(LENT(b)));
+    ANSWERS(0, slp_open(LENT(b), 4, 6, 4));
+    CHECK(serials(b, 0, 0, 0, 0));
+    ANSWERS(0, put(b, 0));
+    give_back(b);
+}
+
+/* append for b at the last serial: it stays, and b is spent. */
+static void spent_by_append(void)
+{
+    box b = fresh(4, 6, 2);
+    set_serial(b, 1, LAST);
+    ANSWERS(0, put(b, 10));
+    REFUSES(SLP_SLIPS, b, put(b, 10));
+    set_serial(b, 1, LAST - 1);
+    ANSWERS(AT(1, LAST - 1), put(b, 10));
+    set_serial(b, 1, LAST);
+    ANSWERS(0, slp_append(LENT(b), NAME(0), NAME(AT(1, LAST))));
+    CHECK(word_at(b, serial_at(1)) == LAST && word_at(b, state_at(1)) == 0);
+    REFUSES(SLP_SLIPS, b, put(b, 10));
+    give_back(b);
+}
+
+/* One slip given and given up as often as it can be, by calls alone: each name once, the last serial never, and then none until an open. */
+static void worn_out(void)
+{
+    box b = fresh(1, 1, 1);
+    for (uint32_t serial = 0; serial < LAST; serial++) {
+        ANSWERS(AT(0, serial), slp_put(LENT(b), NULL, 0));
+        ANSWERS(0, slp_free(LENT(b), NAME(AT(0, serial))));
+    }
+    REFUSES(SLP_SLIPS, b, put(b, 0));
+    CHECK(word_at(b, serial_at(0)) == LAST && fresh_but_serials(b));
+    ANSWERS(0, slp_open(LENT(b), 1, 1, 1));
+    ANSWERS(0, put(b, 0));
+    give_back(b);
+}
+
+/* Every call that names a slip, with one that is vacant or no slip of the pool, and with a held one by another serial. */
 static void refusals_of_slips(void)
 {
-    static const uint16_t bad[4] = {1, 3, 4, 65535};
+    static const uint32_t bad[10] = {1, 3, 4, 65535, AT(0, 0), AT(0, 2), AT(0, 257), AT(0, LAST), AT(1, 1), AT(4, 1)};
     box b = fresh(4, 6, 4);
     put(b, 600);
-    for (int i = 0; i < 4; i++) {
-        REFUSES(SLP_SLIP, b, slp_free(LENT(b), bad[i]));
-        REFUSES(SLP_SLIP, b, slp_dup(LENT(b), bad[i]));
-        REFUSES(SLP_SLIP, b, slp_cut(LENT(b), bad[i], 0, 1));
-        REFUSES(SLP_SLIP, b, slp_append(LENT(b), bad[i], 0));
-        REFUSES(SLP_SLIP, b, slp_append(LENT(b), 0, bad[i]));
-        REFUSES(SLP_SLIP, b, slp_append(LENT(b), bad[i], bad[i]));
-        REFUSES(SLP_SLIP, b, slp_drop(LENT(b), bad[i], 1));
-        REFUSES(SLP_SLIP, b, slp_keep(LENT(b), bad[i], 1));
-        REFUSES(SLP_SLIP, b, slp_pullup(LENT(b), bad[i], 513));
-        REFUSES(SLP_SLIP, b, slp_pack(LENT(b), bad[i]));
-        REFUSES(SLP_SLIP, b, slp_length(LENT(b), bad[i]));
-        REFUSES(SLP_SLIP, b, slp_read(LENT(b), bad[i], 0, 1, b.output, OUTPUT));
-        REFUSES(SLP_SLIP, b, refused_show(slp_show(LENT(b), bad[i], 513, b.output, OUTPUT)));
-        REFUSES(SLP_SLIP, b, slp_list(LENT(b), bad[i], NUMBERS(b), OUTPUT / 4));
-        REFUSES(SLP_SLIP, b, slp_stretches(LENT(b), bad[i], RECORDS(b), OUTPUT / 8));
+    ANSWERS(0, slp_free(LENT(b), NAME(0)));
+    ANSWERS(AT(0, 1), put(b, 600));
+    for (int i = 0; i < 10; i++) {
+        REFUSES(SLP_SLIP, b, slp_free(LENT(b), NAME(bad[i])));
+        REFUSES(SLP_SLIP, b, slp_dup(LENT(b), NAME(bad[i])));
+        REFUSES(SLP_SLIP, b, slp_cut(LENT(b), NAME(bad[i]), 0, 1));
+        REFUSES(SLP_SLIP, b, slp_append(LENT(b), NAME(bad[i]), NAME(AT(0, 1))));
+        REFUSES(SLP_SLIP, b, slp_append(LENT(b), NAME(AT(0, 1)), NAME(bad[i])));
+        REFUSES(SLP_SLIP, b, slp_append(LENT(b), NAME(bad[i]), NAME(bad[i])));
+        REFUSES(SLP_SLIP, b, slp_drop(LENT(b), NAME(bad[i]), 1));
+        REFUSES(SLP_SLIP, b, slp_keep(LENT(b), NAME(bad[i]), 1));
+        REFUSES(SLP_SLIP, b, slp_pullup(LENT(b), NAME(bad[i]), 513));
+        REFUSES(SLP_SLIP, b, slp_pack(LENT(b), NAME(bad[i])));
+        REFUSES(SLP_SLIP, b, slp_length(LENT(b), NAME(bad[i])));
+        REFUSES(SLP_SLIP, b, slp_read(LENT(b), NAME(bad[i]), 0, 1, b.output, OUTPUT));
+        REFUSES(SLP_SLIP, b, refused_show(slp_show(LENT(b), NAME(bad[i]), 513, b.output, OUTPUT)));
+        REFUSES(SLP_SLIP, b, slp_list(LENT(b), NAME(bad[i]), NUMBERS(b), OUTPUT / 4));
+        REFUSES(SLP_SLIP, b, slp_stretches(LENT(b), NAME(bad[i]), RECORDS(b), OUTPUT / 8));
     }
     give_back(b);
 }
@@ -613,25 +764,25 @@ static void refusals_of_ranges(void)
     const uint32_t most = UINT32_MAX;
     box b = fresh(4, 6, 4);
     put(b, 600);
-    slp_cut(LENT(b), 0, 500, 50);
-    REFUSES(SLP_RANGE, b, slp_cut(LENT(b), 0, 1, 600));
-    REFUSES(SLP_RANGE, b, slp_cut(LENT(b), 0, 1, most));
-    REFUSES(SLP_RANGE, b, slp_cut(LENT(b), 0, most, 1));
-    REFUSES(SLP_RANGE, b, slp_cut(LENT(b), 0, most, most));
-    REFUSES(SLP_RANGE, b, slp_drop(LENT(b), 0, 601));
-    REFUSES(SLP_RANGE, b, slp_keep(LENT(b), 0, most));
-    REFUSES(SLP_RANGE, b, slp_pullup(LENT(b), 1, 51));
-    REFUSES(SLP_RANGE, b, slp_read(LENT(b), 0, 600, 1, b.output, OUTPUT));
-    REFUSES(SLP_RANGE, b, slp_read(LENT(b), 0, 1, most, b.output, OUTPUT));
-    REFUSES(SLP_RANGE, b, slp_read(LENT(b), 0, 601, 0, NULL, 0));
-    REFUSES(SLP_RANGE, b, refused_show(slp_show(LENT(b), 1, 51, b.output, 0)));
-    REFUSES(SLP_LONG, b, slp_pullup(LENT(b), 0, 513));
-    REFUSES(SLP_LONG, b, slp_pullup(LENT(b), 1, most));
-    REFUSES(SLP_LONG, b, refused_show(slp_show(LENT(b), 0, 513, b.output, OUTPUT)));
-    REFUSES(SLP_LONG, b, refused_show(slp_show(LENT(b), 1, most, b.output, OUTPUT)));
-    REFUSES(SLP_NARROW, b, slp_read(LENT(b), 0, 0, OUTPUT + 1, b.output, OUTPUT));
-    REFUSES(SLP_NARROW, b, slp_read(LENT(b), 0, 0, 1, NULL, 0));
-    REFUSES(SLP_NARROW, b, refused_show(slp_show(LENT(b), 1, 13, b.output, 12)));
+    slp_cut(LENT(b), NAME(0), 500, 50);
+    REFUSES(SLP_RANGE, b, slp_cut(LENT(b), NAME(0), 1, 600));
+    REFUSES(SLP_RANGE, b, slp_cut(LENT(b), NAME(0), 1, most));
+    REFUSES(SLP_RANGE, b, slp_cut(LENT(b), NAME(0), most, 1));
+    REFUSES(SLP_RANGE, b, slp_cut(LENT(b), NAME(0), most, most));
+    REFUSES(SLP_RANGE, b, slp_drop(LENT(b), NAME(0), 601));
+    REFUSES(SLP_RANGE, b, slp_keep(LENT(b), NAME(0), most));
+    REFUSES(SLP_RANGE, b, slp_pullup(LENT(b), NAME(1), 51));
+    REFUSES(SLP_RANGE, b, slp_read(LENT(b), NAME(0), 600, 1, b.output, OUTPUT));
+    REFUSES(SLP_RANGE, b, slp_read(LENT(b), NAME(0), 1, most, b.output, OUTPUT));
+    REFUSES(SLP_RANGE, b, slp_read(LENT(b), NAME(0), 601, 0, NULL, 0));
+    REFUSES(SLP_RANGE, b, refused_show(slp_show(LENT(b), NAME(1), 51, b.output, 0)));
+    REFUSES(SLP_LONG, b, slp_pullup(LENT(b), NAME(0), 513));
+    REFUSES(SLP_LONG, b, slp_pullup(LENT(b), NAME(1), most));
+    REFUSES(SLP_LONG, b, refused_show(slp_show(LENT(b), NAME(0), 513, b.output, OUTPUT)));
+    REFUSES(SLP_LONG, b, refused_show(slp_show(LENT(b), NAME(1), most, b.output, OUTPUT)));
+    REFUSES(SLP_NARROW, b, slp_read(LENT(b), NAME(0), 0, OUTPUT + 1, b.output, OUTPUT));
+    REFUSES(SLP_NARROW, b, slp_read(LENT(b), NAME(0), 0, 1, NULL, 0));
+    REFUSES(SLP_NARROW, b, refused_show(slp_show(LENT(b), NAME(1), 13, b.output, 12)));
     give_back(b);
 }
 
@@ -643,33 +794,33 @@ static void refusals_of_room(void)
     for (int i = 0; i < 3; i++) put(b, 0);
     REFUSES(SLP_SLIPS, b, put(b, 0));
     REFUSES(SLP_SLIPS, b, put(b, 2049));
-    REFUSES(SLP_SLIPS, b, slp_dup(LENT(b), 0));
-    REFUSES(SLP_SLIPS, b, slp_cut(LENT(b), 0, 0, 2048));
+    REFUSES(SLP_SLIPS, b, slp_dup(LENT(b), NAME(0)));
+    REFUSES(SLP_SLIPS, b, slp_cut(LENT(b), NAME(0), 0, 2048));
     give_back(b);
 
     b = fresh(4, 6, 5);
     put(b, 2048);
-    slp_dup(LENT(b), 0);
-    ANSWERS(0, slp_drop(LENT(b), 1, 512));
-    slp_dup(LENT(b), 0);
-    slp_dup(LENT(b), 0);
-    ANSWERS(0, slp_drop(LENT(b), 0, 1));
+    slp_dup(LENT(b), NAME(0));
+    ANSWERS(0, slp_drop(LENT(b), NAME(1), 512));
+    slp_dup(LENT(b), NAME(0));
+    slp_dup(LENT(b), NAME(0));
+    ANSWERS(0, slp_drop(LENT(b), NAME(0), 1));
     REFUSES(SLP_PIECES, b, put(b, 1));
-    REFUSES(SLP_PIECES, b, slp_dup(LENT(b), 0));
-    REFUSES(SLP_PIECES, b, slp_cut(LENT(b), 0, 0, 1));
-    REFUSES(SLP_PIECES, b, slp_append(LENT(b), 0, 1));
-    REFUSES(SLP_PIECES, b, slp_drop(LENT(b), 1, 8));
-    REFUSES(SLP_PIECES, b, slp_keep(LENT(b), 0, 520));
-    REFUSES(SLP_PIECES, b, slp_pullup(LENT(b), 0, 512));
-    REFUSES(SLP_PIECES, b, slp_pack(LENT(b), 0));
+    REFUSES(SLP_PIECES, b, slp_dup(LENT(b), NAME(0)));
+    REFUSES(SLP_PIECES, b, slp_cut(LENT(b), NAME(0), 0, 1));
+    REFUSES(SLP_PIECES, b, slp_append(LENT(b), NAME(0), NAME(1)));
+    REFUSES(SLP_PIECES, b, slp_drop(LENT(b), NAME(1), 8));
+    REFUSES(SLP_PIECES, b, slp_keep(LENT(b), NAME(0), 520));
+    REFUSES(SLP_PIECES, b, slp_pullup(LENT(b), NAME(0), 512));
+    REFUSES(SLP_PIECES, b, slp_pack(LENT(b), NAME(0)));
     give_back(b);
 
     b = fresh(4, 12, 4);
     put(b, 2048);
-    slp_cut(LENT(b), 0, 500, 24);
+    slp_cut(LENT(b), NAME(0), 500, 24);
     REFUSES(SLP_BUFFERS, b, put(b, 1));
-    REFUSES(SLP_BUFFERS, b, slp_pullup(LENT(b), 1, 13));
-    REFUSES(SLP_BUFFERS, b, slp_pack(LENT(b), 1));
+    REFUSES(SLP_BUFFERS, b, slp_pullup(LENT(b), NAME(1), 13));
+    REFUSES(SLP_BUFFERS, b, slp_pack(LENT(b), NAME(1)));
     give_back(b);
 }
 
@@ -678,27 +829,27 @@ static void refuses_torn(box b)
 {
     REFUSES(SLP_TORN, b, slp_audit(LENT(b)));
     REFUSES(SLP_TORN, b, put(b, 600));
-    REFUSES(SLP_TORN, b, slp_free(LENT(b), 0));
-    REFUSES(SLP_TORN, b, slp_dup(LENT(b), 0));
-    REFUSES(SLP_TORN, b, slp_cut(LENT(b), 0, 0, 1));
-    REFUSES(SLP_TORN, b, slp_append(LENT(b), 0, 0));
-    REFUSES(SLP_TORN, b, slp_drop(LENT(b), 0, 1));
-    REFUSES(SLP_TORN, b, slp_keep(LENT(b), 0, 1));
-    REFUSES(SLP_TORN, b, slp_pullup(LENT(b), 0, 513));
-    REFUSES(SLP_TORN, b, slp_pack(LENT(b), 9));
-    REFUSES(SLP_TORN, b, slp_length(LENT(b), 0));
-    REFUSES(SLP_TORN, b, slp_read(LENT(b), 0, 0, 1, b.output, OUTPUT));
-    REFUSES(SLP_TORN, b, refused_show(slp_show(LENT(b), 0, 1, b.output, OUTPUT)));
-    REFUSES(SLP_TORN, b, slp_list(LENT(b), 0, NUMBERS(b), OUTPUT / 4));
-    REFUSES(SLP_TORN, b, slp_list(LENT(b), 9, NULL, 0));
-    REFUSES(SLP_TORN, b, slp_stretches(LENT(b), 0, RECORDS(b), OUTPUT / 8));
-    REFUSES(SLP_TORN, b, slp_stretches(LENT(b), 9, NULL, 0));
+    REFUSES(SLP_TORN, b, slp_free(LENT(b), NAME(0)));
+    REFUSES(SLP_TORN, b, slp_dup(LENT(b), NAME(0)));
+    REFUSES(SLP_TORN, b, slp_cut(LENT(b), NAME(0), 0, 1));
+    REFUSES(SLP_TORN, b, slp_append(LENT(b), NAME(0), NAME(0)));
+    REFUSES(SLP_TORN, b, slp_drop(LENT(b), NAME(0), 1));
+    REFUSES(SLP_TORN, b, slp_keep(LENT(b), NAME(0), 1));
+    REFUSES(SLP_TORN, b, slp_pullup(LENT(b), NAME(0), 513));
+    REFUSES(SLP_TORN, b, slp_pack(LENT(b), NAME(9)));
+    REFUSES(SLP_TORN, b, slp_length(LENT(b), NAME(0)));
+    REFUSES(SLP_TORN, b, slp_read(LENT(b), NAME(0), 0, 1, b.output, OUTPUT));
+    REFUSES(SLP_TORN, b, refused_show(slp_show(LENT(b), NAME(0), 1, b.output, OUTPUT)));
+    REFUSES(SLP_TORN, b, slp_list(LENT(b), NAME(0), NUMBERS(b), OUTPUT / 4));
+    REFUSES(SLP_TORN, b, slp_list(LENT(b), NAME(9), NULL, 0));
+    REFUSES(SLP_TORN, b, slp_stretches(LENT(b), NAME(0), RECORDS(b), OUTPUT / 8));
+    REFUSES(SLP_TORN, b, slp_stretches(LENT(b), NAME(9), NULL, 0));
 }
 
-/* Pools torn in mark, version, a count, a slip, a buffer's count, and in either length. */
+/* Pools torn in mark, version, a count, a slip, a piece's and a buffer's count, and in either length. */
 static void refusals_of_torn_pools(void)
 {
-    static const size_t at[6] = {0, 3, 9, 13, 19, 79};
+    static const size_t at[6] = {0, 3, 9, 15, 27, 87};
     box b = fresh(4, 6, 4);
     put(b, 600);
     for (int i = 0; i < 6; i++) {
@@ -715,7 +866,7 @@ static void refusals_of_torn_pools(void)
     b.storage_length++;
     CHECK(slp_audit(NULL, 0, NULL, 0).code == SLP_TORN);
     CHECK(slp_put(NULL, 0, NULL, 0, NULL, 0).code == SLP_TORN);
-    CHECK(slp_show(NULL, 0, NULL, 0, 0, 0, NULL, 0).code == SLP_TORN);
+    CHECK(slp_show(NULL, 0, NULL, 0, 0, 0, 0, NULL, 0).code == SLP_TORN);
     give_back(b);
 }
 
@@ -725,22 +876,22 @@ static void idle_calls(void)
     box b = fresh(4, 6, 4);
     put(b, 600);
     IDLE(b, slp_audit(LENT(b)));
-    IDLE(b, slp_drop(LENT(b), 0, 0));
-    IDLE(b, slp_keep(LENT(b), 0, 600));
-    IDLE(b, slp_pullup(LENT(b), 0, 0));
-    IDLE(b, slp_pullup(LENT(b), 0, 512));
-    IDLE(b, slp_read(LENT(b), 0, 600, 0, NULL, 0));
-    ANSWERS(0, slp_keep(LENT(b), 0, 512));
-    IDLE(b, slp_pack(LENT(b), 0));
-    ANSWERS(0, slp_keep(LENT(b), 0, 0));
-    CHECK(word_at(b, 11) == 1);
-    IDLE(b, slp_pack(LENT(b), 0));
-    IDLE(b, slp_length(LENT(b), 0));
+    IDLE(b, slp_drop(LENT(b), NAME(0), 0));
+    IDLE(b, slp_keep(LENT(b), NAME(0), 600));
+    IDLE(b, slp_pullup(LENT(b), NAME(0), 0));
+    IDLE(b, slp_pullup(LENT(b), NAME(0), 512));
+    IDLE(b, slp_read(LENT(b), NAME(0), 600, 0, NULL, 0));
+    ANSWERS(0, slp_keep(LENT(b), NAME(0), 512));
+    IDLE(b, slp_pack(LENT(b), NAME(0)));
+    ANSWERS(0, slp_keep(LENT(b), NAME(0), 0));
+    CHECK(word_at(b, state_at(0)) == 1);
+    IDLE(b, slp_pack(LENT(b), NAME(0)));
+    IDLE(b, slp_length(LENT(b), NAME(0)));
     ANSWERS(1, slp_put(LENT(b), NULL, 0));
-    CHECK(word_at(b, 13) == 1);
-    ANSWERS(0, slp_append(LENT(b), 0, 1));
-    ANSWERS(0, slp_free(LENT(b), 0));
-    CHECK(memcmp(b.pool, head, 11) == 0 && all_zero(b));
+    CHECK(word_at(b, state_at(1)) == 1);
+    ANSWERS(0, slp_append(LENT(b), NAME(0), NAME(1)));
+    ANSWERS(0, slp_free(LENT(b), NAME(0)));
+    CHECK(memcmp(b.pool, head, 11) == 0 && fresh_but_serials(b) && serials(b, 1, 1, 0, 0));
     give_back(b);
 }
 
@@ -759,23 +910,23 @@ static void views(void)
 {
     box b = fresh(4, 6, 4);
     put(b, 600);
-    slp_cut(LENT(b), 0, 500, 50);
+    slp_cut(LENT(b), NAME(0), 500, 50);
     box before = copy_of(b);
-    SHOWS(b, slp_show(LENT(b), 0, 512, b.output, OUTPUT), 512, 0, 0, 0);
-    SHOWS(b, slp_show(LENT(b), 0, 512, NULL, 0), 512, 0, 0, 0);
-    SHOWS(b, slp_show(LENT(b), 1, 12, NULL, 0), 12, 0, 500, 500);
-    SHOWS(b, slp_show(LENT(b), 1, 0, NULL, 0), 0, 0, 0, 0);
+    SHOWS(b, slp_show(LENT(b), NAME(0), 512, b.output, OUTPUT), 512, 0, 0, 0);
+    SHOWS(b, slp_show(LENT(b), NAME(0), 512, NULL, 0), 512, 0, 0, 0);
+    SHOWS(b, slp_show(LENT(b), NAME(1), 12, NULL, 0), 12, 0, 500, 500);
+    SHOWS(b, slp_show(LENT(b), NAME(1), 0, NULL, 0), 0, 0, 0, 0);
     CHECK(same(b, before));
-    SHOWS(b, slp_show(LENT(b), 1, 13, b.output, 13), 13, 1, 0, 500);
+    SHOWS(b, slp_show(LENT(b), NAME(1), 13, b.output, 13), 13, 1, 0, 500);
     memcpy(before.output, b.storage + 500, 13);
     CHECK(same(b, before));
-    SHOWS(b, slp_show(LENT(b), 1, 50, b.output, OUTPUT), 50, 1, 0, 500);
+    SHOWS(b, slp_show(LENT(b), NAME(1), 50, b.output, OUTPUT), 50, 1, 0, 500);
     CHECK(b.output[50] == OLD && b.output[OUTPUT - 1] == OLD);
     CHECK(memcmp(b.pool, before.pool, b.pool_length) == 0 && memcmp(b.storage, before.storage, b.storage_length) == 0);
-    ANSWERS(0, slp_drop(LENT(b), 0, 512));
-    SHOWS(b, slp_show(LENT(b), 0, 88, NULL, 0), 88, 0, 512, 512);
-    ANSWERS(0, slp_drop(LENT(b), 0, 88));
-    SHOWS(b, slp_show(LENT(b), 0, 0, NULL, 0), 0, 0, 0, 0);
+    ANSWERS(0, slp_drop(LENT(b), NAME(0), 512));
+    SHOWS(b, slp_show(LENT(b), NAME(0), 88, NULL, 0), 88, 0, 512, 512);
+    ANSWERS(0, slp_drop(LENT(b), NAME(0), 88));
+    SHOWS(b, slp_show(LENT(b), NAME(0), 0, NULL, 0), 0, 0, 0, 0);
     give_back(before);
     give_back(b);
 }
@@ -827,41 +978,42 @@ static void largest(void)
     box b = fresh(SLP_MOST_BUFFERS, SLP_MOST_PIECES, SLP_MOST_SLIPS);
     ANSWERS(0, put(b, all));
     REFUSES(SLP_BUFFERS, b, put(b, 1));
-    ANSWERS(1, slp_cut(LENT(b), 0, 100, all - 100));
-    ANSWERS(0, slp_free(LENT(b), 0));
+    ANSWERS(1, slp_cut(LENT(b), NAME(0), 100, all - 100));
+    ANSWERS(0, slp_free(LENT(b), NAME(0)));
     CHECK(reads(b, 1, all - 100, 100));
-    for (uint16_t s = 0; s < SLP_MOST_SLIPS; s++) {
-        if (s != 1) ANSWERS(s, slp_dup(LENT(b), 1));
+    for (uint32_t s = 0; s < SLP_MOST_SLIPS; s++) {
+        if (s != 1) ANSWERS(AT(s, s == 0), slp_dup(LENT(b), NAME(1)));
     }
-    REFUSES(SLP_SLIPS, b, slp_dup(LENT(b), 1));
+    REFUSES(SLP_SLIPS, b, slp_dup(LENT(b), NAME(1)));
     CHECK(reads(b, SLP_MOST_SLIPS - 1, all - 100, 100));
-    for (uint16_t s = 0; s < SLP_MOST_SLIPS; s++) ANSWERS(0, slp_free(LENT(b), s));
-    CHECK(all_zero(b));
+    for (uint32_t s = 0; s < SLP_MOST_SLIPS; s++) ANSWERS(0, slp_free(LENT(b), NAME(AT(s, s == 0))));
+    CHECK(fresh_but_serials(b));
+    for (unsigned s = 0; s < SLP_MOST_SLIPS; s++) CHECK(word_at(b, serial_at(s)) == 1u + (s == 0));
     give_back(b);
 }
 
 /* The largest pool with every piece in use: pullup refused and done, drop done behind an own piece and refused inside a shared head. */
 static void largest_full_table(void)
 {
-    const uint32_t stored = SLP_MOST_BUFFERS - 2, all = SLP_BUFFER_SIZE * stored, pieces = 11 + 2 * SLP_MOST_SLIPS;
+    const uint32_t stored = SLP_MOST_BUFFERS - 2, all = SLP_BUFFER_SIZE * stored, pieces = 11 + 4 * SLP_MOST_SLIPS;
     box b = fresh(SLP_MOST_BUFFERS, SLP_MOST_PIECES, SLP_MOST_SLIPS);
     ANSWERS(0, put(b, all));
-    ANSWERS(1, slp_cut(LENT(b), 0, 0, all));
-    ANSWERS(2, slp_dup(LENT(b), 0));
-    ANSWERS(3, slp_cut(LENT(b), 0, 500, 24));
-    ANSWERS(4, slp_dup(LENT(b), 3));
+    ANSWERS(1, slp_cut(LENT(b), NAME(0), 0, all));
+    ANSWERS(2, slp_dup(LENT(b), NAME(0)));
+    ANSWERS(3, slp_cut(LENT(b), NAME(0), 500, 24));
+    ANSWERS(4, slp_dup(LENT(b), NAME(3)));
     REFUSES(SLP_PIECES, b, put(b, 1));
-    REFUSES(SLP_PIECES, b, slp_pullup(LENT(b), 3, 20));
-    ANSWERS(0, slp_pullup(LENT(b), 3, 24));
-    CHECK(word_at(b, 17) == 2 + 2045 && word_at(b, pieces + 20452) == stored && word_at(b, pieces + 20456) == 24);
+    REFUSES(SLP_PIECES, b, slp_pullup(LENT(b), NAME(3), 20));
+    ANSWERS(0, slp_pullup(LENT(b), NAME(3), 24));
+    CHECK(word_at(b, state_at(3)) == 2 + 2045 && word_at(b, pieces + 20452) == stored && word_at(b, pieces + 20456) == 24);
     CHECK(reads(b, 3, 24, 500) && reads(b, 4, 24, 500));
-    ANSWERS(0, slp_drop(LENT(b), 2, 520));
-    CHECK(word_at(b, 15) == 2 + 2044 && word_at(b, pieces + 20442) == 1 && word_at(b, pieces + 20444) == 8);
+    ANSWERS(0, slp_drop(LENT(b), NAME(2), 520));
+    CHECK(word_at(b, state_at(2)) == 2 + 2044 && word_at(b, pieces + 20442) == 1 && word_at(b, pieces + 20444) == 8);
     CHECK(reads(b, 2, all - 520, 520) && reads(b, 0, all, 0));
-    ANSWERS(0, slp_drop(LENT(b), 2, 504));
-    ANSWERS(5, slp_dup(LENT(b), 0));
+    ANSWERS(0, slp_drop(LENT(b), NAME(2), 504));
+    ANSWERS(5, slp_dup(LENT(b), NAME(0)));
     REFUSES(SLP_PIECES, b, put(b, 1));
-    REFUSES(SLP_PIECES, b, slp_drop(LENT(b), 2, 1));
+    REFUSES(SLP_PIECES, b, slp_drop(LENT(b), NAME(2), 1));
     give_back(b);
 }
 
@@ -875,6 +1027,11 @@ int main(void)
     edges_of_put();
     edges_of_others();
     full_tables();
+    old_names();
+    serials_of_append();
+    spent_slips();
+    spent_by_append();
+    worn_out();
     refusals_of_slips();
     refusals_of_ranges();
     refusals_of_room();

@@ -19,12 +19,15 @@ static uint8_t pool[SLP_POOL_LENGTH(B, P, S)], storage[ALL], data[ALL], output[L
 static uint32_t list[2 * P];
 static slp_stretch records[P];
 #define LENT pool, sizeof pool, storage, sizeof storage
+/* A slip as it was answered, as the calls take it. */
+#define NAME(n) SLP_NUMBER(n), SLP_SERIAL(n)
 
 /* ---- states of the pool */
 
-static void done(slp_answer a)
+/* The number of a call that is done. */
+static uint32_t done(slp_answer a)
 {
-    if (a.code == SLP_DONE) return;
+    if (a.code == SLP_DONE) return a.number;
     printf("a state of the pool is not reached: code %u\n", a.code);
     exit(1);
 }
@@ -40,7 +43,7 @@ static void stored(void)
 {
     fresh();
     done(slp_put(LENT, data, ALL));
-    done(slp_drop(LENT, 0, 1));
+    done(slp_drop(LENT, NAME(0), 1));
 }
 
 /* The same over half of them, so that the chain can be packed. */
@@ -48,7 +51,7 @@ static void half(void)
 {
     fresh();
     done(slp_put(LENT, data, ALL / 2));
-    done(slp_drop(LENT, 0, 1));
+    done(slp_drop(LENT, NAME(0), 1));
 }
 
 /* Slip 0 holds the longest chain: no piece is free. */
@@ -56,8 +59,8 @@ static void longest(void)
 {
     fresh();
     done(slp_put(LENT, data, ALL));
-    done(slp_cut(LENT, 0, 0, ALL));
-    done(slp_append(LENT, 0, 1));
+    done(slp_cut(LENT, NAME(0), 0, ALL));
+    done(slp_append(LENT, NAME(0), NAME(1)));
 }
 
 /* Slip 0 shares all its pieces but the first with slip 1; slip 2 has one more; room for everything. */
@@ -65,7 +68,7 @@ static void shared(void)
 {
     fresh();
     done(slp_put(LENT, data, ALL - 8192));
-    done(slp_dup(LENT, 0));
+    done(slp_dup(LENT, NAME(0)));
     done(slp_put(LENT, data, 100));
 }
 
@@ -74,16 +77,16 @@ static void tight(void)
 {
     fresh();
     done(slp_put(LENT, data, ALL));
-    done(slp_dup(LENT, 0));
-    done(slp_cut(LENT, 0, 0, ALL - 512));
+    done(slp_dup(LENT, NAME(0)));
+    done(slp_cut(LENT, NAME(0), 0, ALL - 512));
 }
 
 /* The same, slip 1 heading the first shared piece. */
 static void headed(void)
 {
     tight();
-    done(slp_drop(LENT, 1, 512));
-    done(slp_dup(LENT, 0));
+    done(slp_drop(LENT, NAME(1), 512));
+    done(slp_dup(LENT, NAME(0)));
 }
 
 /* Slip 0 holds a chain over all buffers, its last piece shared with slip 1; no piece is free. */
@@ -91,23 +94,24 @@ static void ended(void)
 {
     fresh();
     done(slp_put(LENT, data, ALL));
-    done(slp_dup(LENT, 0));
-    done(slp_drop(LENT, 1, ALL - 512));
-    done(slp_cut(LENT, 0, 0, ALL));
+    done(slp_dup(LENT, NAME(0)));
+    done(slp_drop(LENT, NAME(1), ALL - 512));
+    done(slp_cut(LENT, NAME(0), 0, ALL));
 }
 
-/* Slip 0 holds 512 pieces of one byte each, slip 1 all others; no piece is free. */
+/* Slip 0 holds 512 pieces of one byte each, another slip all others; no piece is free. */
 static void crumbs(void)
 {
     fresh();
     done(slp_put(LENT, data, 1));
     for (uint32_t n = 1; n < 512; n *= 2) {
-        done(slp_cut(LENT, 0, 0, n));
-        done(slp_append(LENT, 0, 1));
+        uint32_t part = done(slp_cut(LENT, NAME(0), 0, n));
+        done(slp_append(LENT, NAME(0), NAME(part)));
     }
-    for (int i = 0; i < P / 512 - 1; i++) {
-        done(slp_cut(LENT, 0, 0, 512));
-        if (i > 0) done(slp_append(LENT, 1, 2));
+    uint32_t rest = done(slp_cut(LENT, NAME(0), 0, 512));
+    for (int i = 2; i < P / 512; i++) {
+        uint32_t part = done(slp_cut(LENT, NAME(0), 0, 512));
+        done(slp_append(LENT, NAME(rest), NAME(part)));
     }
 }
 
@@ -118,21 +122,28 @@ static void held(void)
     for (int s = 0; s < S; s++) done(slp_put(LENT, data, 1));
 }
 
+/* No slip is held, and every one is spent. */
+static void spent(void)
+{
+    fresh();
+    for (size_t s = 0; s < S; s++) pool[11 + 4 * s + 2] = pool[11 + 4 * s + 3] = 255;
+}
+
 /* The longest chain comes back to itself: torn, which only the audit's walks find. */
 static void torn(void)
 {
     longest();
-    for (size_t at = 11 + 2 * S; at < 11 + 2 * S + 10 * P; at += 10) {
+    for (size_t at = 11 + 4 * S; at < 11 + 4 * S + 10 * P; at += 10) {
         if (pool[at + 8] == 0 && pool[at + 9] == 0) pool[at + 8] = 1;
     }
-    pool[11 + 2 * S]++;
+    pool[11 + 4 * S]++;
 }
 
 /* The list of the longest chain, for gather. */
 static void listed(void)
 {
     longest();
-    done(slp_list(LENT, 0, list, 2 * P));
+    done(slp_list(LENT, NAME(0), list, 2 * P));
 }
 
 /* ---- the calls: name, way, code, state, expression */
@@ -145,81 +156,84 @@ static void listed(void)
     X(put, done, SLP_DONE, fresh, slp_put(LENT, data, ALL)) \
     X(put, torn, SLP_TORN, torn, slp_put(LENT, data, 1)) \
     X(put, slips, SLP_SLIPS, held, slp_put(LENT, data, 1)) \
+    X(put, spent, SLP_SLIPS, spent, slp_put(LENT, data, 1)) \
     X(put, pieces, SLP_PIECES, longest, slp_put(LENT, data, 1)) \
     X(put, buffers, SLP_BUFFERS, stored, slp_put(LENT, data, 1)) \
-    X(free, done, SLP_DONE, longest, slp_free(LENT, 0)) \
-    X(free, torn, SLP_TORN, torn, slp_free(LENT, 0)) \
-    X(free, slip, SLP_SLIP, longest, slp_free(LENT, 1)) \
-    X(dup, done, SLP_DONE, stored, slp_dup(LENT, 0)) \
-    X(dup, torn, SLP_TORN, torn, slp_dup(LENT, 0)) \
-    X(dup, slip, SLP_SLIP, stored, slp_dup(LENT, 1)) \
-    X(dup, slips, SLP_SLIPS, held, slp_dup(LENT, 0)) \
-    X(dup, pieces, SLP_PIECES, longest, slp_dup(LENT, 0)) \
-    X(cut, done, SLP_DONE, stored, slp_cut(LENT, 0, 1, ALL - 2)) \
-    X(cut, torn, SLP_TORN, torn, slp_cut(LENT, 0, 1, 1)) \
-    X(cut, slip, SLP_SLIP, stored, slp_cut(LENT, 1, 1, 1)) \
-    X(cut, range, SLP_RANGE, stored, slp_cut(LENT, 0, 1, ALL)) \
-    X(cut, slips, SLP_SLIPS, held, slp_cut(LENT, 0, 0, 1)) \
-    X(cut, pieces, SLP_PIECES, longest, slp_cut(LENT, 0, 0, LONGEST)) \
-    X(append, done, SLP_DONE, shared, slp_append(LENT, 0, 2)) \
-    X(append, torn, SLP_TORN, torn, slp_append(LENT, 0, 1)) \
-    X(append, slip, SLP_SLIP, shared, slp_append(LENT, 0, 3)) \
-    X(append, same, SLP_SAME, shared, slp_append(LENT, 0, 0)) \
-    X(append, pieces, SLP_PIECES, tight, slp_append(LENT, 0, 2)) \
-    X(drop, own, SLP_DONE, longest, slp_drop(LENT, 0, LONGEST - 1)) \
-    X(drop, shared, SLP_DONE, shared, slp_drop(LENT, 0, 400000)) \
-    X(drop, torn, SLP_TORN, torn, slp_drop(LENT, 0, 1)) \
-    X(drop, slip, SLP_SLIP, longest, slp_drop(LENT, 1, 1)) \
-    X(drop, range, SLP_RANGE, longest, slp_drop(LENT, 0, LONGEST + 1)) \
-    X(drop, front, SLP_DONE, tight, slp_drop(LENT, 0, 600)) \
-    X(drop, long_front, SLP_DONE, ended, slp_drop(LENT, 0, ALL - 1)) \
-    X(drop, pieces, SLP_PIECES, headed, slp_drop(LENT, 1, 600)) \
-    X(keep, own, SLP_DONE, longest, slp_keep(LENT, 0, LONGEST - 1)) \
-    X(keep, shared, SLP_DONE, shared, slp_keep(LENT, 0, 400000)) \
-    X(keep, torn, SLP_TORN, torn, slp_keep(LENT, 0, 1)) \
-    X(keep, slip, SLP_SLIP, longest, slp_keep(LENT, 1, 1)) \
-    X(keep, range, SLP_RANGE, longest, slp_keep(LENT, 0, LONGEST + 1)) \
-    X(keep, pieces, SLP_PIECES, tight, slp_keep(LENT, 0, 400000)) \
-    X(pullup, own, SLP_DONE, half, slp_pullup(LENT, 0, 512)) \
-    X(pullup, shared, SLP_DONE, shared, (done(slp_drop(LENT, 0, 1)), slp_pullup(LENT, 0, 512))) \
-    X(pullup, torn, SLP_TORN, torn, slp_pullup(LENT, 0, 1)) \
-    X(pullup, slip, SLP_SLIP, stored, slp_pullup(LENT, 1, 1)) \
-    X(pullup, too_long, SLP_LONG, stored, slp_pullup(LENT, 0, 513)) \
-    X(pullup, range, SLP_RANGE, held, slp_pullup(LENT, 0, 2)) \
-    X(pullup, long_front, SLP_DONE, crumbs, slp_pullup(LENT, 0, 512)) \
-    X(pullup, pieces, SLP_PIECES, tight, (done(slp_drop(LENT, 0, 1)), slp_pullup(LENT, 0, 512))) \
-    X(pullup, buffers, SLP_BUFFERS, stored, slp_pullup(LENT, 0, 512)) \
-    X(pack, done, SLP_DONE, half, slp_pack(LENT, 0)) \
-    X(pack, torn, SLP_TORN, torn, slp_pack(LENT, 0)) \
-    X(pack, slip, SLP_SLIP, stored, slp_pack(LENT, 1)) \
-    X(pack, pieces, SLP_PIECES, longest, slp_pack(LENT, 0)) \
-    X(pack, buffers, SLP_BUFFERS, stored, slp_pack(LENT, 0)) \
-    X(length, done, SLP_DONE, longest, slp_length(LENT, 0)) \
-    X(length, torn, SLP_TORN, torn, slp_length(LENT, 0)) \
-    X(length, slip, SLP_SLIP, longest, slp_length(LENT, 1)) \
-    X(read, done, SLP_DONE, longest, slp_read(LENT, 0, 0, LONGEST, output, LONGEST)) \
-    X(read, torn, SLP_TORN, torn, slp_read(LENT, 0, 0, 1, output, 1)) \
-    X(read, slip, SLP_SLIP, longest, slp_read(LENT, 1, 0, 1, output, 1)) \
-    X(read, range, SLP_RANGE, longest, slp_read(LENT, 0, 1, LONGEST, output, LONGEST)) \
-    X(read, narrow, SLP_NARROW, longest, slp_read(LENT, 0, 0, LONGEST, output, LONGEST - 1)) \
-    X(show, in_storage, SLP_DONE, longest, slp_show(LENT, 0, 512, output, 0)) \
-    X(show, in_scratch, SLP_DONE, stored, slp_show(LENT, 0, 512, output, 512)) \
-    X(show, torn, SLP_TORN, torn, slp_show(LENT, 0, 1, output, 512)) \
-    X(show, slip, SLP_SLIP, stored, slp_show(LENT, 1, 1, output, 512)) \
-    X(show, too_long, SLP_LONG, stored, slp_show(LENT, 0, 513, output, 513)) \
-    X(show, range, SLP_RANGE, held, slp_show(LENT, 0, 2, output, 512)) \
-    X(show, narrow, SLP_NARROW, stored, slp_show(LENT, 0, 512, output, 511)) \
-    X(list, done, SLP_DONE, longest, slp_list(LENT, 0, list, 2 * P)) \
-    X(list, torn, SLP_TORN, torn, slp_list(LENT, 0, list, 2 * P)) \
-    X(list, slip, SLP_SLIP, longest, slp_list(LENT, 1, list, 2 * P)) \
-    X(list, narrow, SLP_NARROW, longest, slp_list(LENT, 0, list, 2 * P - 1)) \
+    X(free, done, SLP_DONE, longest, slp_free(LENT, NAME(0))) \
+    X(free, torn, SLP_TORN, torn, slp_free(LENT, NAME(0))) \
+    X(free, slip, SLP_SLIP, longest, slp_free(LENT, NAME(1))) \
+    X(free, serial, SLP_SLIP, longest, slp_free(LENT, NAME(65536))) \
+    X(dup, done, SLP_DONE, stored, slp_dup(LENT, NAME(0))) \
+    X(dup, torn, SLP_TORN, torn, slp_dup(LENT, NAME(0))) \
+    X(dup, slip, SLP_SLIP, stored, slp_dup(LENT, NAME(1))) \
+    X(dup, slips, SLP_SLIPS, held, slp_dup(LENT, NAME(0))) \
+    X(dup, pieces, SLP_PIECES, longest, slp_dup(LENT, NAME(0))) \
+    X(cut, done, SLP_DONE, stored, slp_cut(LENT, NAME(0), 1, ALL - 2)) \
+    X(cut, torn, SLP_TORN, torn, slp_cut(LENT, NAME(0), 1, 1)) \
+    X(cut, slip, SLP_SLIP, stored, slp_cut(LENT, NAME(1), 1, 1)) \
+    X(cut, range, SLP_RANGE, stored, slp_cut(LENT, NAME(0), 1, ALL)) \
+    X(cut, slips, SLP_SLIPS, held, slp_cut(LENT, NAME(0), 0, 1)) \
+    X(cut, pieces, SLP_PIECES, longest, slp_cut(LENT, NAME(0), 0, LONGEST)) \
+    X(append, done, SLP_DONE, shared, slp_append(LENT, NAME(0), NAME(2))) \
+    X(append, torn, SLP_TORN, torn, slp_append(LENT, NAME(0), NAME(1))) \
+    X(append, slip, SLP_SLIP, shared, slp_append(LENT, NAME(0), NAME(3))) \
+    X(append, serial, SLP_SLIP, shared, slp_append(LENT, NAME(0), NAME(65536))) \
+    X(append, same, SLP_SAME, shared, slp_append(LENT, NAME(0), NAME(0))) \
+    X(append, pieces, SLP_PIECES, tight, slp_append(LENT, NAME(0), NAME(2))) \
+    X(drop, own, SLP_DONE, longest, slp_drop(LENT, NAME(0), LONGEST - 1)) \
+    X(drop, shared, SLP_DONE, shared, slp_drop(LENT, NAME(0), 400000)) \
+    X(drop, torn, SLP_TORN, torn, slp_drop(LENT, NAME(0), 1)) \
+    X(drop, slip, SLP_SLIP, longest, slp_drop(LENT, NAME(1), 1)) \
+    X(drop, range, SLP_RANGE, longest, slp_drop(LENT, NAME(0), LONGEST + 1)) \
+    X(drop, front, SLP_DONE, tight, slp_drop(LENT, NAME(0), 600)) \
+    X(drop, long_front, SLP_DONE, ended, slp_drop(LENT, NAME(0), ALL - 1)) \
+    X(drop, pieces, SLP_PIECES, headed, slp_drop(LENT, NAME(1), 600)) \
+    X(keep, own, SLP_DONE, longest, slp_keep(LENT, NAME(0), LONGEST - 1)) \
+    X(keep, shared, SLP_DONE, shared, slp_keep(LENT, NAME(0), 400000)) \
+    X(keep, torn, SLP_TORN, torn, slp_keep(LENT, NAME(0), 1)) \
+    X(keep, slip, SLP_SLIP, longest, slp_keep(LENT, NAME(1), 1)) \
+    X(keep, range, SLP_RANGE, longest, slp_keep(LENT, NAME(0), LONGEST + 1)) \
+    X(keep, pieces, SLP_PIECES, tight, slp_keep(LENT, NAME(0), 400000)) \
+    X(pullup, own, SLP_DONE, half, slp_pullup(LENT, NAME(0), 512)) \
+    X(pullup, shared, SLP_DONE, shared, (done(slp_drop(LENT, NAME(0), 1)), slp_pullup(LENT, NAME(0), 512))) \
+    X(pullup, torn, SLP_TORN, torn, slp_pullup(LENT, NAME(0), 1)) \
+    X(pullup, slip, SLP_SLIP, stored, slp_pullup(LENT, NAME(1), 1)) \
+    X(pullup, too_long, SLP_LONG, stored, slp_pullup(LENT, NAME(0), 513)) \
+    X(pullup, range, SLP_RANGE, held, slp_pullup(LENT, NAME(0), 2)) \
+    X(pullup, long_front, SLP_DONE, crumbs, slp_pullup(LENT, NAME(0), 512)) \
+    X(pullup, pieces, SLP_PIECES, tight, (done(slp_drop(LENT, NAME(0), 1)), slp_pullup(LENT, NAME(0), 512))) \
+    X(pullup, buffers, SLP_BUFFERS, stored, slp_pullup(LENT, NAME(0), 512)) \
+    X(pack, done, SLP_DONE, half, slp_pack(LENT, NAME(0))) \
+    X(pack, torn, SLP_TORN, torn, slp_pack(LENT, NAME(0))) \
+    X(pack, slip, SLP_SLIP, stored, slp_pack(LENT, NAME(1))) \
+    X(pack, pieces, SLP_PIECES, longest, slp_pack(LENT, NAME(0))) \
+    X(pack, buffers, SLP_BUFFERS, stored, slp_pack(LENT, NAME(0))) \
+    X(length, done, SLP_DONE, longest, slp_length(LENT, NAME(0))) \
+    X(length, torn, SLP_TORN, torn, slp_length(LENT, NAME(0))) \
+    X(length, slip, SLP_SLIP, longest, slp_length(LENT, NAME(1))) \
+    X(read, done, SLP_DONE, longest, slp_read(LENT, NAME(0), 0, LONGEST, output, LONGEST)) \
+    X(read, torn, SLP_TORN, torn, slp_read(LENT, NAME(0), 0, 1, output, 1)) \
+    X(read, slip, SLP_SLIP, longest, slp_read(LENT, NAME(1), 0, 1, output, 1)) \
+    X(read, range, SLP_RANGE, longest, slp_read(LENT, NAME(0), 1, LONGEST, output, LONGEST)) \
+    X(read, narrow, SLP_NARROW, longest, slp_read(LENT, NAME(0), 0, LONGEST, output, LONGEST - 1)) \
+    X(show, in_storage, SLP_DONE, longest, slp_show(LENT, NAME(0), 512, output, 0)) \
+    X(show, in_scratch, SLP_DONE, stored, slp_show(LENT, NAME(0), 512, output, 512)) \
+    X(show, torn, SLP_TORN, torn, slp_show(LENT, NAME(0), 1, output, 512)) \
+    X(show, slip, SLP_SLIP, stored, slp_show(LENT, NAME(1), 1, output, 512)) \
+    X(show, too_long, SLP_LONG, stored, slp_show(LENT, NAME(0), 513, output, 513)) \
+    X(show, range, SLP_RANGE, held, slp_show(LENT, NAME(0), 2, output, 512)) \
+    X(show, narrow, SLP_NARROW, stored, slp_show(LENT, NAME(0), 512, output, 511)) \
+    X(list, done, SLP_DONE, longest, slp_list(LENT, NAME(0), list, 2 * P)) \
+    X(list, torn, SLP_TORN, torn, slp_list(LENT, NAME(0), list, 2 * P)) \
+    X(list, slip, SLP_SLIP, longest, slp_list(LENT, NAME(1), list, 2 * P)) \
+    X(list, narrow, SLP_NARROW, longest, slp_list(LENT, NAME(0), list, 2 * P - 1)) \
     X(gather, done, SLP_DONE, listed, slp_gather(storage, sizeof storage, list, 2 * P, output, LONGEST)) \
     X(gather, narrow, SLP_NARROW, listed, slp_gather(storage, sizeof storage, list, 2 * P, output, LONGEST - 1)) \
     X(gather, outside, SLP_LIST, listed, slp_gather(storage, sizeof storage - 1, list, 2 * P, output, LONGEST)) \
-    X(stretches, done, SLP_DONE, longest, slp_stretches(LENT, 0, records, P)) \
-    X(stretches, torn, SLP_TORN, torn, slp_stretches(LENT, 0, records, P)) \
-    X(stretches, slip, SLP_SLIP, longest, slp_stretches(LENT, 1, records, P)) \
-    X(stretches, narrow, SLP_NARROW, longest, slp_stretches(LENT, 0, records, P - 1))
+    X(stretches, done, SLP_DONE, longest, slp_stretches(LENT, NAME(0), records, P)) \
+    X(stretches, torn, SLP_TORN, torn, slp_stretches(LENT, NAME(0), records, P)) \
+    X(stretches, slip, SLP_SLIP, longest, slp_stretches(LENT, NAME(1), records, P)) \
+    X(stretches, narrow, SLP_NARROW, longest, slp_stretches(LENT, NAME(0), records, P - 1))
 
 #define FUNCTION(name, way, wanted, state, call) \
     static unsigned name##_##way(void) { return (call).code; }

@@ -15,7 +15,7 @@ use Rattle.rules.specs.Basics.{Is}
 use Rattle.rules.specs.Bytes.{decode, encode}
 use Rattle.rules.specs.Chain.{State}
 use Rattle.rules.specs.Sound.{Lent}
-use Rattle.rules.specs.Rule.{Judged, _⇐_, firstCode, unnamed, Wants, want, Spare, room, full, alters, codeIn, noView}
+use Rattle.rules.specs.Rule.{Judged, _⇐_, firstCode, Name, unnamed, Wants, want, Spare, room, full, alters, codeIn, noView}
 use Rattle.rules.specs.Step.{Operation, rule, lentOut, refused, stateIn, done, perform}
 use Rattle.rules.proofs.Logic.{if-T, if-F, eq→eqb}
 use Rattle.rules.proofs.Codes.{refusal-pos, first-append, first-no, first-none, none-full, named, full-facts}
@@ -99,5 +99,5 @@ changed {p = p} {st} js w k S a n b is e =
 
 -- ---- a named slip is one of the pool's
 
-pub named-below : {p : List ℕ} {h : Shape} → Shaped p h → (s : ℕ) → (Is (unnamed (decode p) s) → ⊥) → s < h .slips
-named-below {p} o s u = omega (arith, named (decode p) s u .0, total-slips (whole o))
+pub named-below : {p : List ℕ} {h : Shape} → Shaped p h → (x : Name) → (Is (unnamed (decode p) x) → ⊥) → x .slip < h .slips
+named-below {p} o x u = omega (arith, named (decode p) x u .0, total-slips (whole o))

@@ -31,7 +31,7 @@ use Rattle.answer.proofs.New.{new-link}
 use Rattle.release.specs.Hang.{Hangable, hungTo}
 use Rattle.release.proofs.Behind.{behind-tables, hangable}
 use Rattle.build.proofs.Forward.{built-slip}
-use Rattle.append.specs.Join.{Joinable}
+use Rattle.append.specs.Join.{goodName, Joinable}
 
 -- the tables of r are those before the hanging, and first is the link held there
 pub record IsReady (T : Tables) (a b : ℕ) (r : List ℕ) (first : ℕ) : Type 0 where
@@ -51,11 +51,11 @@ module _ {p : List ℕ} {h : Shape} {a b head tail : ℕ} (o : Opened p h) (j : 
   few = omega (arith, total-pieces (whole (o .shaped)), o .few-pieces)
 
   a-ok : Is (linkOk T (headOf T a))
-  a-ok = o .sound .slips-ok a (named T a (j .a-named) .0)
+  a-ok = o .sound .slips-ok a (named T (goodName T a) (j .a-named) .0)
 
   tail-most : headOf T b ≤ pieceTotal T
   tail-most =
-      let b-ok = o .sound .slips-ok b (named T b (j .b-named) .0) in
+      let b-ok = o .sound .slips-ok b (named T (goodName T b) (j .b-named) .0) in
       omega (arith, link-leads T (headOf T b) (o .sound) b-ok (λ z. j .tail-some (j .tail-is ∙ z)) .below)
 
   -- the link to a's head is good
@@ -130,7 +130,7 @@ module _ {p : List ℕ} {h : Shape} {a b head tail : ℕ} (o : Opened p h) (j : 
 
       pub join-hangable : Hangable (decode r) (own .last) first
       join-hangable =
-          let y = join-ready T a b (j .apart) (named T a (j .a-named) .0) (named T b (j .b-named) .0) (tables-now T (o .sound)) in
+          let y = join-ready T a b (j .apart) (named T (goodName T a) (j .a-named) .0) (named T (goodName T b) (j .b-named) .0) (tables-now T (o .sound)) in
           rw (it .is, last-is, it .link) (hangable (ready T a b) a (readyLink T a b) (ownOf T a) (y .below) (y .own) (y .held))
 
       -- what the hanging leaves is the rule's

@@ -9,7 +9,7 @@ ghost use Prim.Native.Nat.{_-_, _≤_, _<_};
 ghost use lib.ListN.{length};
 ghost use Rattle.kinds.specs.SlipState.{stateOf};
 ghost use Rattle.rules.specs.Basics.{Is};
-ghost use Rattle.rules.specs.Tables.{piece, bufferCount, pieceTotal, bufferTotal, slip, holding, setSlip};
+ghost use Rattle.rules.specs.Tables.{piece, bufferCount, pieceTotal, bufferTotal, slip, nameOf, holding, setSlip};
 ghost use Rattle.rules.specs.Bytes.{decode};
 ghost use Rattle.rules.specs.Chain.{cutOut};
 ghost use Rattle.rules.specs.Sound.{linkOk};
@@ -213,12 +213,14 @@ pub fn lay(
     first.0 + 1
 }
 
-// The vacant slip `t` takes the chain that starts at `link`, and its number is the answer: a new handle.
+// The vacant slip `t` takes the chain that starts at `link`, and its number with its serial is the answer: a new handle.
 pub fn under_new(pool: &mut [u8], shape: Shape, t: SlipNumber, link: u16) -> Outcome
     requires { ⌜ Shaped (now pool) shape × (t .0 < shape .slips) × (link < 65535) ⌝ }
     ensures { λ _. ⌜ Becomes (now (pool .entry)) (now (pool .exit)) shape (λ T. setSlip T (t .0) (holding link)) ⌝ }
-    ensures { λ r. ⌜ r ≡ Outcome.Done (record { state = stateOf (slip (decode (now (pool .exit))) (t .0)); number = t .0 }) ⌝ }
+    ensures { λ r. ⌜ r ≡ Outcome.Done
+        (record { state = stateOf (slip (decode (now (pool .exit))) (t .0)); number = nameOf (decode (now (pool .entry))) (t .0) }) ⌝ }
 {
     tables::set_slip(pool, shape, t, link + 1);
-    answer::done(pool, shape, t, t.0 as u32)
+    let serial = tables::serial(pool, shape, t);
+    answer::done(pool, shape, t, t.named(serial))
 }

@@ -14,7 +14,7 @@ use Rattle.kinds.specs.Outcome.{answerOf}
 use Rattle.kinds.proofs.Sizes.{start-most}
 use Rattle.rules.specs.Bytes.{decode, buffersIn, stockIn}
 use Rattle.rules.specs.Sound.{lent}
-use Rattle.rules.specs.Rule.{noView}
+use Rattle.rules.specs.Rule.{Name, noView}
 use Rattle.rules.specs.Read.{copied}
 use Rattle.rules.specs.List.{records}
 use Rattle.rules.specs.Step.{Operation, Show, WireList, Do, lentOut, step}
@@ -57,12 +57,12 @@ module _ {p : List ℕ} (st : List ℕ) {r : Audited} (v : Verdict p (length st)
     start-small after (Storage a) n l = let h = verdict-header v q st refl in omega (arith, h .storage-long, h .counts .most-buffers, start-most (stockIn p) (buffersIn p))
     start-small after Scratch n l = omega arith
 
-    pub shown : {x : Shown} {y : look.Shown} {s n : ℕ} {sc after : List ℕ} → x ≡ shownAs y → Seen y p st s n sc after → shownOf x p st after ≡ step (Do (Show s n sc)) (lent p st)
+    pub shown : {x : Shown} {y : look.Shown} {s : Name} {n : ℕ} {sc after : List ℕ} → x ≡ shownAs y → Seen y p st s n sc after → shownOf x p st after ≡ step (Do (Show s n sc)) (lent p st)
     shown {x} {y} {s} {n} {sc} {after} e w = ap (λ (z : Shown). shownOf z p st after) e ∙ w .is ∙ sound-step st v q (Show s n sc)
 
 -- ---- the records of slp_stretches
 
-module _ {p : List ℕ} (st : List ℕ) (s room : ℕ) {h : Audited} (v : Verdict p (length st) h) where
+module _ {p : List ℕ} (st : List ℕ) (s : Name) (room : ℕ) {h : Audited} (v : Verdict p (length st) h) where
   -- none where the pool is torn
   pub begins-torn : {a : Answer} → h .sound ≡ false → a ≡ record { code = refusalCode Torn; number = 0 } → Begins p st s room (record { answer = a; shape = h .shape; link = 0 })
   unfolding records
@@ -79,7 +79,7 @@ module _ {p : List ℕ} (st : List ℕ) (s room : ℕ) {h : Audited} (v : Verdic
   begins-sound {a} {b} bytes q e f =
       let T = decode p in
       let o = opened st v q in
-      let w = begun-fits T s room e (λ u. o .sound .slips-ok s (omega (arith, named-below (o .shaped) s u, total-slips (whole (o .shaped))))) in
+      let w = begun-fits T s room e (λ u. o .sound .slips-ok (s .slip) (omega (arith, named-below (o .shaped) s u, total-slips (whole (o .shaped))))) in
       record {
         opened = λ _. o;
         good = w .0;

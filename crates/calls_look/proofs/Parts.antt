@@ -11,7 +11,7 @@ use Rattle.rules.specs.Basics.{if_then_else_}
 use Rattle.rules.specs.Bytes.{decode}
 use Rattle.rules.specs.Chain.{spans, reads}
 use Rattle.rules.specs.Sound.{lent}
-use Rattle.rules.specs.Rule.{View, noView}
+use Rattle.rules.specs.Rule.{Name, View, noView}
 use Rattle.rules.specs.Show.{viewOf}
 use Rattle.rules.specs.Step.{Show, Do, rule, Result, stateIn, done, step}
 use Rattle.rules.specs.After.{seen}
@@ -25,7 +25,7 @@ use Rattle.look.proofs.Places.{view-none, view-back, part-seen, lies-whole}
 use Rattle.calls_look.specs.declared.Shown.{Shown}
 use Rattle.calls_look.specs.Shown.{viewIn, shownOf, bytesShown}
 
-module _ (p st sc before : List ℕ) (s n : ℕ) where
+module _ (p st sc before : List ℕ) (s : Name) (n : ℕ) where
   -- so many bytes that a view shows are there, and are those that show s, n lets see
   pub record Shows (v : View) (k : ℕ) : Type 0 where
     pub there : Lies st sc (placeOf v) k
@@ -48,12 +48,12 @@ module _ (p st sc before : List ℕ) (s n : ℕ) where
         let a = allowed (rule o S) (S .tables) (d .allowed-code) in
         let e = w ∙ d .result in
         let k : x .number ≡ n = ap (λ (r : Result). r .number) e in
-        let v : viewIn x ≡ viewOf (decode p .stock) (spans (decode p) s) n = ap (λ (r : Result). r .view) e in
+        let v : viewIn x ≡ viewOf (decode p .stock) (spans (decode p) (s .slip)) n = ap (λ (r : Result). r .view) e in
         let q = placeOf (viewIn x) in
-        let back : viewAt q ≡ viewIn x = ap (λ (y : View). viewAt (placeOf y)) v ∙ view-back (decode p .stock) (spans (decode p) s) n ∙ sym v in
-        let part : partAt st sc q n ≡ take n (reads S s) =
+        let back : viewAt q ≡ viewIn x = ap (λ (y : View). viewAt (placeOf y)) v ∙ view-back (decode p .stock) (spans (decode p) (s .slip)) n ∙ sym v in
+        let part : partAt st sc q n ≡ take n (reads S (s .slip)) =
         part-seen st sc q n ∙ ap (λ (y : View). seen y n st sc) back ∙ ap (λ (r : Result). seen (r .view) n st (r .output)) e ∙ show-seen s n before S h f a in
-        let start-none : n ≡ 0 → viewAt q ≡ noView = λ i. back ∙ v ∙ sym (view-none (decode p .stock) (spans (decode p) s) n i) in
+        let start-none : n ≡ 0 → viewAt q ≡ noView = λ i. back ∙ v ∙ sym (view-none (decode p .stock) (spans (decode p) (s .slip)) n i) in
         let whole = lies-whole st sc q n start-none (ap length part ∙ show-exact s n before S h f a) in
         subst (Shows (viewIn x)) (sym k) (record { there = whole; bytes = part ∙ sym (if-T (eqb (step (Do o) m .code) 0) _ _ (eq→eqb _ 0 (sym code-is ∙ z))) })
 

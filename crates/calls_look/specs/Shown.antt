@@ -7,7 +7,7 @@ use Rattle.kinds.specs.Outcome.{codeOf, numberOf}
 use Rattle.rules.specs.Basics.{if_then_else_}
 use Rattle.rules.specs.Chain.{reads}
 use Rattle.rules.specs.Sound.{Lent}
-use Rattle.rules.specs.Rule.{View}
+use Rattle.rules.specs.Rule.{Name, View}
 use Rattle.rules.specs.Step.{Result, Show, Do, step, stateIn}
 use Rattle.look.specs.declared.Shown as look
 use Rattle.look.specs.Place.{viewAt}
@@ -33,5 +33,5 @@ shownOf r pool storage scratch = record {
 }
 
 -- The bytes that show s, n lets its caller see: of a done one the first n that the slip reads, of a refused one none.
-abbrev pub bytesShown : ℕ → ℕ → List ℕ → Lent → List ℕ
-bytesShown s n scratch m = if eqb (step (Do (Show s n scratch)) m .code) 0 then take n (reads (stateIn m) s) else []
+abbrev pub bytesShown : Name → ℕ → List ℕ → Lent → List ℕ
+bytesShown s n scratch m = if eqb (step (Do (Show s n scratch)) m .code) 0 then take n (reads (stateIn m) (s .slip)) else []

@@ -1,6 +1,7 @@
 // The bodies of length, read, show and list, and what stretches begins with: each audits and then does its operation.
 use kinds::Answer;
 use kinds::Refusal;
+use kinds::Serial;
 use kinds::SlipNumber;
 use layout::Shape;
 use look::Place;
@@ -8,7 +9,7 @@ ghost use mathlib.Core.Path.{_≡_};
 ghost use mathlib.Core.List.{List, []};
 ghost use Prim.Native.Nat.{ℕ, _<_, _^_};
 ghost use Rattle.rules.specs.Sound.{lent};
-ghost use Rattle.rules.specs.Rule.{noView};
+ghost use Rattle.rules.specs.Rule.{Name, name, noView};
 ghost use Rattle.rules.specs.Step.{Length, Read, Show, WireList, Do, step};
 ghost use Rattle.look.specs.Place.{viewAt, placeOf};
 ghost use Rattle.calls.specs.Result.{resultOf};
@@ -67,7 +68,7 @@ fn place_of(shown: Shown) -> Place
 
 // The bytes that an answer of show shows, of the storage and the scratch lent to it: of a done one the first bytes of its slip, of a refused one none.
 pub fn part<'a>(storage: &'a [u8], scratch: &'a [u8], shown: Shown) -> &'a [u8]
-    ensures { λ r. ⌜ ((pool before : List ℕ) (s n : ℕ)
+    ensures { λ r. ⌜ ((pool before : List ℕ) (s : Name) (n : ℕ)
         → shownOf shown pool (now (storage .entry)) (now (scratch .entry)) ≡ step (Do (Show s n before)) (lent pool (now (storage .entry)))
         → now r ≡ bytesShown s n before (lent pool (now (storage .entry)))) ⌝ }
 {
@@ -80,16 +81,16 @@ pub fn part<'a>(storage: &'a [u8], scratch: &'a [u8], shown: Shown) -> &'a [u8]
 }
 
 // length: the byte count of a chain.
-pub fn length(pool: &[u8], storage: &[u8], slip: SlipNumber) -> Answer
+pub fn length(pool: &[u8], storage: &[u8], slip: SlipNumber, serial: Serial) -> Answer
     ensures { λ r. ⌜ resultOf r (now (pool .entry)) (now (storage .entry)) [] noView
-        ≡ step (Do (Length (slip .0))) (lent (now (pool .entry)) (now (storage .entry))) ⌝ }
+        ≡ step (Do (Length (name (slip .0) (serial .0)))) (lent (now (pool .entry)) (now (storage .entry))) ⌝ }
 {
     let audited = audit::audit(pool, storage.len());
     if !audited.sound {
         return calls::refused(Refusal::Torn);
     }
     let shape = audited.shape;
-    kinds::answer_of(look::length(pool, shape, slip))
+    kinds::answer_of(look::length(pool, shape, slip, serial))
 }
 
 // read: copies bytes of a chain to the front of a lent output.
@@ -97,51 +98,65 @@ pub fn read(
     pool: &[u8],
     storage: &[u8],
     slip: SlipNumber,
+    serial: Serial,
     offset: u32,
     length: u32,
     output: &mut [u8],
 ) -> Answer
     ensures { λ r. ⌜ resultOf r (now (pool .entry)) (now (storage .entry)) (now (output .exit)) noView
-        ≡ step (Do (Read (slip .0) offset length (now (output .entry)))) (lent (now (pool .entry)) (now (storage .entry))) ⌝ }
+        ≡ step (Do (Read (name (slip .0) (serial .0)) offset length (now (output .entry)))) (lent (now (pool .entry)) (now (storage .entry))) ⌝ }
 {
     let audited = audit::audit(pool, storage.len());
     if !audited.sound {
         return calls::refused(Refusal::Torn);
     }
     let shape = audited.shape;
-    let o = look::read(pool, shape, storage, slip, offset, length, output);
+    let o = look::read(pool, shape, storage, slip, serial, offset, length, output);
     kinds::answer_of(o)
 }
 
 // show: the first bytes of a chain in one stretch, of storage or of a lent scratch.
-pub fn show(pool: &[u8], storage: &[u8], slip: SlipNumber, n: u32, scratch: &mut [u8]) -> Shown
+pub fn show(
+    pool: &[u8],
+    storage: &[u8],
+    slip: SlipNumber,
+    serial: Serial,
+    n: u32,
+    scratch: &mut [u8],
+) -> Shown
     ensures { λ r. ⌜ shownOf r (now (pool .entry)) (now (storage .entry)) (now (scratch .exit))
-        ≡ step (Do (Show (slip .0) n (now (scratch .entry)))) (lent (now (pool .entry)) (now (storage .entry))) ⌝ }
+        ≡ step (Do (Show (name (slip .0) (serial .0)) n (now (scratch .entry)))) (lent (now (pool .entry)) (now (storage .entry))) ⌝ }
 {
     let audited = audit::audit(pool, storage.len());
     if !audited.sound {
         return shown_of(look::unseen(Refusal::Torn));
     }
     let shape = audited.shape;
-    shown_of(look::show(pool, shape, storage, slip, n, scratch))
+    shown_of(look::show(pool, shape, storage, slip, serial, n, scratch))
 }
 
 // list: where the pieces of a chain lie in storage, two numbers each, to the front of a lent list.
-pub fn list(pool: &[u8], storage: &[u8], slip: SlipNumber, list: &mut [u32]) -> Answer
+pub fn list(
+    pool: &[u8],
+    storage: &[u8],
+    slip: SlipNumber,
+    serial: Serial,
+    list: &mut [u32],
+) -> Answer
     ensures { λ r. ⌜ resultOf r (now (pool .entry)) (now (storage .entry)) (now (list .exit)) noView
-        ≡ step (Do (WireList (slip .0) (now (list .entry)))) (lent (now (pool .entry)) (now (storage .entry))) ⌝ }
+        ≡ step (Do (WireList (name (slip .0) (serial .0)) (now (list .entry)))) (lent (now (pool .entry)) (now (storage .entry))) ⌝ }
 {
     let audited = audit::audit(pool, storage.len());
     if !audited.sound {
         return calls::refused(Refusal::Torn);
     }
     let shape = audited.shape;
-    kinds::answer_of(list::list(pool, shape, slip, list))
+    kinds::answer_of(list::list(pool, shape, slip, serial, list))
 }
 
 // What slp_stretches answers, and where its records start: audited and judged before any is written.
-pub fn begin(pool: &[u8], storage: &[u8], slip: SlipNumber, room: usize) -> Begun
-    ensures { λ r. ⌜ Begins (now (pool .entry)) (now (storage .entry)) (slip .0) room r ⌝ }
+pub fn begin(pool: &[u8], storage: &[u8], slip: SlipNumber, serial: Serial, room: usize) -> Begun
+    ensures { λ r. ⌜ Begins (now (pool .entry)) (now (storage .entry)) (name (slip .0) (serial .0)) room r ⌝ }
 {
     let audited = audit::audit(pool, storage.len());
     let shape = audited.shape;
@@ -152,7 +167,7 @@ pub fn begin(pool: &[u8], storage: &[u8], slip: SlipNumber, room: usize) -> Begu
             link: 0,
         };
     }
-    let b = list::begin(pool, shape, slip, room);
+    let b = list::begin(pool, shape, slip, serial, room);
     let outcome = b.outcome;
     let link = b.link;
     Begun {

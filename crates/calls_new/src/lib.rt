@@ -1,11 +1,12 @@
 // The bodies of put, dup and cut, which answer a new slip: each audits and then does its operation.
 use kinds::Answer;
 use kinds::Refusal;
+use kinds::Serial;
 use kinds::SlipNumber;
 ghost use mathlib.Core.Path.{_≡_};
 ghost use mathlib.Core.List.{[]};
 ghost use Rattle.rules.specs.Sound.{lent};
-ghost use Rattle.rules.specs.Rule.{noView};
+ghost use Rattle.rules.specs.Rule.{name, noView};
 ghost use Rattle.rules.specs.Step.{Put, Dup, Cut, Do, step};
 ghost use Rattle.calls.specs.Result.{resultOf};
 
@@ -23,27 +24,34 @@ pub fn put(pool: &mut [u8], storage: &mut [u8], input: &[u8]) -> Answer
 }
 
 // dup: a new slip on the same chain.
-pub fn dup(pool: &mut [u8], storage: &[u8], slip: SlipNumber) -> Answer
+pub fn dup(pool: &mut [u8], storage: &[u8], slip: SlipNumber, serial: Serial) -> Answer
     ensures { λ r. ⌜ resultOf r (now (pool .exit)) (now (storage .entry)) [] noView
-        ≡ step (Do (Dup (slip .0))) (lent (now (pool .entry)) (now (storage .entry))) ⌝ }
+        ≡ step (Do (Dup (name (slip .0) (serial .0)))) (lent (now (pool .entry)) (now (storage .entry))) ⌝ }
 {
     let audited = audit::audit(pool, storage.len());
     if !audited.sound {
         return calls::refused(Refusal::Torn);
     }
     let shape = audited.shape;
-    kinds::answer_of(dup::dup(pool, shape, slip))
+    kinds::answer_of(dup::dup(pool, shape, slip, serial))
 }
 
 // cut: a new slip on a range of a chain.
-pub fn cut(pool: &mut [u8], storage: &[u8], slip: SlipNumber, offset: u32, length: u32) -> Answer
+pub fn cut(
+    pool: &mut [u8],
+    storage: &[u8],
+    slip: SlipNumber,
+    serial: Serial,
+    offset: u32,
+    length: u32,
+) -> Answer
     ensures { λ r. ⌜ resultOf r (now (pool .exit)) (now (storage .entry)) [] noView
-        ≡ step (Do (Cut (slip .0) offset length)) (lent (now (pool .entry)) (now (storage .entry))) ⌝ }
+        ≡ step (Do (Cut (name (slip .0) (serial .0)) offset length)) (lent (now (pool .entry)) (now (storage .entry))) ⌝ }
 {
     let audited = audit::audit(pool, storage.len());
     if !audited.sound {
         return calls::refused(Refusal::Torn);
     }
     let shape = audited.shape;
-    kinds::answer_of(cut::cut(pool, shape, slip, offset, length))
+    kinds::answer_of(cut::cut(pool, shape, slip, serial, offset, length))
 }

@@ -1,65 +1,69 @@
 -- A slip looked up: what follows from its entry. Assumes nothing.
-use mathlib.Core.Path.{_≡_, sym, subst, _∙_}
-use mathlib.Core.Logic.{_≢_}
-use mathlib.Core.Bool.{not, _&&_}
+use mathlib.Core.Path.{_≡_, sym, ap, subst, _∙_}
+use mathlib.Core.Logic.{_≢_, inl, inr, ⊎-elim}
 use mathlib.Core.List.{List}
 use Prim.Native.Nat.{ℕ, pred, _-_, _≤_, _<_}
 use native.Mathlib.Omega.{arith}
-use native.Mathlib.Decide.{decLt}
-use lib.ListN.{List·getD-eq-default}
-use lib.Dec.{ltb, lt→ltb, eqb→eq, T-not, not-T}
+use native.Mathlib.Decide.{ℕ-discrete}
+use lib.Dec.{eqb→eq}
 use Rattle.rules.specs.Basics.{Is}
-use Rattle.rules.specs.Tables.{Tables, slip, headOf, slipTotal}
+use Rattle.rules.specs.Tables.{Tables, slip, serial, slipTotal}
 use Rattle.rules.specs.Bytes.{decode}
-use Rattle.rules.specs.Sound.{linkOk, SoundTables}
-use Rattle.rules.specs.Room.{isVacant}
-use Rattle.rules.specs.Rule.{unnamed}
-use Rattle.rules.proofs.Codes.{named}
-use Rattle.rules.proofs.Logic.{and-intro, and-1, eq→eqb}
+use Rattle.rules.specs.Sound.{linkOk}
+use Rattle.rules.specs.Rule.{Name, unnamed}
+use Rattle.rules.proofs.Caused.{missing-is}
+use Rattle.rules.proofs.Logic.{if-T, if-F, eq→eqb}
 use Rattle.layout.specs.declared.Shape.{Shape}
 use Rattle.tables.proofs.Laws.{whole, total-slips}
 use Rattle.chain.specs.Opened.{Opened}
 use Rattle.chain.specs.Enter.{Enters}
 
--- past the last slip the table reads as 0
-pub slip-past : (T : Tables) (s : ℕ) → slipTotal T ≤ s → 0 ≡ slip T s
-slip-past T s h = sym (List·getD-eq-default (T .slips) 0 h)
+-- where a name is unnamed, 0 is answered
+pub enters-none : (T : Tables) {h : Shape} {r : ℕ} (x : Name) → Is (unnamed T x) → r ≡ 0 → Enters T h x r
+enters-none T {h} {r} x u e = record {
+  is = e ∙ sym (if-T (unnamed T x) 0 (slip T (x .slip)) u);
+  strange = λ _. u;
+  named = λ n. absurd (n e);
+  below = λ n. absurd (n e);
+  inside = λ n. absurd (n e);
+  entry-is = λ n. absurd (n e);
+  link-is = λ n. absurd (n e);
+  good = subst (λ (n : ℕ). Is (linkOk T n)) (sym (ap (λ (n : ℕ). n - 1) e)) tt;
+}
 
--- a slip whose entry is 0 is unnamed, and any other is one of the pool's
-is-unnamed : (T : Tables) (s : ℕ) → slip T s ≡ 0 → Is (unnamed T s)
-is-unnamed T s e =
-    let b = ltb s (slipTotal T) in
-    not-T (b && not (isVacant T s)) (λ t. T-not (isVacant T s) (and-1 b (not (isVacant T s)) t) (eq→eqb (slip T s) 0 e))
+-- a name whose slip is no slip of the pool's, or has another serial, is unnamed
+pub past-unnamed : (T : Tables) (x : Name) → slipTotal T ≤ x .slip → Is (unnamed T x)
+past-unnamed T x l = missing-is T x .1 (inl l)
 
-is-inside : (T : Tables) (s : ℕ) → slip T s ≢ 0 → s < slipTotal T
-is-inside T s n = elim (decLt s (slipTotal T)) [ yes h ↦ h | no h ↦ absurd (n (sym (slip-past T s (omega (arith, h))))) ]
+pub other-unnamed : (T : Tables) (x : Name) → serial T (x .slip) ≢ x .serial → Is (unnamed T x)
+other-unnamed T x n = missing-is T x .1 (inr (inr n))
 
-is-named : (T : Tables) (s : ℕ) → slip T s ≢ 0 → Is (unnamed T s) → ⊥
-is-named T s n u =
-    let b = ltb s (slipTotal T) in
-    let v = not-T (isVacant T s) (λ z. n (eqb→eq (slip T s) 0 z)) in
-    T-not (b && not (isVacant T s)) u (and-intro b (not (isVacant T s)) (lt→ltb s (slipTotal T) (is-inside T s n)) v)
+-- a slip with its serial is unnamed just where it is vacant
+vacant-unnamed : (T : Tables) (x : Name) → slip T (x .slip) ≡ 0 → Is (unnamed T x)
+vacant-unnamed T x e = missing-is T x .1 (inr (inl (eq→eqb (slip T (x .slip)) 0 e)))
 
--- the link of any slip is good
-head-good : (T : Tables) (s : ℕ) → SoundTables T → Is (linkOk T (headOf T s))
-head-good T s S =
-    elim (decLt s (slipTotal T)) [
-      | yes h ↦ S .slips-ok s h
-      | no h ↦ subst (λ (n : ℕ). Is (linkOk T (pred n))) (slip-past T s (omega (arith, h))) tt
-    ]
+held-named : (T : Tables) (x : Name) → x .slip < slipTotal T → serial T (x .slip) ≡ x .serial → slip T (x .slip) ≢ 0 → Is (unnamed T x) → ⊥
+held-named T x l k n u =
+    ⊎-elim (λ m. omega (arith, l, m)) (⊎-elim (λ v. n (eqb→eq (slip T (x .slip)) 0 v)) (λ d. d k)) (missing-is T x .0 u)
 
--- the entry gives the rest
-pub enters : {p : List ℕ} {h : Shape} {r : ℕ} (s : ℕ) → Opened p h → r ≡ slip (decode p) s → Enters (decode p) h s r
-enters {p} {h} {r} s o e =
+-- the entry of a slip with its serial gives the rest
+pub enters-some : {p : List ℕ} {h : Shape} {r : ℕ} (x : Name) → Opened p h → x .slip < h .slips → serial (decode p) (x .slip) ≡ x .serial
+    → r ≡ slip (decode p) (x .slip) → Enters (decode p) h x r
+enters-some {p} {h} {r} x o b k e =
     let T = decode p in
-    let l : r - 1 ≡ pred (slip T s) = omega (arith, e) in
-    let there : r ≢ 0 → slip T s ≢ 0 = λ n z. n (e ∙ z) in
+    let l : x .slip < slipTotal T = omega (arith, b, total-slips (whole (o .shaped))) in
+    let link : r - 1 ≡ pred (slip T (x .slip)) = omega (arith, e) in
+    let there : r ≢ 0 → slip T (x .slip) ≢ 0 = λ n z. n (e ∙ z) in
     record {
-      is = e;
-      strange = λ z. is-unnamed T s (sym e ∙ z);
-      named = λ n. is-named T s (there n);
-      below = λ n. omega (arith, is-inside T s (there n), total-slips (whole (o .shaped)));
-      inside = λ n. is-inside T s (there n);
-      link-is = l;
-      good = subst (λ (n : ℕ). Is (linkOk T n)) (sym l) (head-good T s (o .sound));
+      is = elim (ℕ-discrete (slip T (x .slip)) 0) [
+        | yes z ↦ e ∙ z ∙ sym (if-T (unnamed T x) 0 (slip T (x .slip)) (vacant-unnamed T x z))
+        | no n ↦ e ∙ sym (if-F (unnamed T x) 0 (slip T (x .slip)) (held-named T x l k n))
+      ];
+      strange = λ z. vacant-unnamed T x (sym e ∙ z);
+      named = λ n. held-named T x l k (there n);
+      below = λ _. b;
+      inside = λ _. l;
+      entry-is = λ _. e;
+      link-is = λ _. link;
+      good = subst (λ (n : ℕ). Is (linkOk T n)) (sym link) (o .sound .slips-ok (x .slip) l);
     }

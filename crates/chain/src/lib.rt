@@ -1,5 +1,6 @@
 // Walks over chains: what the operations read of them before they act.
 use kinds::PieceNumber;
+use kinds::Serial;
 use kinds::SlipNumber;
 use layout::Shape;
 ghost use mathlib.Core.Path.{_≡_};
@@ -12,6 +13,7 @@ ghost use Rattle.rules.specs.Tables.{piece, headOf, pieceTotal};
 ghost use Rattle.rules.specs.Bytes.{decode};
 ghost use Rattle.rules.specs.Chain.{ownAt, total, firstLength, lengthOf};
 ghost use Rattle.rules.specs.Sound.{linkOk};
+ghost use Rattle.rules.specs.Rule.{name};
 ghost use Rattle.tables.specs.Shape.{Shaped};
 ghost use Rattle.chain.specs.Opened.{Opened};
 ghost use Rattle.chain.specs.Enter.{Enters};
@@ -53,15 +55,19 @@ pub fn head_link(pool: &[u8], shape: Shape, s: SlipNumber) -> u16
     v - 1
 }
 
-// The entry of slip `s`, 0 where the slip is vacant or not one of the pool's: a handle looked up. The link that a held slip holds is 1 less.
-pub fn enter(pool: &[u8], shape: Shape, s: SlipNumber) -> u16
+// The entry of slip `s`, 0 where the slip is vacant, is not one of the pool's or has another serial: a handle looked up, and its generation compared.
+// The link that a held slip holds is 1 less.
+pub fn enter(pool: &[u8], shape: Shape, s: SlipNumber, serial: Serial) -> u16
     requires { ⌜ Opened (now pool) shape ⌝ }
-    ensures { λ r. ⌜ Enters (decode (now (pool .entry))) shape (s .0) r ⌝ }
+    ensures { λ r. ⌜ Enters (decode (now (pool .entry))) shape (name (s .0) (serial .0)) r ⌝ }
 {
-    if s.0 < shape.slips {
-        return tables::slip(pool, shape, s);
+    if shape.slips <= s.0 {
+        return 0;
     }
-    0
+    if tables::serial(pool, shape, s).0 != serial.0 {
+        return 0;
+    }
+    tables::slip(pool, shape, s)
 }
 
 // The length of piece `d` in 32 bits, for sums: its data length.

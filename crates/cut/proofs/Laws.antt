@@ -12,13 +12,13 @@ use Rattle.kinds.specs.declared.Refusal.the-variants.{Slip, Range, Slips, Piece
 use Rattle.kinds.specs.declared.Outcome.{Outcome}
 use Rattle.kinds.specs.declared.Outcome.the-variants.{Done, Refused}
 use Rattle.rules.specs.Basics.{Is}
-use Rattle.rules.specs.Tables.{Tables, pieceTotal}
+use Rattle.rules.specs.Tables.{Tables, nameOf, pieceTotal}
 use Rattle.rules.specs.Bytes.{decode}
 use Rattle.rules.specs.Chain.{Stretch, spans, lengthOf, cutOut}
 use Rattle.rules.specs.Sound.{linkOk, SoundTables, lent}
-use Rattle.rules.specs.Room.{vacantSlips, freePieces, newSlip}
+use Rattle.rules.specs.Room.{readySlips, freePieces, newSlip}
 use Rattle.rules.specs.Build.{plain, underNew}
-use Rattle.rules.specs.Rule.{_⇐_, firstCode, unnamed, want, noView}
+use Rattle.rules.specs.Rule.{_⇐_, firstCode, Name, unnamed, want, noView}
 use Rattle.rules.specs.Cut.{cutAfter}
 use Rattle.rules.specs.Step.{Cut, rule, stateIn, perform}
 use Rattle.rules.proofs.Codes.{first-yes, first-no, first-none}
@@ -52,46 +52,46 @@ module _ (T : Tables) (h off n : ℕ) {at : Spot} {part : Part} (f : Found T h o
 
 -- ---- the answers
 
-module _ (p st : List ℕ) (s off n : ℕ) where
-  -- a slip past the last, or vacant
-  pub cut-slip : Is (unnamed (decode p) s) → resultOf (Refused Slip) p st [] noView ≡ perform (Cut s off n) (lent p st)
+module _ (p st : List ℕ) (y : Name) (off n : ℕ) where
+  -- a slip past the last, or vacant, or with another serial
+  pub cut-slip : Is (unnamed (decode p) y) → resultOf (Refused Slip) p st [] noView ≡ perform (Cut y off n) (lent p st)
   unfolding rule
-  cut-slip u = perform-first (Cut s off n) (lent p st) Slip (first-yes (Slip ⇐ unnamed (decode p) s) _ u)
+  cut-slip u = perform-first (Cut y off n) (lent p st) Slip (first-yes (Slip ⇐ unnamed (decode p) y) _ u)
 
-  module _ (u : Is (unnamed (decode p) s) → ⊥) where
+  module _ (u : Is (unnamed (decode p) y) → ⊥) where
     -- a range past the end of the chain
-    pub cut-range : lengthOf (decode p) s < off + n → resultOf (Refused Range) p st [] noView ≡ perform (Cut s off n) (lent p st)
+    pub cut-range : lengthOf (decode p) (y .slip) < off + n → resultOf (Refused Range) p st [] noView ≡ perform (Cut y off n) (lent p st)
     unfolding rule
     cut-range h =
-        perform-first (Cut s off n) (lent p st) Range
-        (first-no (Slip ⇐ unnamed (decode p) s) _ u ∙ first-yes (Range ⇐ ltb (lengthOf (decode p) s) (off + n)) [] (lt→ltb _ _ h))
+        perform-first (Cut y off n) (lent p st) Range
+        (first-no (Slip ⇐ unnamed (decode p) y) _ u ∙ first-yes (Range ⇐ ltb (lengthOf (decode p) (y .slip)) (off + n)) [] (lt→ltb _ _ h))
 
-    module _ (h : off + n ≤ lengthOf (decode p) s) where
+    module _ (h : off + n ≤ lengthOf (decode p) (y .slip)) where
       -- no refusal is given before room is judged
-      early : firstCode (rule (Cut s off n) (stateIn (lent p st)) .judged) ≡ 0
+      early : firstCode (rule (Cut y off n) (stateIn (lent p st)) .judged) ≡ 0
       unfolding rule
       early =
-          first-no (Slip ⇐ unnamed (decode p) s) _ u
-          ∙ first-no (Range ⇐ ltb (lengthOf (decode p) s) (off + n)) [] (λ t. omega (arith, ltb→lt (lengthOf (decode p) s) (off + n) t)) ∙ first-none
+          first-no (Slip ⇐ unnamed (decode p) y) _ u
+          ∙ first-no (Range ⇐ ltb (lengthOf (decode p) (y .slip)) (off + n)) [] (λ t. omega (arith, ltb→lt (lengthOf (decode p) (y .slip)) (off + n) t)) ∙ first-none
 
-      -- no vacant slip
-      pub cut-slips : length (vacantSlips (decode p)) ≡ 0 → resultOf (Refused Slips) p st [] noView ≡ perform (Cut s off n) (lent p st)
+      -- no slip that may be given
+      pub cut-slips : length (readySlips (decode p)) ≡ 0 → resultOf (Refused Slips) p st [] noView ≡ perform (Cut y off n) (lent p st)
       unfolding rule
-      cut-slips z = perform-slips (Cut s off n) (lent p st) early (omega (arith, z))
+      cut-slips z = perform-slips (Cut y off n) (lent p st) early (omega (arith, z))
 
-      module _ (some : 1 ≤ length (vacantSlips (decode p))) where
+      module _ (some : 1 ≤ length (readySlips (decode p))) where
         -- too few free pieces
-        pub cut-pieces : length (freePieces (decode p)) < length (cutOut (spans (decode p) s) off n) → resultOf (Refused Pieces) p st [] noView ≡ perform (Cut s off n) (lent p st)
+        pub cut-pieces : length (freePieces (decode p)) < length (cutOut (spans (decode p) (y .slip)) off n) → resultOf (Refused Pieces) p st [] noView ≡ perform (Cut y off n) (lent p st)
         unfolding rule
-        cut-pieces l = perform-pieces (Cut s off n) (lent p st) early some (omega (arith, l))
+        cut-pieces l = perform-pieces (Cut y off n) (lent p st) early some (omega (arith, l))
 
         -- the new pieces under the new slip
-        pub cut-done : {o : Outcome} {x : SlipState} {q : List ℕ} {g : Shape} {t : ℕ} {xs : List Stretch} → length (cutOut (spans (decode p) s) off n) ≤ length (freePieces (decode p))
-            → newSlip (decode p) ≡ t → o ≡ Done (record { state = x; number = t }) → AllBytes q
-            → Holds q g (underNew (plain (decode p) xs) (freePieces (decode p)) t) → cutOut (spans (decode p) s) off n ≡ xs → resultOf o q st [] noView ≡ perform (Cut s off n) (lent p st)
+        pub cut-done : {o : Outcome} {x : SlipState} {q : List ℕ} {g : Shape} {t m : ℕ} {xs : List Stretch} → length (cutOut (spans (decode p) (y .slip)) off n) ≤ length (freePieces (decode p))
+            → newSlip (decode p) ≡ t → o ≡ Done (record { state = x; number = m }) → m ≡ nameOf (decode p) t → AllBytes q
+            → Holds q g (underNew (plain (decode p) xs) (freePieces (decode p)) t) → cutOut (spans (decode p) (y .slip)) off n ≡ xs → resultOf o q st [] noView ≡ perform (Cut y off n) (lent p st)
         unfolding rule cutAfter
-        cut-done l e a b is same =
+        cut-done l e a k b is same =
             let T = decode p in
-            changed _ (want 1 (length (cutOut (spans T s) off n)) 0) (newSlip T) (cutAfter s off n (stateIn (lent p st))) a (sym e) b
+            changed _ (want 1 (length (cutOut (spans T (y .slip)) off n)) 0) (nameOf T (newSlip T)) (cutAfter (y .slip) off n (stateIn (lent p st))) a (k ∙ ap (nameOf T) (sym e)) b
             (record { shaped = is .shaped; is = is .is ∙ (λ i. underNew (plain T (sym same i)) (freePieces T) (sym e i)) }) refl
-            ∙ perform-all (Cut s off n) (lent p st) early some (omega (arith, l)) (omega arith)
+            ∙ perform-all (Cut y off n) (lent p st) early some (omega (arith, l)) (omega arith)

@@ -1,15 +1,16 @@
 -- The text of the slips, a line for each, as
 --   slip 1   50 bytes  p2[b0 500+12] > p3[b1 0+38]
+--   slip 2.1  vacant
 use mathlib.Core.List.{List, [], _++_}
 use Prim.Native.Nat.{ℕ, zero, suc, max}
 use lib.ListN.{length}
 use lib.Dec.{eqb}
 use Rattle.rules.specs.Basics.{if_then_else_}
-use Rattle.rules.specs.Tables.{Tables, slip, slipTotal}
+use Rattle.rules.specs.Tables.{Tables, slip, serial, slipTotal}
 use Rattle.rules.specs.Chain.{chain, lengthOf}
 use Rattle.rules.specs.Room.{isVacant}
 use Rattle.page.specs.Page.{ascii}
-use Rattle.page.specs.Digits.{digits, padded, tagged}
+use Rattle.page.specs.Digits.{digits, padded, tagged, serialText}
 use Rattle.draw_chain.specs.Text.{chainText}
 
 -- f 0, .., f (n - 1), one after the other
@@ -38,7 +39,7 @@ stateText T w s =
     else (lengthText w (lengthOf T s) ++ chainText T (chain T s))
 
 abbrev pub slipText : Tables → ℕ → ℕ → List ℕ
-slipText T w s = tagged "  slip " s ++ stateText T w s ++ ascii "\n"
+slipText T w s = tagged "  slip " s ++ serialText (serial T s) ++ stateText T w s ++ ascii "\n"
 
 -- the digits of the longest length
 abbrev pub widthAt : Tables → ℕ → ℕ

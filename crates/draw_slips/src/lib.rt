@@ -79,7 +79,8 @@ fn put_slip(out: &mut [u8], c: Cursor, pool: &[u8], shape: Shape, s: SlipNumber,
     requires { ⌜ Shaped (now pool) shape × (s .0 < shape .slips) ⌝ }
     ensures { λ r. ⌜ Wrote (page (now (out .entry)) c) (page (now (out .exit)) r) (slipText (decode (now (pool .entry))) w (s .0)) ⌝ }
 {
-    let name = page::put_tagged(out, c, b"  slip ", s.0 as u32);
+    let number = page::put_tagged(out, c, b"  slip ", s.0 as u32);
+    let name = page::put_serial(out, number, tables::serial(pool, shape, s));
     let held = put_state(out, name, pool, shape, s, w);
     page::put_text(out, held, b"\n")
 }

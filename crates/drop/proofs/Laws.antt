@@ -17,7 +17,7 @@ use Rattle.rules.specs.Chain.{State, Stretch, chain, lengthOf}
 use Rattle.rules.specs.Sound.{lent}
 use Rattle.rules.specs.Room.{freePieces, freeFrom}
 use Rattle.rules.specs.Build.{Plan, built, builtLink, underFreed}
-use Rattle.rules.specs.Rule.{_⇐_, firstCode, unnamed, giving, noView}
+use Rattle.rules.specs.Rule.{_⇐_, firstCode, Name, unnamed, giving, noView}
 use Rattle.rules.specs.Drop.{dropped, dropBack, dropAfter}
 use Rattle.rules.specs.Step.{Drop, rule, stateIn, perform}
 use Rattle.rules.proofs.Logic.{if-T, if-F, eq→eqb}
@@ -56,32 +56,35 @@ made-dropped T s n i e is f (was, l) =
 
 -- ---- the answers
 
-module _ (p st : List ℕ) (s n : ℕ) where
-  -- a slip past the last, or vacant
-  pub drop-slip : Is (unnamed (decode p) s) → resultOf (Refused Slip) p st [] noView ≡ perform (Drop s n) (lent p st)
-  unfolding rule
-  drop-slip u = perform-first (Drop s n) (lent p st) Slip (first-yes (Slip ⇐ unnamed (decode p) s) _ u)
+module _ (p st : List ℕ) (x : Name) (n : ℕ) where
+  abbrev s : ℕ
+  s = x .slip
 
-  module _ (u : Is (unnamed (decode p) s) → ⊥) where
+  -- a slip past the last, or vacant, or of another serial
+  pub drop-slip : Is (unnamed (decode p) x) → resultOf (Refused Slip) p st [] noView ≡ perform (Drop x n) (lent p st)
+  unfolding rule
+  drop-slip u = perform-first (Drop x n) (lent p st) Slip (first-yes (Slip ⇐ unnamed (decode p) x) _ u)
+
+  module _ (u : Is (unnamed (decode p) x) → ⊥) where
     -- more bytes than the chain has
-    pub drop-range : Is (ltb (lengthOf (decode p) s) n) → resultOf (Refused Range) p st [] noView ≡ perform (Drop s n) (lent p st)
+    pub drop-range : Is (ltb (lengthOf (decode p) s) n) → resultOf (Refused Range) p st [] noView ≡ perform (Drop x n) (lent p st)
     unfolding rule
-    drop-range t = perform-first (Drop s n) (lent p st) Range (first-no (Slip ⇐ unnamed (decode p) s) _ u ∙ first-yes (Range ⇐ ltb (lengthOf (decode p) s) n) _ t)
+    drop-range t = perform-first (Drop x n) (lent p st) Range (first-no (Slip ⇐ unnamed (decode p) x) _ u ∙ first-yes (Range ⇐ ltb (lengthOf (decode p) s) n) _ t)
 
     module _ (enough : Is (ltb (lengthOf (decode p) s) n) → ⊥) where
       -- no refusal comes before room
-      early : firstCode (rule (Drop s n) (stateIn (lent p st)) .judged) ≡ 0
+      early : firstCode (rule (Drop x n) (stateIn (lent p st)) .judged) ≡ 0
       unfolding rule
-      early = first-no (Slip ⇐ unnamed (decode p) s) _ u ∙ first-no (Range ⇐ ltb (lengthOf (decode p) s) n) _ enough ∙ first-none
+      early = first-no (Slip ⇐ unnamed (decode p) x) _ u ∙ first-no (Range ⇐ ltb (lengthOf (decode p) s) n) _ enough ∙ first-none
 
       -- no piece for what stays, with those given back
-      pub drop-pieces : length (dropBack (decode p) s n) + length (freePieces (decode p)) < length (dropped (decode p) s n .more) → resultOf (Refused Pieces) p st [] noView ≡ perform (Drop s n) (lent p st)
+      pub drop-pieces : length (dropBack (decode p) s n) + length (freePieces (decode p)) < length (dropped (decode p) s n .more) → resultOf (Refused Pieces) p st [] noView ≡ perform (Drop x n) (lent p st)
       unfolding rule
-      drop-pieces l = perform-pieces (Drop s n) (lent p st) early (omega arith) l
+      drop-pieces l = perform-pieces (Drop x n) (lent p st) early (omega arith) l
 
       -- no byte goes: nothing changes
-      pub drop-nothing : {o : Outcome} {x : SlipState} {h : Shape} → n ≡ 0 → o ≡ Done (record { state = x; number = 0 }) → AllBytes p → Shaped p h
-          → resultOf o p st [] noView ≡ perform (Drop s n) (lent p st)
+      pub drop-nothing : {o : Outcome} {v : SlipState} {h : Shape} → n ≡ 0 → o ≡ Done (record { state = v; number = 0 }) → AllBytes p → Shaped p h
+          → resultOf o p st [] noView ≡ perform (Drop x n) (lent p st)
       unfolding rule dropAfter
       drop-nothing z a b is =
           let T = decode p in
@@ -89,12 +92,12 @@ module _ (p st : List ℕ) (s n : ℕ) where
           let e : dropAfter s n S ≡ S = if-T (eqb n 0) _ _ (eq→eqb n 0 z) in
           changed _ (giving (dropBack T s n) (length (dropped T s n .more)) 0) 0 (dropAfter s n S) a refl b
           (record { shaped = is; is = sym (ap (λ (X : State). X .tables) e) }) (sym (ap (λ (X : State). X .storage) e))
-          ∙ perform-all (Drop s n) (lent p st) early (omega arith) (omega (arith, ap length (drop-none T true (chain T s) n z))) (omega arith)
+          ∙ perform-all (Drop x n) (lent p st) early (omega arith) (omega (arith, ap length (drop-none T true (chain T s) n z))) (omega arith)
 
       -- what stays is under the slip
-      pub drop-done : {o : Outcome} {x : SlipState} {q : List ℕ} {h : Shape} → (n ≡ 0 → ⊥) → length (dropped (decode p) s n .more) ≤ length (dropBack (decode p) s n) + length (freePieces (decode p))
-          → o ≡ Done (record { state = x; number = 0 }) → AllBytes q
-          → ((S : State) → Holds q h (underFreed S (dropped (decode p) s n) s .tables)) → resultOf o q st [] noView ≡ perform (Drop s n) (lent p st)
+      pub drop-done : {o : Outcome} {v : SlipState} {q : List ℕ} {h : Shape} → (n ≡ 0 → ⊥) → length (dropped (decode p) s n .more) ≤ length (dropBack (decode p) s n) + length (freePieces (decode p))
+          → o ≡ Done (record { state = v; number = 0 }) → AllBytes q
+          → ((S : State) → Holds q h (underFreed S (dropped (decode p) s n) s .tables)) → resultOf o q st [] noView ≡ perform (Drop x n) (lent p st)
       unfolding rule dropAfter
       drop-done i l a b is =
           let T = decode p in
@@ -105,4 +108,4 @@ module _ (p st : List ℕ) (s n : ℕ) where
           changed _ (giving (dropBack T s n) (length (dropped T s n .more)) 0) 0 (dropAfter s n S) a refl b
           (record { shaped = now .shaped; is = now .is ∙ sym (ap (λ (X : State). X .tables) e) })
           (sym (ap (λ (X : State). X .storage) e ∙ freed-storage S (dropped T s n) s))
-          ∙ perform-all (Drop s n) (lent p st) early (omega arith) l (omega arith)
+          ∙ perform-all (Drop x n) (lent p st) early (omega arith) l (omega arith)

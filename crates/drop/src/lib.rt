@@ -1,6 +1,7 @@
 // drop: the first bytes of a chain go.
 use kinds::Outcome;
 use kinds::Refusal;
+use kinds::Serial;
 use kinds::SlipNumber;
 use layout::Shape;
 ghost use mathlib.Core.Path.{_≡_};
@@ -10,18 +11,18 @@ ghost use Rattle.kinds.specs.SlipState.{stateOf};
 ghost use Rattle.rules.specs.Tables.{slip};
 ghost use Rattle.rules.specs.Bytes.{decode};
 ghost use Rattle.rules.specs.Sound.{lent};
-ghost use Rattle.rules.specs.Rule.{noView};
+ghost use Rattle.rules.specs.Rule.{name, noView};
 ghost use Rattle.rules.specs.Step.{Drop, perform};
 ghost use Rattle.chain.specs.Opened.{Opened};
 ghost use Rattle.answer.specs.Result.{resultOf, Leaves};
 
 // Takes the first `n` bytes from the chain of slip `s`: a chain trimmed at its front.
-pub fn drop_first(pool: &mut [u8], shape: Shape, s: SlipNumber, n: u32) -> Outcome
+pub fn drop_first(pool: &mut [u8], shape: Shape, s: SlipNumber, serial: Serial, n: u32) -> Outcome
     requires { ⌜ Opened (now pool) shape ⌝ }
-    ensures { λ r. ⌜ ((st : List ℕ) → resultOf r (now (pool .exit)) st [] noView ≡ perform (Drop (s .0) n) (lent (now (pool .entry)) st)) ⌝ }
+    ensures { λ r. ⌜ ((st : List ℕ) → resultOf r (now (pool .exit)) st [] noView ≡ perform (Drop (name (s .0) (serial .0)) n) (lent (now (pool .entry)) st)) ⌝ }
     ensures { λ r. ⌜ Leaves r (stateOf (slip (decode (now (pool .exit))) (s .0))) ⌝ }
 {
-    let entry = chain::enter(pool, shape, s);
+    let entry = chain::enter(pool, shape, s, serial);
     if !kinds::state_of(entry).held() {
         return Outcome::Refused(Refusal::Slip);
     }

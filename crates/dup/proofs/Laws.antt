@@ -14,14 +14,14 @@ use Rattle.kinds.specs.declared.Outcome.the-variants.{Done, Refused}
 use Rattle.kinds.specs.SlipState.{stateOf}
 use Rattle.kinds.proofs.SlipState.{the-type}
 use Rattle.rules.specs.Basics.{Is}
-use Rattle.rules.specs.Tables.{Tables, piece, headOf, holding, setSlip}
+use Rattle.rules.specs.Tables.{Tables, piece, headOf, nameOf, holding, setSlip}
 use Rattle.rules.specs.Bytes.{decode}
 use Rattle.rules.specs.Chain.{stretch}
 use Rattle.rules.specs.Sound.{lent}
-use Rattle.rules.specs.Room.{vacantSlips, freePieces, newSlip}
+use Rattle.rules.specs.Room.{readySlips, freePieces, newSlip}
 use Rattle.rules.specs.Release.{shared}
 use Rattle.rules.specs.Build.{fresh, taken, built, builtLink, made, underNew}
-use Rattle.rules.specs.Rule.{_⇐_, firstCode, unnamed, want, noView}
+use Rattle.rules.specs.Rule.{_⇐_, firstCode, Name, unnamed, want, noView}
 use Rattle.rules.specs.Dup.{dupPlan, dupAfter}
 use Rattle.rules.specs.Drop.{shorter}
 use Rattle.rules.specs.Step.{Dup, rule, stateIn, perform}
@@ -77,35 +77,35 @@ clone-under T (suc d) t f {fs} {l} z e =
 
 -- ---- the answers
 
-module _ (p st : List ℕ) (s : ℕ) where
-  -- a slip past the last, or vacant
-  pub dup-slip : Is (unnamed (decode p) s) → resultOf (Refused Slip) p st [] noView ≡ perform (Dup s) (lent p st)
+module _ (p st : List ℕ) (y : Name) where
+  -- a slip past the last, or vacant, or with another serial
+  pub dup-slip : Is (unnamed (decode p) y) → resultOf (Refused Slip) p st [] noView ≡ perform (Dup y) (lent p st)
   unfolding rule
-  dup-slip u = perform-first (Dup s) (lent p st) Slip (first-yes (Slip ⇐ unnamed (decode p) s) [] u)
+  dup-slip u = perform-first (Dup y) (lent p st) Slip (first-yes (Slip ⇐ unnamed (decode p) y) [] u)
 
-  module _ (u : Is (unnamed (decode p) s) → ⊥) where
-    early : firstCode (rule (Dup s) (stateIn (lent p st)) .judged) ≡ 0
+  module _ (u : Is (unnamed (decode p) y) → ⊥) where
+    early : firstCode (rule (Dup y) (stateIn (lent p st)) .judged) ≡ 0
     unfolding rule
-    early = first-no (Slip ⇐ unnamed (decode p) s) [] u ∙ first-none
+    early = first-no (Slip ⇐ unnamed (decode p) y) [] u ∙ first-none
 
-    -- no vacant slip
-    pub dup-slips : length (vacantSlips (decode p)) ≡ 0 → resultOf (Refused Slips) p st [] noView ≡ perform (Dup s) (lent p st)
+    -- no slip that may be given
+    pub dup-slips : length (readySlips (decode p)) ≡ 0 → resultOf (Refused Slips) p st [] noView ≡ perform (Dup y) (lent p st)
     unfolding rule
-    dup-slips z = perform-slips (Dup s) (lent p st) early (omega (arith, z))
+    dup-slips z = perform-slips (Dup y) (lent p st) early (omega (arith, z))
 
-    module _ (some : 1 ≤ length (vacantSlips (decode p))) where
+    module _ (some : 1 ≤ length (readySlips (decode p))) where
       -- no free piece for a chain that needs one
-      pub dup-pieces : length (freePieces (decode p)) < length (dupPlan (decode p) (headOf (decode p) s) .more) → resultOf (Refused Pieces) p st [] noView ≡ perform (Dup s) (lent p st)
+      pub dup-pieces : length (freePieces (decode p)) < length (dupPlan (decode p) (headOf (decode p) (y .slip)) .more) → resultOf (Refused Pieces) p st [] noView ≡ perform (Dup y) (lent p st)
       unfolding rule
-      dup-pieces l = perform-pieces (Dup s) (lent p st) early some (omega (arith, l))
+      dup-pieces l = perform-pieces (Dup y) (lent p st) early some (omega (arith, l))
 
       -- the plan under the new slip
-      pub dup-done : {o : Outcome} {x : SlipState} {q : List ℕ} {h : Shape} {t : ℕ} → length (dupPlan (decode p) (headOf (decode p) s) .more) ≤ length (freePieces (decode p))
-          → newSlip (decode p) ≡ t → o ≡ Done (record { state = x; number = t }) → AllBytes q
-          → Holds q h (underNew (dupPlan (decode p) (headOf (decode p) s)) (freePieces (decode p)) t) → resultOf o q st [] noView ≡ perform (Dup s) (lent p st)
+      pub dup-done : {o : Outcome} {x : SlipState} {q : List ℕ} {h : Shape} {t n : ℕ} → length (dupPlan (decode p) (headOf (decode p) (y .slip)) .more) ≤ length (freePieces (decode p))
+          → newSlip (decode p) ≡ t → o ≡ Done (record { state = x; number = n }) → n ≡ nameOf (decode p) t → AllBytes q
+          → Holds q h (underNew (dupPlan (decode p) (headOf (decode p) (y .slip))) (freePieces (decode p)) t) → resultOf o q st [] noView ≡ perform (Dup y) (lent p st)
       unfolding rule dupAfter
-      dup-done {t = t} l e a b is =
+      dup-done {t = t} l e a m b is =
           let T = decode p in
-          changed _ (want 1 (length (dupPlan T (headOf T s) .more)) 0) (newSlip T) (dupAfter s (stateIn (lent p st))) a (sym e) b
-          (record { shaped = is .shaped; is = is .is ∙ ap (underNew (dupPlan T (headOf T s)) (freePieces T)) (sym e) }) refl
-          ∙ perform-all (Dup s) (lent p st) early some (omega (arith, l)) (omega arith)
+          changed _ (want 1 (length (dupPlan T (headOf T (y .slip)) .more)) 0) (nameOf T (newSlip T)) (dupAfter (y .slip) (stateIn (lent p st))) a (m ∙ ap (nameOf T) (sym e)) b
+          (record { shaped = is .shaped; is = is .is ∙ ap (underNew (dupPlan T (headOf T (y .slip))) (freePieces T)) (sym e) }) refl
+          ∙ perform-all (Dup y) (lent p st) early some (omega (arith, l)) (omega arith)

@@ -1,5 +1,5 @@
 -- What free answers and leaves: the rule's result. Assumes nothing.
-use mathlib.Core.Path.{_≡_, refl, sym, _∙_}
+use mathlib.Core.Path.{_≡_, refl, sym, ap, _∙_}
 use mathlib.Core.List.{List, []}
 use Prim.Native.Nat.{ℕ}
 use Rattle.kinds.specs.declared.SlipState.{SlipState}
@@ -7,10 +7,10 @@ use Rattle.kinds.specs.declared.Refusal.the-variants.{Slip}
 use Rattle.kinds.specs.declared.Outcome.{Outcome}
 use Rattle.kinds.specs.declared.Outcome.the-variants.{Done, Refused}
 use Rattle.rules.specs.Basics.{Is}
-use Rattle.rules.specs.Tables.{vacant}
+use Rattle.rules.specs.Tables.{Tables, vacant, aged}
 use Rattle.rules.specs.Bytes.{decode}
 use Rattle.rules.specs.Sound.{lent}
-use Rattle.rules.specs.Rule.{_⇐_, unnamed, want, noView}
+use Rattle.rules.specs.Rule.{_⇐_, Name, unnamed, want, noView}
 use Rattle.rules.specs.Free.{freeAfter}
 use Rattle.rules.specs.Step.{Free, rule, stateIn, perform}
 use Rattle.rules.proofs.Writes.{turned-storage}
@@ -23,17 +23,19 @@ use Rattle.answer.proofs.Perform.{perform-first, perform-none, changed}
 use Rattle.release.specs.Release.{turnedTo}
 use Rattle.release.proofs.Laws.{turned-tables}
 
-module _ (p st : List ℕ) (s : ℕ) where
-  -- a slip past the last, or vacant
-  pub free-slip : Is (unnamed (decode p) s) → resultOf (Refused Slip) p st [] noView ≡ perform (Free s) (lent p st)
+module _ (p st : List ℕ) (x : Name) where
+  -- a slip past the last, or vacant, or with another serial
+  pub free-slip : Is (unnamed (decode p) x) → resultOf (Refused Slip) p st [] noView ≡ perform (Free x) (lent p st)
   unfolding rule
-  free-slip u = perform-first (Free s) (lent p st) Slip (first-yes (Slip ⇐ unnamed (decode p) s) [] u)
+  free-slip u = perform-first (Free x) (lent p st) Slip (first-yes (Slip ⇐ unnamed (decode p) x) [] u)
 
-  -- the slip is turned to vacant
-  pub free-done : {o : Outcome} {x : SlipState} {q : List ℕ} {h : Shape} → (Is (unnamed (decode p) s) → ⊥) → o ≡ Done (record { state = x; number = 0 }) → AllBytes q
-      → Holds q h (turnedTo (decode p) s vacant) → resultOf o q st [] noView ≡ perform (Free s) (lent p st)
+  -- the slip is turned to vacant, and its serial goes up
+  pub free-done : {o : Outcome} {y : SlipState} {q : List ℕ} {h : Shape} → (Is (unnamed (decode p) x) → ⊥) → o ≡ Done (record { state = y; number = 0 }) → AllBytes q
+      → Holds q h (aged (turnedTo (decode p) (x .slip) vacant) (x .slip)) → resultOf o q st [] noView ≡ perform (Free x) (lent p st)
   unfolding rule
   free-done u a b is =
       let S = stateIn (lent p st) in
-      changed _ (want 0 0 0) 0 (freeAfter s S) a refl b (record { shaped = is .shaped; is = is .is ∙ sym (turned-tables S s vacant) }) (sym (turned-storage S s vacant))
-      ∙ perform-none (Free s) (lent p st) refl (first-no (Slip ⇐ unnamed (decode p) s) [] u ∙ first-none)
+      let s = x .slip in
+      changed _ (want 0 0 0) 0 (freeAfter s S) a refl b
+      (record { shaped = is .shaped; is = is .is ∙ ap (λ (T : Tables). aged T s) (sym (turned-tables S s vacant)) }) (sym (turned-storage S s vacant))
+      ∙ perform-none (Free x) (lent p st) refl (first-no (Slip ⇐ unnamed (decode p) x) [] u ∙ first-none)

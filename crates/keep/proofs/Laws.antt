@@ -16,7 +16,7 @@ use Rattle.rules.specs.Chain.{State, Stretch, follow, spans, lengthOf, stretche
 use Rattle.rules.specs.Sound.{linkOk, lent}
 use Rattle.rules.specs.Room.{freePieces}
 use Rattle.rules.specs.Build.{built, builtLink, behindOwn}
-use Rattle.rules.specs.Rule.{_⇐_, firstCode, unnamed, want, noView}
+use Rattle.rules.specs.Rule.{_⇐_, firstCode, Name, unnamed, want, noView}
 use Rattle.rules.specs.Keep.{kept, keptOwn, keptNotOwn, shortened, keptBy, keepAfter}
 use Rattle.rules.specs.Step.{Keep, rule, stateIn, perform}
 use Rattle.rules.proofs.Logic.{if-T, if-F, eq→eqb}
@@ -211,30 +211,33 @@ module _ {p : List ℕ} {h : Shape} {s n : ℕ} {own : OwnPart} (w : Seen p h s 
 
 -- ---- the answers
 
-module _ (p st : List ℕ) (s n : ℕ) where
-  -- a slip past the last, or vacant
-  pub keep-slip : Is (unnamed (decode p) s) → resultOf (Refused Slip) p st [] noView ≡ perform (Keep s n) (lent p st)
-  unfolding rule
-  keep-slip u = perform-first (Keep s n) (lent p st) Slip (first-yes (Slip ⇐ unnamed (decode p) s) _ u)
+module _ (p st : List ℕ) (x : Name) (n : ℕ) where
+  abbrev s : ℕ
+  s = x .slip
 
-  module _ (u : Is (unnamed (decode p) s) → ⊥) where
+  -- a slip past the last, or vacant, or of another serial
+  pub keep-slip : Is (unnamed (decode p) x) → resultOf (Refused Slip) p st [] noView ≡ perform (Keep x n) (lent p st)
+  unfolding rule
+  keep-slip u = perform-first (Keep x n) (lent p st) Slip (first-yes (Slip ⇐ unnamed (decode p) x) _ u)
+
+  module _ (u : Is (unnamed (decode p) x) → ⊥) where
     -- a chain shorter than n
-    pub keep-range : lengthOf (decode p) s < n → resultOf (Refused Range) p st [] noView ≡ perform (Keep s n) (lent p st)
+    pub keep-range : lengthOf (decode p) s < n → resultOf (Refused Range) p st [] noView ≡ perform (Keep x n) (lent p st)
     unfolding rule
     keep-range l =
-        perform-first (Keep s n) (lent p st) Range
-        (first-no (Slip ⇐ unnamed (decode p) s) _ u ∙ first-yes (Range ⇐ ltb (lengthOf (decode p) s) n) [] (lt→ltb _ _ l))
+        perform-first (Keep x n) (lent p st) Range
+        (first-no (Slip ⇐ unnamed (decode p) x) _ u ∙ first-yes (Range ⇐ ltb (lengthOf (decode p) s) n) [] (lt→ltb _ _ l))
 
     module _ (l : n ≤ lengthOf (decode p) s) where
-      early : firstCode (rule (Keep s n) (stateIn (lent p st)) .judged) ≡ 0
+      early : firstCode (rule (Keep x n) (stateIn (lent p st)) .judged) ≡ 0
       unfolding rule
       early =
-          first-no (Slip ⇐ unnamed (decode p) s) _ u
+          first-no (Slip ⇐ unnamed (decode p) x) _ u
           ∙ first-no (Range ⇐ ltb (lengthOf (decode p) s) n) [] (λ t. omega (arith, ltb→lt (lengthOf (decode p) s) n t)) ∙ first-none
 
       -- the whole chain stays
-      pub keep-whole : {o : Outcome} {x : SlipState} {h : Shape} → n ≡ lengthOf (decode p) s → o ≡ Done (record { state = x; number = 0 }) → AllBytes p → Holds p h (decode p)
-          → resultOf o p st [] noView ≡ perform (Keep s n) (lent p st)
+      pub keep-whole : {o : Outcome} {v : SlipState} {h : Shape} → n ≡ lengthOf (decode p) s → o ≡ Done (record { state = v; number = 0 }) → AllBytes p → Holds p h (decode p)
+          → resultOf o p st [] noView ≡ perform (Keep x n) (lent p st)
       unfolding rule keepAfter
       keep-whole e a b is =
           let T = decode p in
@@ -244,7 +247,7 @@ module _ (p st : List ℕ) (s n : ℕ) where
           let none : (if eqb n (lengthOf T s) then 0 else length (keptNotOwn T s n)) ≡ 0 = if-T (eqb n (lengthOf T s)) _ _ yes in
           changed _ (want 0 (if eqb n (lengthOf T s) then 0 else length (keptNotOwn T s n)) 0) 0 (keepAfter s n S) a refl b
           (record { shaped = is .shaped; is = is .is ∙ ap (λ (X : State). X .tables) same }) (ap (λ (X : State). X .storage) same)
-          ∙ perform-none (Keep s n) (lent p st) (ap (λ (m : ℕ). want 0 m 0) none) early
+          ∙ perform-none (Keep x n) (lent p st) (ap (λ (m : ℕ). want 0 m 0) none) early
 
       module _ (other : n ≡ lengthOf (decode p) s → ⊥) where
         not-whole : Is (eqb n (lengthOf (decode p) s)) → ⊥
@@ -254,14 +257,14 @@ module _ (p st : List ℕ) (s n : ℕ) where
         wants-others = if-F (eqb n (lengthOf (decode p) s)) _ _ not-whole
 
         -- too few free pieces for those that are replaced
-        pub keep-pieces : length (freePieces (decode p)) < length (keptNotOwn (decode p) s n) → resultOf (Refused Pieces) p st [] noView ≡ perform (Keep s n) (lent p st)
+        pub keep-pieces : length (freePieces (decode p)) < length (keptNotOwn (decode p) s n) → resultOf (Refused Pieces) p st [] noView ≡ perform (Keep x n) (lent p st)
         unfolding rule
-        keep-pieces f = perform-pieces (Keep s n) (lent p st) early (omega arith) (omega (arith, wants-others))
+        keep-pieces f = perform-pieces (Keep x n) (lent p st) early (omega arith) (omega (arith, wants-others))
 
         -- a part of the chain stays
-        pub keep-done : {o : Outcome} {x : SlipState} {q : List ℕ} {h : Shape} → length (keptNotOwn (decode p) s n) ≤ length (freePieces (decode p)) → o ≡ Done (record { state = x; number = 0 }) → AllBytes q
+        pub keep-done : {o : Outcome} {v : SlipState} {q : List ℕ} {h : Shape} → length (keptNotOwn (decode p) s n) ≤ length (freePieces (decode p)) → o ≡ Done (record { state = v; number = 0 }) → AllBytes q
             → Holds q h (keptBy (stateIn (lent p st)) s (keptOwn (decode p) s n) (kept (decode p) s n) (keptNotOwn (decode p) s n) .tables)
-            → resultOf o q st [] noView ≡ perform (Keep s n) (lent p st)
+            → resultOf o q st [] noView ≡ perform (Keep x n) (lent p st)
         unfolding rule keepAfter
         keep-done f a b is =
             let T = decode p in
@@ -271,4 +274,4 @@ module _ (p st : List ℕ) (s n : ℕ) where
             changed _ (want 0 (if eqb n (lengthOf T s) then 0 else length (keptNotOwn T s n)) 0) 0 (keepAfter s n S) a refl b
             (record { shaped = is .shaped; is = is .is ∙ ap (λ (Y : State). Y .tables) same })
             (sym (kept-storage S s (keptOwn T s n) (kept T s n) (keptNotOwn T s n)) ∙ ap (λ (Y : State). Y .storage) same)
-            ∙ perform-all (Keep s n) (lent p st) early (omega arith) (omega (arith, wants-others)) (omega arith)
+            ∙ perform-all (Keep x n) (lent p st) early (omega arith) (omega (arith, wants-others)) (omega arith)

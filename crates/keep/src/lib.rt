@@ -2,6 +2,7 @@
 use kinds::Outcome;
 use kinds::PieceNumber;
 use kinds::Refusal;
+use kinds::Serial;
 use kinds::SlipNumber;
 use layout::Shape;
 ghost use mathlib.Core.Path.{_≡_};
@@ -11,7 +12,7 @@ ghost use Rattle.kinds.specs.SlipState.{stateOf};
 ghost use Rattle.rules.specs.Tables.{slip, piece};
 ghost use Rattle.rules.specs.Bytes.{decode};
 ghost use Rattle.rules.specs.Sound.{lent};
-ghost use Rattle.rules.specs.Rule.{noView};
+ghost use Rattle.rules.specs.Rule.{name, noView};
 ghost use Rattle.rules.specs.Step.{Keep, perform};
 ghost use Rattle.tables.specs.Shape.{Shaped, Becomes};
 ghost use Rattle.chain.specs.Opened.{Opened};
@@ -31,12 +32,12 @@ fn trim_end(pool: &mut [u8], shape: Shape, last: u16, over: u32)
 }
 
 // Keeps the first `n` bytes of the chain of slip `s`, in its own pieces and in new ones for those that others hold: a chain trimmed at its end.
-pub fn keep(pool: &mut [u8], shape: Shape, s: SlipNumber, n: u32) -> Outcome
+pub fn keep(pool: &mut [u8], shape: Shape, s: SlipNumber, serial: Serial, n: u32) -> Outcome
     requires { ⌜ Opened (now pool) shape ⌝ }
-    ensures { λ r. ⌜ ((st : List ℕ) → resultOf r (now (pool .exit)) st [] noView ≡ perform (Keep (s .0) n) (lent (now (pool .entry)) st)) ⌝ }
+    ensures { λ r. ⌜ ((st : List ℕ) → resultOf r (now (pool .exit)) st [] noView ≡ perform (Keep (name (s .0) (serial .0)) n) (lent (now (pool .entry)) st)) ⌝ }
     ensures { λ r. ⌜ Leaves r (stateOf (slip (decode (now (pool .exit))) (s .0))) ⌝ }
 {
-    let entry = chain::enter(pool, shape, s);
+    let entry = chain::enter(pool, shape, s, serial);
     if entry == 0 {
         return Outcome::Refused(Refusal::Slip);
     }

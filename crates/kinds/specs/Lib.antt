@@ -1,5 +1,6 @@
 -- What the contracts of kinds cite.
 pub mod Limits
+pub mod Serial
 pub mod SlipState
 pub mod Refusal
 pub mod Outcome

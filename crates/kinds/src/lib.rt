@@ -1,14 +1,18 @@
 // The numbers of slips, pieces and buffers, a slip's state, the refusals and the answers.
 ghost use mathlib.Core.Path.{_≡_};
 ghost use Prim.Native.Nat.{_+_, _*_, min};
-ghost use lib.Dec.{ltb, leb};
+ghost use lib.Dec.{ltb, leb, eqb};
 ghost use Rattle.kinds.specs.Limits.{mostBuffers, mostPieces, mostSlips, bufferSize, counted};
+ghost use Rattle.kinds.specs.Serial.{lastSerial, older, nameWith};
 ghost use Rattle.kinds.specs.SlipState.{stateOf, isHeld};
 ghost use Rattle.kinds.specs.Refusal.{refusalCode};
 ghost use Rattle.kinds.specs.Outcome.{answerOf};
 
 // The number of a slip: a handle that a caller holds.
 pub struct SlipNumber(pub u16);
+
+// The serial of a slip, which a caller gives beside its number: a handle's generation.
+pub struct Serial(pub u16);
 
 // The number of a piece: a segment descriptor, as an mbuf or an accessor.
 pub struct PieceNumber(pub u16);
@@ -90,6 +94,35 @@ impl SlipNumber {
         ensures { λ r. ⌜ r ≡ ltb (self .0) count ⌝ }
     {
         self.0 < count
+    }
+
+    // The number that is answered for the slip, with its serial: a handle and its generation in one.
+    pub fn named(self, serial: Serial) -> u32
+        ensures { λ r. ⌜ r ≡ nameWith (self .0) (serial .0) ⌝ }
+    {
+        self.0 as u32 + 65536 * serial.0 as u32
+    }
+}
+
+impl Serial {
+    // The last serial: a generation that does not wrap.
+    pub const LAST: u16 = 65535;
+
+    // Whether it is the last, at which a vacant slip is spent: a generation used up.
+    pub fn last(self) -> bool
+        ensures { λ r. ⌜ r ≡ eqb (self .0) lastSerial ⌝ }
+    {
+        self.0 == Serial::LAST
+    }
+
+    // The serial once its slip is vacated, 1 more and never past the last: a generation counter that stops.
+    pub fn older(self) -> Serial
+        ensures { λ r. ⌜ r .0 ≡ older (self .0) ⌝ }
+    {
+        if self.0 < Serial::LAST {
+            return Serial(self.0 + 1);
+        }
+        Serial(Serial::LAST)
     }
 }
 

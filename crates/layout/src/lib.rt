@@ -14,7 +14,7 @@ ghost use Rattle.rules.specs.Bytes.{encode, buffersIn, piecesIn, slipsIn};
 ghost use Rattle.rules.specs.Sound.{marked, countsOk, lengthsOk};
 
 // The version that a pool's header states: a format version.
-const VERSION: u16 = 1;
+const VERSION: u16 = 2;
 
 // Where the header's numbers stand: field offsets.
 const VERSION_AT: usize = 3;
@@ -25,10 +25,10 @@ const PIECES_AT: usize = 7;
 
 const SLIPS_AT: usize = 9;
 
-// The bytes of the header, of a slip's entry, of a piece's and of a buffer's count: record sizes.
+// The bytes of the header, of a slip's entry (its state, then its serial), of a piece's and of a buffer's count: record sizes.
 pub const HEADER: usize = 11;
 
-const SLIP_WIDTH: usize = 2;
+const SLIP_WIDTH: usize = 4;
 
 const PIECE_WIDTH: usize = 10;
 

@@ -16,7 +16,7 @@ use Rattle.rules.specs.Tables.{Tables, slip, piece, headOf}
 use Rattle.rules.specs.Bytes.{decode, encode}
 use Rattle.rules.specs.Chain.{Stretch, follow, stretch, positionOf, spans}
 use Rattle.rules.specs.Sound.{linkOk, SoundTables, lent}
-use Rattle.rules.specs.Rule.{_⇐_, unnamed, noView}
+use Rattle.rules.specs.Rule.{Name, _⇐_, unnamed, noView}
 use Rattle.rules.specs.Read.{copied}
 use Rattle.rules.specs.List.{records}
 use Rattle.rules.specs.Step.{WireList, rule, done, perform}
@@ -104,32 +104,36 @@ module _ {T : Tables} {link n : ℕ} {list₀ : List ℕ} {at k : ℕ} {list : L
 
 -- ---- what list answers before it writes
 
-module _ (T : Tables) (s room : ℕ) where
-  pub begun-slip : {r : Begun} → r ≡ nothing Slip → Is (unnamed T s) → r ≡ begun T s room
-  unfolding begun
-  begun-slip e u = e ∙ sym (if-T (unnamed T s) _ _ u)
+module _ (T : Tables) (y : Name) (room : ℕ) where
+  abbrev s : ℕ
+  s = y .slip
 
-  module _ (u : Is (unnamed T s) → ⊥) where
-    pub begun-narrow : {r : Begun} → r ≡ nothing Narrow → room < length (spans T s) → r ≡ begun T s room
+  pub begun-slip : {r : Begun} → r ≡ nothing Slip → Is (unnamed T y) → r ≡ begun T y room
+  unfolding begun
+  begun-slip e u = e ∙ sym (if-T (unnamed T y) _ _ u)
+
+  module _ (u : Is (unnamed T y) → ⊥) where
+    pub begun-narrow : {r : Begun} → r ≡ nothing Narrow → room < length (spans T s) → r ≡ begun T y room
     unfolding begun
-    begun-narrow e h = e ∙ sym (if-F (unnamed T s) _ _ u ∙ if-T (ltb room (length (spans T s))) _ _ (lt→ltb room _ h))
+    begun-narrow e h = e ∙ sym (if-F (unnamed T y) _ _ u ∙ if-T (ltb room (length (spans T s))) _ _ (lt→ltb room _ h))
 
     pub begun-done : {o : Outcome} {l n : ℕ} → o ≡ Done (record { state = stateOf (slip T s); number = n }) → l ≡ headOf T s → n ≡ length (spans T s) → length (spans T s) ≤ room
-        → record { outcome = o; link = l; pieces = n } ≡ begun T s room
+        → record { outcome = o; link = l; pieces = n } ≡ begun T y room
     unfolding begun
     begun-done {o} {l} {n} eo el en h =
         (λ i. record { outcome = eo i; link = el i; pieces = n })
         ∙ (λ i. record { outcome = Done (record { state = stateOf (slip T s); number = en i }); link = headOf T s; pieces = en i })
-        ∙ sym (if-F (unnamed T s) _ _ u ∙ if-F (ltb room (length (spans T s))) _ _ (λ t. omega (arith, ltb→lt room _ t)))
+        ∙ sym (if-F (unnamed T y) _ _ u ∙ if-F (ltb room (length (spans T s))) _ _ (λ t. omega (arith, ltb→lt room _ t)))
 
 -- the records that it then writes are all of the chain, and there is room for them
-pub begun-fits : (T : Tables) (s room : ℕ) {r : Begun} → r ≡ begun T s room → ((Is (unnamed T s) → ⊥) → Is (linkOk T (headOf T s)))
+pub begun-fits : (T : Tables) (y : Name) (room : ℕ) {r : Begun} → r ≡ begun T y room → ((Is (unnamed T y) → ⊥) → Is (linkOk T (headOf T (y .slip))))
     → Is (linkOk T (r .link)) × (r .pieces ≡ length (stretchesFrom T (r .link))) × (r .pieces ≤ room)
 unfolding begun
-begun-fits T s room e good =
+begun-fits T y room e good =
+    let s = y .slip in
     let Fits : Begun → Type 0 = λ b. Is (linkOk T (b .link)) × (b .pieces ≡ length (stretchesFrom T (b .link))) × (b .pieces ≤ room) in
     let none = ap length (stretches-none T) in
-    rw e (if-either Fits (unnamed T s) _ _
+    rw e (if-either Fits (unnamed T y) _ _
     (λ _. (tt, sym none, omega arith))
     (λ u. if-either Fits (ltb room (length (spans T s))) _ _
     (λ _. (tt, sym none, omega arith))
@@ -137,38 +141,38 @@ begun-fits T s room e good =
 
 -- ---- what list answers
 
-module _ (p st list : List ℕ) (s : ℕ) (b : encode (decode p) ≡ p) where
+module _ (p st list : List ℕ) (y : Name) (b : encode (decode p) ≡ p) where
   abbrev T : Tables
   T = decode p
 
   abbrev xs : List Stretch
-  xs = spans T s
+  xs = spans T (y .slip)
 
   -- what is begun comes to the rule, once its records are written
   Comes : Begun → Type 0
   Comes r =
-      (resultOf (r .outcome) p st (copied (records (T .stock) (take (r .pieces) (stretchesFrom T (r .link)))) list) noView ≡ perform (WireList s list) (lent p st))
-      × Leaves (r .outcome) (stateOf (slip T s))
+      (resultOf (r .outcome) p st (copied (records (T .stock) (take (r .pieces) (stretchesFrom T (r .link)))) list) noView ≡ perform (WireList y list) (lent p st))
+      × Leaves (r .outcome) (stateOf (slip T (y .slip)))
 
-  comes : Comes (begun T s (length list / 2))
+  comes : Comes (begun T y (length list / 2))
   unfolding begun records rule done Comes
   comes =
-      if-either Comes (unnamed T s) _ _
-      (λ u. (perform-first (WireList s list) (lent p st) Slip (first-yes (Slip ⇐ unnamed T s) _ u), tt))
+      if-either Comes (unnamed T y) _ _
+      (λ u. (perform-first (WireList y list) (lent p st) Slip (first-yes (Slip ⇐ unnamed T y) _ u), tt))
       (λ u. if-either Comes (ltb (length list / 2) (length xs)) _ _
       (λ t. (
-        perform-first (WireList s list) (lent p st) Narrow (first-no (Slip ⇐ unnamed T s) _ u ∙ first-yes (Narrow ⇐ ltb (length list) (length (records (T .stock) xs))) [] (lt→ltb (length list) (length (records (T .stock) xs)) (omega (arith, ltb→lt (length list / 2) (length xs) t, records-length (T .stock) xs)))),
+        perform-first (WireList y list) (lent p st) Narrow (first-no (Slip ⇐ unnamed T y) _ u ∙ first-yes (Narrow ⇐ ltb (length list) (length (records (T .stock) xs))) [] (lt→ltb (length list) (length (records (T .stock) xs)) (omega (arith, ltb→lt (length list / 2) (length xs) t, records-length (T .stock) xs)))),
         tt,
       ))
       (λ t. (
         (λ i. record { code = 0; number = length xs; pool = sym b i; storage = st; output = copied (records (T .stock) (take-length xs i)) list; view = noView })
-            ∙ perform-none (WireList s list) (lent p st) refl
-            (first-no (Slip ⇐ unnamed T s) _ u ∙ first-no (Narrow ⇐ ltb (length list) (length (records (T .stock) xs))) [] (λ q. omega (arith, ltb→lt (length list) (length (records (T .stock) xs)) q, not-less (length list / 2) (length xs) t, records-length (T .stock) xs)) ∙ first-none),
+            ∙ perform-none (WireList y list) (lent p st) refl
+            (first-no (Slip ⇐ unnamed T y) _ u ∙ first-no (Narrow ⇐ ltb (length list) (length (records (T .stock) xs))) [] (λ q. omega (arith, ltb→lt (length list) (length (records (T .stock) xs)) q, not-less (length list / 2) (length xs) t, records-length (T .stock) xs)) ∙ first-none),
         refl,
       )))
 
-  pub list-performs : {r : Begun} {after : List ℕ} → r ≡ begun T s (length list / 2) → after ≡ copied (records (T .stock) (take (r .pieces) (stretchesFrom T (r .link)))) list
-      → (resultOf (r .outcome) p st after noView ≡ perform (WireList s list) (lent p st)) × Leaves (r .outcome) (stateOf (slip T s))
+  pub list-performs : {r : Begun} {after : List ℕ} → r ≡ begun T y (length list / 2) → after ≡ copied (records (T .stock) (take (r .pieces) (stretchesFrom T (r .link)))) list
+      → (resultOf (r .outcome) p st after noView ≡ perform (WireList y list) (lent p st)) × Leaves (r .outcome) (stateOf (slip T (y .slip)))
   unfolding Comes
   list-performs e w = rw (w, e) comes
 

@@ -2,6 +2,7 @@
 use kinds::Outcome;
 use kinds::PieceNumber;
 use kinds::Refusal;
+use kinds::Serial;
 use kinds::SlipNumber;
 use layout::Shape;
 ghost use mathlib.Core.Path.{_≡_};
@@ -14,7 +15,7 @@ ghost use Rattle.rules.specs.Tables.{slip, piece};
 ghost use Rattle.rules.specs.Bytes.{decode};
 ghost use Rattle.rules.specs.Chain.{follow};
 ghost use Rattle.rules.specs.Sound.{linkOk, lent};
-ghost use Rattle.rules.specs.Rule.{noView};
+ghost use Rattle.rules.specs.Rule.{name, noView};
 ghost use Rattle.rules.specs.Read.{copied};
 ghost use Rattle.rules.specs.List.{records};
 ghost use Rattle.rules.specs.Step.{WireList, perform};
@@ -56,11 +57,11 @@ fn none(why: Refusal) -> Begun
 }
 
 // What list answers of slip `s` where there is room for `room` records, judged before any is written: a handle test and a segment count.
-pub fn begin(pool: &[u8], shape: Shape, s: SlipNumber, room: usize) -> Begun
+pub fn begin(pool: &[u8], shape: Shape, s: SlipNumber, serial: Serial, room: usize) -> Begun
     requires { ⌜ Opened (now pool) shape ⌝ }
-    ensures { λ r. ⌜ r ≡ begun (decode (now (pool .entry))) (s .0) room ⌝ }
+    ensures { λ r. ⌜ r ≡ begun (decode (now (pool .entry))) (name (s .0) (serial .0)) room ⌝ }
 {
-    let entry = chain::enter(pool, shape, s);
+    let entry = chain::enter(pool, shape, s, serial);
     if !kinds::state_of(entry).held() {
         return none(Refusal::Slip);
     }
@@ -98,13 +99,13 @@ pub fn write_records(pool: &[u8], shape: Shape, link: u16, n: usize, list: &mut 
 }
 
 // Writes the records of the chain of slip `s` to the front of `list`, two numbers each: position, then length.
-pub fn list(pool: &[u8], shape: Shape, s: SlipNumber, list: &mut [u32]) -> Outcome
+pub fn list(pool: &[u8], shape: Shape, s: SlipNumber, serial: Serial, list: &mut [u32]) -> Outcome
     requires { ⌜ Opened (now pool) shape ⌝ }
     ensures { λ r. ⌜ ((st : List ℕ) → resultOf r (now (pool .entry)) st (now (list .exit)) noView
-        ≡ perform (WireList (s .0) (now (list .entry))) (lent (now (pool .entry)) st)) ⌝ }
+        ≡ perform (WireList (name (s .0) (serial .0)) (now (list .entry))) (lent (now (pool .entry)) st)) ⌝ }
     ensures { λ r. ⌜ Leaves r (stateOf (slip (decode (now (pool .entry))) (s .0))) ⌝ }
 {
-    let b = begin(pool, shape, s, list.len() / 2);
+    let b = begin(pool, shape, s, serial, list.len() / 2);
     let outcome = b.outcome;
     let link = b.link;
     let n = b.pieces as usize;

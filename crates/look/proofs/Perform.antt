@@ -13,7 +13,7 @@ use Rattle.rules.specs.Basics.{Is}
 use Rattle.rules.specs.Bytes.{decode, encode}
 use Rattle.rules.specs.Chain.{lengthOf, reads}
 use Rattle.rules.specs.Sound.{lent}
-use Rattle.rules.specs.Rule.{_⇐_, unnamed, noView}
+use Rattle.rules.specs.Rule.{_⇐_, Name, unnamed, noView}
 use Rattle.rules.specs.Read.{copied}
 use Rattle.rules.specs.Step.{Length, Read, rule, stateIn, done, perform}
 use Rattle.rules.proofs.Codes.{first-yes, first-no, first-none}
@@ -22,50 +22,53 @@ use Rattle.answer.proofs.Perform.{perform-first, perform-none}
 
 -- ---- length
 
-module _ (p st : List ℕ) (s : ℕ) where
-  pub length-slip : Is (unnamed (decode p) s) → resultOf (Refused Slip) p st [] noView ≡ perform (Length s) (lent p st)
-  unfolding rule
-  length-slip u = perform-first (Length s) (lent p st) Slip (first-yes (Slip ⇐ unnamed (decode p) s) [] u)
+module _ (p st : List ℕ) (y : Name) where
+  abbrev s : ℕ
+  s = y .slip
 
-  pub length-done : {o : Outcome} {x : SlipState} {r : ℕ} → o ≡ Done (record { state = x; number = r }) → (Is (unnamed (decode p) s) → ⊥) → r ≡ lengthOf (decode p) s → encode (decode p) ≡ p
-      → resultOf o p st [] noView ≡ perform (Length s) (lent p st)
+  pub length-slip : Is (unnamed (decode p) y) → resultOf (Refused Slip) p st [] noView ≡ perform (Length y) (lent p st)
+  unfolding rule
+  length-slip u = perform-first (Length y) (lent p st) Slip (first-yes (Slip ⇐ unnamed (decode p) y) [] u)
+
+  pub length-done : {o : Outcome} {x : SlipState} {r : ℕ} → o ≡ Done (record { state = x; number = r }) → (Is (unnamed (decode p) y) → ⊥) → r ≡ lengthOf (decode p) s → encode (decode p) ≡ p
+      → resultOf o p st [] noView ≡ perform (Length y) (lent p st)
   unfolding rule done
   length-done a u e b =
       ap (λ (o : Outcome). resultOf o p st [] noView) a
       ∙ (λ i. record { code = 0; number = e i; pool = sym b i; storage = st; output = []; view = noView })
-      ∙ perform-none (Length s) (lent p st) refl (first-no (Slip ⇐ unnamed (decode p) s) [] u ∙ first-none)
+      ∙ perform-none (Length y) (lent p st) refl (first-no (Slip ⇐ unnamed (decode p) y) [] u ∙ first-none)
 
 -- ---- read
 
-module _ (p st out : List ℕ) (s off n : ℕ) where
-  pub read-slip : Is (unnamed (decode p) s) → resultOf (Refused Slip) p st out noView ≡ perform (Read s off n out) (lent p st)
+module _ (p st out : List ℕ) (y : Name) (off n : ℕ) where
+  pub read-slip : Is (unnamed (decode p) y) → resultOf (Refused Slip) p st out noView ≡ perform (Read y off n out) (lent p st)
   unfolding rule
-  read-slip u = perform-first (Read s off n out) (lent p st) Slip (first-yes (Slip ⇐ unnamed (decode p) s) _ u)
+  read-slip u = perform-first (Read y off n out) (lent p st) Slip (first-yes (Slip ⇐ unnamed (decode p) y) _ u)
 
-  module _ (u : Is (unnamed (decode p) s) → ⊥) where
-    pub read-range : lengthOf (decode p) s < off + n → resultOf (Refused Range) p st out noView ≡ perform (Read s off n out) (lent p st)
+  module _ (u : Is (unnamed (decode p) y) → ⊥) where
+    pub read-range : lengthOf (decode p) (y .slip) < off + n → resultOf (Refused Range) p st out noView ≡ perform (Read y off n out) (lent p st)
     unfolding rule
     read-range h =
-        perform-first (Read s off n out) (lent p st) Range
-        (first-no (Slip ⇐ unnamed (decode p) s) _ u ∙ first-yes (Range ⇐ ltb (lengthOf (decode p) s) (off + n)) _ (lt→ltb _ _ h))
+        perform-first (Read y off n out) (lent p st) Range
+        (first-no (Slip ⇐ unnamed (decode p) y) _ u ∙ first-yes (Range ⇐ ltb (lengthOf (decode p) (y .slip)) (off + n)) _ (lt→ltb _ _ h))
 
-    module _ (h : off + n ≤ lengthOf (decode p) s) where
-      range-ok : Is (ltb (lengthOf (decode p) s) (off + n)) → ⊥
-      range-ok t = omega (arith, ltb→lt (lengthOf (decode p) s) (off + n) t)
+    module _ (h : off + n ≤ lengthOf (decode p) (y .slip)) where
+      range-ok : Is (ltb (lengthOf (decode p) (y .slip)) (off + n)) → ⊥
+      range-ok t = omega (arith, ltb→lt (lengthOf (decode p) (y .slip)) (off + n) t)
 
-      pub read-narrow : length out < n → resultOf (Refused Narrow) p st out noView ≡ perform (Read s off n out) (lent p st)
+      pub read-narrow : length out < n → resultOf (Refused Narrow) p st out noView ≡ perform (Read y off n out) (lent p st)
       unfolding rule
       read-narrow k =
-          perform-first (Read s off n out) (lent p st) Narrow
-          (first-no (Slip ⇐ unnamed (decode p) s) _ u ∙ first-no (Range ⇐ ltb (lengthOf (decode p) s) (off + n)) _ range-ok
+          perform-first (Read y off n out) (lent p st) Narrow
+          (first-no (Slip ⇐ unnamed (decode p) y) _ u ∙ first-no (Range ⇐ ltb (lengthOf (decode p) (y .slip)) (off + n)) _ range-ok
           ∙ first-yes (Narrow ⇐ ltb (length out) n) [] (lt→ltb _ _ k))
 
       pub read-done : {o : Outcome} {x : SlipState} {after : List ℕ} → o ≡ Done (record { state = x; number = n }) → n ≤ length out → encode (decode p) ≡ p
-          → after ≡ copied (take n (drop off (reads (stateIn (lent p st)) s))) out → resultOf o p st after noView ≡ perform (Read s off n out) (lent p st)
+          → after ≡ copied (take n (drop off (reads (stateIn (lent p st)) (y .slip)))) out → resultOf o p st after noView ≡ perform (Read y off n out) (lent p st)
       unfolding rule done
       read-done {after = after} a k b e =
           ap (λ (o : Outcome). resultOf o p st after noView) a
           ∙ (λ i. record { code = 0; number = n; pool = sym b i; storage = st; output = e i; view = noView })
-          ∙ perform-none (Read s off n out) (lent p st) refl
-          (first-no (Slip ⇐ unnamed (decode p) s) _ u ∙ first-no (Range ⇐ ltb (lengthOf (decode p) s) (off + n)) _ range-ok
+          ∙ perform-none (Read y off n out) (lent p st) refl
+          (first-no (Slip ⇐ unnamed (decode p) y) _ u ∙ first-no (Range ⇐ ltb (lengthOf (decode p) (y .slip)) (off + n)) _ range-ok
           ∙ first-no (Narrow ⇐ ltb (length out) n) [] (λ t. omega (arith, ltb→lt (length out) n t)) ∙ first-none)

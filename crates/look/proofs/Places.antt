@@ -21,7 +21,7 @@ use Rattle.rules.specs.Tables.{Tables, slip, piece}
 use Rattle.rules.specs.Bytes.{decode, encode}
 use Rattle.rules.specs.Chain.{Stretch, stretch, spans, total, firstLength, lengthOf, positionOf, reads}
 use Rattle.rules.specs.Sound.{linkOk, SoundTables, lent}
-use Rattle.rules.specs.Rule.{_⇐_, unnamed, View, noView}
+use Rattle.rules.specs.Rule.{_⇐_, Name, unnamed, View, noView}
 use Rattle.rules.specs.Read.{copied}
 use Rattle.rules.specs.Show.{scattered, viewOf}
 use Rattle.rules.specs.Step.{Show, rule, stateIn, done, perform}
@@ -103,43 +103,46 @@ storage-inside Z B (x ∷ xs) a n g k e =
 
 -- ---- show
 
-module _ (p st sc : List ℕ) (s n : ℕ) where
+module _ (p st sc : List ℕ) (y : Name) (n : ℕ) where
+  abbrev s : ℕ
+  s = y .slip
+
   -- a refusal shows the empty start of storage
-  refused-seen : {r : Shown} {why : Refusal} → r ≡ record { outcome = Refused why; place = Storage 0 } → resultOf (Refused why) p st sc noView ≡ perform (Show s n sc) (lent p st)
-      → Seen r p st s n sc sc
+  refused-seen : {r : Shown} {why : Refusal} → r ≡ record { outcome = Refused why; place = Storage 0 } → resultOf (Refused why) p st sc noView ≡ perform (Show y n sc) (lent p st)
+      → Seen r p st y n sc sc
   refused-seen e q = rw e (record { is = q; lies = omega arith; leaves = tt })
 
-  pub show-slip : {r : Shown} → r ≡ record { outcome = Refused Slip; place = Storage 0 } → Is (unnamed (decode p) s) → Seen r p st s n sc sc
+  pub show-slip : {r : Shown} → r ≡ record { outcome = Refused Slip; place = Storage 0 } → Is (unnamed (decode p) y) → Seen r p st y n sc sc
   unfolding rule
-  show-slip e u = refused-seen e (perform-first (Show s n sc) (lent p st) Slip (first-yes (Slip ⇐ unnamed (decode p) s) _ u))
+  show-slip e u = refused-seen e (perform-first (Show y n sc) (lent p st) Slip (first-yes (Slip ⇐ unnamed (decode p) y) _ u))
 
-  module _ (u : Is (unnamed (decode p) s) → ⊥) where
-    pub show-long : {r : Shown} → r ≡ record { outcome = Refused Long; place = Storage 0 } → bufferSize < n → Seen r p st s n sc sc
+  module _ (u : Is (unnamed (decode p) y) → ⊥) where
+    pub show-long : {r : Shown} → r ≡ record { outcome = Refused Long; place = Storage 0 } → bufferSize < n → Seen r p st y n sc sc
     unfolding rule
     show-long e h =
-        refused-seen e (perform-first (Show s n sc) (lent p st) Long
-        (first-no (Slip ⇐ unnamed (decode p) s) _ u ∙ first-yes (Long ⇐ ltb bufferSize n) _ (lt→ltb bufferSize n h)))
+        refused-seen e (perform-first (Show y n sc) (lent p st) Long
+        (first-no (Slip ⇐ unnamed (decode p) y) _ u ∙ first-yes (Long ⇐ ltb bufferSize n) _ (lt→ltb bufferSize n h)))
 
     module _ (w : n ≤ bufferSize) where
       not-long : Is (ltb bufferSize n) → ⊥
       not-long t = omega (arith, ltb→lt bufferSize n t)
 
-      pub show-range : {r : Shown} → r ≡ record { outcome = Refused Range; place = Storage 0 } → lengthOf (decode p) s < n → Seen r p st s n sc sc
+      pub show-range : {r : Shown} → r ≡ record { outcome = Refused Range; place = Storage 0 } → lengthOf (decode p) s < n → Seen r p st y n sc sc
       unfolding rule
       show-range e h =
-          refused-seen e (perform-first (Show s n sc) (lent p st) Range
-          (first-no (Slip ⇐ unnamed (decode p) s) _ u ∙ first-no (Long ⇐ ltb bufferSize n) _ not-long
+          refused-seen e (perform-first (Show y n sc) (lent p st) Range
+          (first-no (Slip ⇐ unnamed (decode p) y) _ u ∙ first-no (Long ⇐ ltb bufferSize n) _ not-long
           ∙ first-yes (Range ⇐ ltb (lengthOf (decode p) s) n) _ (lt→ltb (lengthOf (decode p) s) n h)))
 
       module _ (k : n ≤ lengthOf (decode p) s) where
         not-range : Is (ltb (lengthOf (decode p) s) n) → ⊥
         not-range t = omega (arith, ltb→lt (lengthOf (decode p) s) n t)
 
-        pub show-narrow : {r : Shown} → r ≡ record { outcome = Refused Narrow; place = Storage 0 } → firstLength (spans (decode p) s) < n → length sc < n → Seen r p st s n sc sc
+        pub show-narrow : {r : Shown} → r ≡ record { outcome = Refused Narrow; place = Storage 0 } → firstLength (spans (decode p) s) < n → length sc < n → Seen r p st y n sc sc
         unfolding rule
         show-narrow e v h =
-            refused-seen e (perform-first (Show s n sc) (lent p st) Narrow
-            (first-no (Slip ⇐ unnamed (decode p) s) _ u ∙ first-no (Long ⇐ ltb bufferSize n) _ not-long
+            refused-seen e (perform-first (Show y n sc) (lent p st) Narrow
+            (first-no (Slip ⇐ unnamed (decode p) y) _ u ∙ first-no (Long ⇐ ltb bufferSize n) _ not-long
             ∙ first-no (Range ⇐ ltb (lengthOf (decode p) s) n) _ not-range
             ∙ first-yes (Narrow ⇐ (scattered (spans (decode p) s) n && ltb (length sc) n)) []
             (and-intro (scattered (spans (decode p) s) n) _ (first-lacks (spans (decode p) s) n v) (lt→ltb (length sc) n h))))
@@ -148,12 +151,12 @@ module _ (p st sc : List ℕ) (s n : ℕ) where
           -- a show that is done, at a place and with the scratch as they are found
           done-seen : (place : Place) (after : List ℕ) → (Is (scattered (spans (decode p) s) n && ltb (length sc) n) → ⊥)
               → after ≡ (if scattered (spans (decode p) s) n then copied (take n (reads (stateIn (lent p st)) s)) sc else sc)
-              → viewAt place ≡ viewOf (decode p .stock) (spans (decode p) s) n → Lies st after place n → Seen (record { outcome = o; place = place }) p st s n sc after
+              → viewAt place ≡ viewOf (decode p .stock) (spans (decode p) s) n → Lies st after place n → Seen (record { outcome = o; place = place }) p st y n sc after
           unfolding rule done
           done-seen place after t e v l = rw a (record {
             is = (λ i. record { code = 0; number = n; pool = sym b i; storage = st; output = e i; view = v i })
-                ∙ perform-none (Show s n sc) (lent p st) refl
-                (first-no (Slip ⇐ unnamed (decode p) s) _ u ∙ first-no (Long ⇐ ltb bufferSize n) _ not-long
+                ∙ perform-none (Show y n sc) (lent p st) refl
+                (first-no (Slip ⇐ unnamed (decode p) y) _ u ∙ first-no (Long ⇐ ltb bufferSize n) _ not-long
                 ∙ first-no (Range ⇐ ltb (lengthOf (decode p) s) n) _ not-range
                 ∙ first-no (Narrow ⇐ (scattered (spans (decode p) s) n && ltb (length sc) n)) [] t ∙ first-none);
             lies = l;
@@ -163,7 +166,7 @@ module _ (p st sc : List ℕ) (s n : ℕ) where
           -- the first piece has the bytes
           pub show-storage : (B c : ℕ) → Fit (decode p .stock) B st → Good (decode p .stock) B (spans (decode p) s) → n ≤ firstLength (spans (decode p) s)
               → viewAt (Storage c) ≡ viewOf (decode p .stock) (spans (decode p) s) n
-              → Seen (record { outcome = o; place = Storage c }) p st s n sc sc
+              → Seen (record { outcome = o; place = Storage c }) p st y n sc sc
           show-storage B c f g i v =
               let xs = spans (decode p) s in
               done-seen (Storage c) sc (λ t. first-has xs n i (and-0 (scattered xs n) _ t)) (sym (if-F (scattered xs n) _ _ (first-has xs n i))) v
@@ -171,7 +174,7 @@ module _ (p st sc : List ℕ) (s n : ℕ) where
 
           -- or has not, and they are copied
           pub show-scratch : (after : List ℕ) → firstLength (spans (decode p) s) < n → n ≤ length sc → length after ≡ length sc
-              → after ≡ copied (take n (reads (stateIn (lent p st)) s)) sc → Seen (record { outcome = o; place = Scratch }) p st s n sc after
+              → after ≡ copied (take n (reads (stateIn (lent p st)) s)) sc → Seen (record { outcome = o; place = Scratch }) p st y n sc after
           show-scratch after v m j e =
               let xs = spans (decode p) s in
               done-seen Scratch after (λ q. omega (arith, ltb→lt (length sc) n (and-1 (scattered xs n) _ q))) (e ∙ sym (if-T (scattered xs n) _ _ (first-lacks xs n v)))

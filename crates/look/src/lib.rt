@@ -3,6 +3,7 @@ use kinds::BufferNumber;
 use kinds::Outcome;
 use kinds::PieceNumber;
 use kinds::Refusal;
+use kinds::Serial;
 use kinds::SlipNumber;
 use layout::Shape;
 use transfer::Cursor;
@@ -18,7 +19,7 @@ ghost use Rattle.rules.specs.Tables.{slip};
 ghost use Rattle.rules.specs.Bytes.{decode};
 ghost use Rattle.rules.specs.Chain.{firstLength};
 ghost use Rattle.rules.specs.Sound.{linkOk, lent};
-ghost use Rattle.rules.specs.Rule.{noView};
+ghost use Rattle.rules.specs.Rule.{name, noView};
 ghost use Rattle.rules.specs.Show.{viewOf};
 ghost use Rattle.rules.specs.Step.{Length, Read, perform};
 ghost use Rattle.tables.specs.Shape.{stockOf};
@@ -67,12 +68,13 @@ pub fn view<'a>(storage: &'a [u8], scratch: &'a [u8], place: Place, n: usize) ->
 }
 
 // The byte count of the chain of slip `s`: its length.
-pub fn length(pool: &[u8], shape: Shape, s: SlipNumber) -> Outcome
+pub fn length(pool: &[u8], shape: Shape, s: SlipNumber, serial: Serial) -> Outcome
     requires { ⌜ Opened (now pool) shape ⌝ }
-    ensures { λ r. ⌜ ((st : List ℕ) → resultOf r (now (pool .entry)) st [] noView ≡ perform (Length (s .0)) (lent (now (pool .entry)) st)) ⌝ }
+    ensures { λ r. ⌜ ((st : List ℕ) → resultOf r (now (pool .entry)) st [] noView
+        ≡ perform (Length (name (s .0) (serial .0))) (lent (now (pool .entry)) st)) ⌝ }
     ensures { λ r. ⌜ Leaves r (stateOf (slip (decode (now (pool .entry))) (s .0))) ⌝ }
 {
-    if kinds::state_of(chain::enter(pool, shape, s)).held() {
+    if kinds::state_of(chain::enter(pool, shape, s, serial)).held() {
         return answer::done(pool, shape, s, chain::chain_length(pool, shape, s));
     }
     Outcome::Refused(Refusal::Slip)
@@ -84,16 +86,17 @@ pub fn read(
     shape: Shape,
     storage: &[u8],
     s: SlipNumber,
+    serial: Serial,
     off: u32,
     n: u32,
     output: &mut [u8],
 ) -> Outcome
     requires { ⌜ Opened (now pool) shape × (length (now storage) ≡ storageLength (stockOf shape) (shape .buffers)) ⌝ }
     ensures { λ r. ⌜ resultOf r (now (pool .entry)) (now (storage .entry)) (now (output .exit)) noView
-        ≡ perform (Read (s .0) off n (now (output .entry))) (lent (now (pool .entry)) (now (storage .entry))) ⌝ }
+        ≡ perform (Read (name (s .0) (serial .0)) off n (now (output .entry))) (lent (now (pool .entry)) (now (storage .entry))) ⌝ }
     ensures { λ r. ⌜ Leaves r (stateOf (slip (decode (now (pool .entry))) (s .0))) ⌝ }
 {
-    let entry = chain::enter(pool, shape, s);
+    let entry = chain::enter(pool, shape, s, serial);
     if !kinds::state_of(entry).held() {
         return Outcome::Refused(Refusal::Slip);
     }
@@ -143,13 +146,14 @@ pub fn show(
     shape: Shape,
     storage: &[u8],
     s: SlipNumber,
+    serial: Serial,
     n: u32,
     scratch: &mut [u8],
 ) -> Shown
     requires { ⌜ Opened (now pool) shape × (length (now storage) ≡ storageLength (stockOf shape) (shape .buffers)) ⌝ }
-    ensures { λ r. ⌜ Seen r (now (pool .entry)) (now (storage .entry)) (s .0) n (now (scratch .entry)) (now (scratch .exit)) ⌝ }
+    ensures { λ r. ⌜ Seen r (now (pool .entry)) (now (storage .entry)) (name (s .0) (serial .0)) n (now (scratch .entry)) (now (scratch .exit)) ⌝ }
 {
-    let entry = chain::enter(pool, shape, s);
+    let entry = chain::enter(pool, shape, s, serial);
     if !kinds::state_of(entry).held() {
         return unseen(Refusal::Slip);
     }

@@ -20,7 +20,7 @@ use Rattle.rules.specs.Chain.{State, Stretch, walk, chain, lengthOf, contents, 
 use Rattle.rules.specs.Sound.{linkOk, SoundTables, lent}
 use Rattle.rules.specs.Room.{freePieces, freeBuffers, newBuffers}
 use Rattle.rules.specs.Build.{built, builtLink, plain, underOld, buffersFor, laid, stored}
-use Rattle.rules.specs.Rule.{_⇐_, firstCode, unnamed, Wants, want, noView}
+use Rattle.rules.specs.Rule.{_⇐_, firstCode, Name, unnamed, Wants, want, noView}
 use Rattle.rules.specs.Pack.{packAfter, packWants}
 use Rattle.rules.specs.Step.{Pack, rule, stateIn, perform}
 use Rattle.rules.proofs.Logic.{if-T, if-F}
@@ -123,21 +123,24 @@ module _ {p : List ℕ} {h : Shape} {s n count : ℕ} (w : Found p h s n count) 
 
 -- ---- the answers
 
-module _ (p st : List ℕ) (s : ℕ) where
-  -- a slip past the last, or vacant
-  pub pack-slip : Is (unnamed (decode p) s) → resultOf (Refused Slip) p st [] noView ≡ perform (Pack s) (lent p st)
-  unfolding rule
-  pack-slip u = perform-first (Pack s) (lent p st) Slip (first-yes (Slip ⇐ unnamed (decode p) s) [] u)
+module _ (p st : List ℕ) (x : Name) where
+  abbrev s : ℕ
+  s = x .slip
 
-  module _ (u : Is (unnamed (decode p) s) → ⊥) where
+  -- a slip past the last, or vacant, or of another serial
+  pub pack-slip : Is (unnamed (decode p) x) → resultOf (Refused Slip) p st [] noView ≡ perform (Pack x) (lent p st)
+  unfolding rule
+  pack-slip u = perform-first (Pack x) (lent p st) Slip (first-yes (Slip ⇐ unnamed (decode p) x) [] u)
+
+  module _ (u : Is (unnamed (decode p) x) → ⊥) where
     -- no refusal is judged before room
-    early : firstCode (rule (Pack s) (stateIn (lent p st)) .judged) ≡ 0
+    early : firstCode (rule (Pack x) (stateIn (lent p st)) .judged) ≡ 0
     unfolding rule
-    early = first-no (Slip ⇐ unnamed (decode p) s) [] u ∙ first-none
+    early = first-no (Slip ⇐ unnamed (decode p) x) [] u ∙ first-none
 
     -- a chain of at most one piece stays
-    pub pack-whole : {o : Outcome} {x : SlipState} {h : Shape} → length (chain (decode p) s) ≤ 1 → o ≡ Done (record { state = x; number = 0 }) → AllBytes p → Holds p h (decode p)
-        → resultOf o p st [] noView ≡ perform (Pack s) (lent p st)
+    pub pack-whole : {o : Outcome} {v : SlipState} {h : Shape} → length (chain (decode p) s) ≤ 1 → o ≡ Done (record { state = v; number = 0 }) → AllBytes p → Holds p h (decode p)
+        → resultOf o p st [] noView ≡ perform (Pack x) (lent p st)
     unfolding rule packAfter packWants
     pack-whole few a b is =
         let S = stateIn (lent p st) in
@@ -145,7 +148,7 @@ module _ (p st : List ℕ) (s : ℕ) where
         let same : S ≡ packAfter s S = sym (if-T _ S _ yes) in
         changed _ (packWants (decode p) s) 0 (packAfter s S) a refl b
         (record { shaped = is .shaped; is = is .is ∙ ap (λ (X : State). X .tables) same }) (ap (λ (X : State). X .storage) same)
-        ∙ perform-none (Pack s) (lent p st) (if-T _ _ _ yes) early
+        ∙ perform-none (Pack x) (lent p st) (if-T _ _ _ yes) early
 
     module _ (many : 1 < length (chain (decode p) s)) where
       -- the pieces and the buffers that are wanted
@@ -172,20 +175,20 @@ module _ (p st : List ℕ) (s : ℕ) where
       wants-buffers = ap (λ (w : Wants). w .buffers) wants-fresh
 
       -- too few free pieces
-      pub pack-pieces : length (freePieces (decode p)) < k → resultOf (Refused Pieces) p st [] noView ≡ perform (Pack s) (lent p st)
+      pub pack-pieces : length (freePieces (decode p)) < k → resultOf (Refused Pieces) p st [] noView ≡ perform (Pack x) (lent p st)
       unfolding rule
-      pack-pieces l = perform-pieces (Pack s) (lent p st) early (omega (arith, wants-slips)) (omega (arith, wants-pieces, ap length wants-back))
+      pack-pieces l = perform-pieces (Pack x) (lent p st) early (omega (arith, wants-slips)) (omega (arith, wants-pieces, ap length wants-back))
 
       module _ (enough : k ≤ length (freePieces (decode p))) where
         -- too few free buffers
-        pub pack-buffers : length (freeBuffers (decode p)) < k → resultOf (Refused Buffers) p st [] noView ≡ perform (Pack s) (lent p st)
+        pub pack-buffers : length (freeBuffers (decode p)) < k → resultOf (Refused Buffers) p st [] noView ≡ perform (Pack x) (lent p st)
         unfolding rule
-        pack-buffers l = perform-buffers (Pack s) (lent p st) early (omega (arith, wants-slips)) (omega (arith, wants-pieces, ap length wants-back)) (omega (arith, wants-buffers))
+        pack-buffers l = perform-buffers (Pack x) (lent p st) early (omega (arith, wants-slips)) (omega (arith, wants-pieces, ap length wants-back)) (omega (arith, wants-buffers))
 
         -- the new pieces under the same slip, and the bytes in the new buffers
-        pub pack-done : {o : Outcome} {x : SlipState} {q after : List ℕ} {h : Shape} → k ≤ length (freeBuffers (decode p)) → o ≡ Done (record { state = x; number = 0 }) → AllBytes q
+        pub pack-done : {o : Outcome} {v : SlipState} {q after : List ℕ} {h : Shape} → k ≤ length (freeBuffers (decode p)) → o ≡ Done (record { state = v; number = 0 }) → AllBytes q
             → Holds q h (underOld (stateOf (decode p) after) (plain (decode p) (packed (decode p) s)) (freePieces (decode p)) s .tables)
-            → after ≡ stored (decode p .stock) st (newBuffers (decode p) k) (reads (stateIn (lent p st)) s) → resultOf o q after [] noView ≡ perform (Pack s) (lent p st)
+            → after ≡ stored (decode p .stock) st (newBuffers (decode p) k) (reads (stateIn (lent p st)) s) → resultOf o q after [] noView ≡ perform (Pack x) (lent p st)
         unfolding rule packAfter
         pack-done {after = after} most a b is f =
             let T = decode p in
@@ -195,4 +198,4 @@ module _ (p st : List ℕ) (s : ℕ) where
             changed _ (packWants T s) 0 (packAfter s S) a refl b
             (record { shaped = is .shaped; is = is .is ∙ ap (λ (Y : State). Y .tables) same })
             (sym (old-storage _ (plain T (packed T s)) (freePieces T) s) ∙ ap (λ (Y : State). Y .storage) same)
-            ∙ perform-all (Pack s) (lent p st) early (omega (arith, wants-slips)) (omega (arith, wants-pieces, ap length wants-back)) (omega (arith, wants-buffers))
+            ∙ perform-all (Pack x) (lent p st) early (omega (arith, wants-slips)) (omega (arith, wants-pieces, ap length wants-back)) (omega (arith, wants-buffers))

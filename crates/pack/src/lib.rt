@@ -2,6 +2,7 @@
 use kinds::Outcome;
 use kinds::PieceNumber;
 use kinds::Refusal;
+use kinds::Serial;
 use kinds::SlipNumber;
 use layout::Shape;
 ghost use mathlib.Core.Path.{_≡_};
@@ -16,7 +17,7 @@ ghost use Rattle.rules.specs.Tables.{slip, pieceTotal};
 ghost use Rattle.rules.specs.Bytes.{decode};
 ghost use Rattle.rules.specs.Chain.{walk};
 ghost use Rattle.rules.specs.Sound.{linkOk, lent};
-ghost use Rattle.rules.specs.Rule.{noView};
+ghost use Rattle.rules.specs.Rule.{name, noView};
 ghost use Rattle.rules.specs.Step.{Pack, perform};
 ghost use Rattle.tables.specs.Shape.{stockOf};
 ghost use Rattle.chain.specs.Opened.{Opened};
@@ -35,12 +36,19 @@ fn scattered(pool: &[u8], shape: Shape, link: u16) -> bool
 
 // Puts the bytes of the chain of slip `s` into fresh pieces on fresh buffers, each full but the
 // last, under the same slip; a chain of at most one piece stays: a chain compacted.
-pub fn pack(pool: &mut [u8], shape: Shape, storage: &mut [u8], s: SlipNumber) -> Outcome
+pub fn pack(
+    pool: &mut [u8],
+    shape: Shape,
+    storage: &mut [u8],
+    s: SlipNumber,
+    serial: Serial,
+) -> Outcome
     requires { ⌜ Opened (now pool) shape × (length (now storage) ≡ storageLength (stockOf shape) (shape .buffers)) ⌝ }
-    ensures { λ r. ⌜ resultOf r (now (pool .exit)) (now (storage .exit)) [] noView ≡ perform (Pack (s .0)) (lent (now (pool .entry)) (now (storage .entry))) ⌝ }
+    ensures { λ r. ⌜ resultOf r (now (pool .exit)) (now (storage .exit)) [] noView
+        ≡ perform (Pack (name (s .0) (serial .0))) (lent (now (pool .entry)) (now (storage .entry))) ⌝ }
     ensures { λ r. ⌜ Leaves r (stateOf (slip (decode (now (pool .exit))) (s .0))) ⌝ }
 {
-    let entry = chain::enter(pool, shape, s);
+    let entry = chain::enter(pool, shape, s, serial);
     if !kinds::state_of(entry).held() {
         return Outcome::Refused(Refusal::Slip);
     }

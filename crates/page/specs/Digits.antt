@@ -4,7 +4,7 @@ use mathlib.Core.List.{List, [], _∷_, _++_}
 use Prim.Native.Nat.{ℕ, zero, suc, _+_, _-_, _*_, _/_, _%_, _<_}
 use Prim.Native.String.{String}
 use lib.ListN.{length, drop, replicate}
-use lib.Dec.{ltb}
+use lib.Dec.{ltb, eqb}
 use Rattle.rules.specs.Basics.{if_then_else_}
 use Rattle.page.specs.Page.{ascii}
 
@@ -39,3 +39,7 @@ padded w n = replicate (w - length (digits n)) 32 ++ digits n
 -- a word and behind it a number
 abbrev pub tagged : String → ℕ → List ℕ
 tagged w n = ascii w ++ digits n
+
+-- a serial behind the number of its slip, where it is not 0
+abbrev pub serialText : ℕ → List ℕ
+serialText k = if eqb k 0 then [] else tagged "." k

@@ -1,9 +1,10 @@
 // Text written into lent bytes at a cursor: bytes, words, decimal numbers. What has no room left is not written.
+use kinds::Serial;
 ghost use mathlib.Core.Path.{_≡_};
 ghost use mathlib.Core.List.{_++_};
 ghost use lib.ListN.{length, take, replicate};
 ghost use Rattle.page.specs.Page.{page, inkByte, Wrote};
-ghost use Rattle.page.specs.Digits.{digits, padded, Spelt};
+ghost use Rattle.page.specs.Digits.{digits, padded, serialText, Spelt};
 
 // Where the next byte of a page goes: a write cursor.
 pub struct Cursor {
@@ -106,6 +107,16 @@ pub fn put_tagged(out: &mut [u8], c: Cursor, tag: &[u8], n: u32) -> Cursor
 {
     let at = put_text(out, c, tag);
     put_number(out, at, n)
+}
+
+// Writes a slip's serial behind its number, and nothing where it is 0: a generation.
+pub fn put_serial(out: &mut [u8], c: Cursor, k: Serial) -> Cursor
+    ensures { λ r. ⌜ Wrote (page (now (out .entry)) c) (page (now (out .exit)) r) (serialText (k .0)) ⌝ }
+{
+    if k.0 == 0 {
+        return c;
+    }
+    put_tagged(out, c, b".", k.0 as u32)
 }
 
 // What is written before the cursor: the text of a page.

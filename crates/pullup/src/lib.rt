@@ -4,6 +4,7 @@ use kinds::BufferNumber;
 use kinds::Outcome;
 use kinds::PieceNumber;
 use kinds::Refusal;
+use kinds::Serial;
 use kinds::SlipNumber;
 use layout::Shape;
 use rest::Tail;
@@ -18,7 +19,7 @@ ghost use Rattle.rules.specs.Bytes.{decode};
 ghost use Rattle.rules.specs.Sound.{lent};
 ghost use Rattle.rules.specs.Room.{freeFrom};
 ghost use Rattle.rules.specs.Build.{built, builtLink};
-ghost use Rattle.rules.specs.Rule.{noView};
+ghost use Rattle.rules.specs.Rule.{name, noView};
 ghost use Rattle.rules.specs.Step.{Pullup, perform};
 ghost use Rattle.tables.specs.Shape.{Shaped, Becomes, stockOf};
 ghost use Rattle.chain.specs.Opened.{Opened};
@@ -79,13 +80,20 @@ fn pull(
 }
 
 // Brings the first `n` bytes of the chain of slip `s` into one piece; they are copied only where the first piece has fewer: m_pullup of a handle's chain.
-pub fn pullup(pool: &mut [u8], shape: Shape, storage: &mut [u8], s: SlipNumber, n: u32) -> Outcome
+pub fn pullup(
+    pool: &mut [u8],
+    shape: Shape,
+    storage: &mut [u8],
+    s: SlipNumber,
+    serial: Serial,
+    n: u32,
+) -> Outcome
     requires { ⌜ Opened (now pool) shape × (length (now storage) ≡ storageLength (stockOf shape) (shape .buffers)) ⌝ }
     ensures { λ r. ⌜ resultOf r (now (pool .exit)) (now (storage .exit)) [] noView
-        ≡ perform (Pullup (s .0) n) (lent (now (pool .entry)) (now (storage .entry))) ⌝ }
+        ≡ perform (Pullup (name (s .0) (serial .0)) n) (lent (now (pool .entry)) (now (storage .entry))) ⌝ }
     ensures { λ r. ⌜ Leaves r (stateOf (slip (decode (now (pool .exit))) (s .0))) ⌝ }
 {
-    let entry = chain::enter(pool, shape, s);
+    let entry = chain::enter(pool, shape, s, serial);
     if !kinds::state_of(entry).held() {
         return Outcome::Refused(Refusal::Slip);
     }

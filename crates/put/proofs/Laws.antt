@@ -8,9 +8,10 @@ use Rattle.kinds.specs.declared.SlipState.{SlipState}
 use Rattle.kinds.specs.declared.Refusal.the-variants.{Slips, Pieces, Buffers}
 use Rattle.kinds.specs.declared.Outcome.{Outcome}
 use Rattle.kinds.specs.declared.Outcome.the-variants.{Done, Refused}
+use Rattle.rules.specs.Tables.{nameOf}
 use Rattle.rules.specs.Bytes.{decode}
 use Rattle.rules.specs.Sound.{lent}
-use Rattle.rules.specs.Room.{vacantSlips, freePieces, freeBuffers, newSlip, newBuffers}
+use Rattle.rules.specs.Room.{readySlips, freePieces, freeBuffers, newSlip, newBuffers}
 use Rattle.rules.specs.Build.{plain, underNew, buffersFor, laid, stored}
 use Rattle.rules.specs.Rule.{firstCode, want, noView}
 use Rattle.rules.specs.Put.{putAfter}
@@ -29,11 +30,11 @@ module _ (p st input : List ℕ) where
   early = first-none
 
   -- no vacant slip
-  pub put-slips : length (vacantSlips (decode p)) ≡ 0 → resultOf (Refused Slips) p st [] noView ≡ perform (Put input) (lent p st)
+  pub put-slips : length (readySlips (decode p)) ≡ 0 → resultOf (Refused Slips) p st [] noView ≡ perform (Put input) (lent p st)
   unfolding rule
   put-slips z = perform-slips (Put input) (lent p st) early (omega (arith, z))
 
-  module _ (some : 1 ≤ length (vacantSlips (decode p))) where
+  module _ (some : 1 ≤ length (readySlips (decode p))) where
     -- too few free pieces
     pub put-pieces : length (freePieces (decode p)) < buffersFor (length input) → resultOf (Refused Pieces) p st [] noView ≡ perform (Put input) (lent p st)
     unfolding rule
@@ -46,14 +47,14 @@ module _ (p st input : List ℕ) where
       put-buffers l = perform-buffers (Put input) (lent p st) early some (omega (arith, enough)) l
 
       -- the new pieces under the new slip, and the bytes in the new buffers
-      pub put-done : {o : Outcome} {x : SlipState} {q after : List ℕ} {h : Shape} {t : ℕ} → buffersFor (length input) ≤ length (freeBuffers (decode p)) → newSlip (decode p) ≡ t
-          → o ≡ Done (record { state = x; number = t }) → AllBytes q
+      pub put-done : {o : Outcome} {x : SlipState} {q after : List ℕ} {h : Shape} {t n : ℕ} → buffersFor (length input) ≤ length (freeBuffers (decode p)) → newSlip (decode p) ≡ t
+          → o ≡ Done (record { state = x; number = n }) → n ≡ nameOf (decode p) t → AllBytes q
           → Holds q h (underNew (plain (decode p) (laid (decode p .stock) (newBuffers (decode p) (buffersFor (length input))) (length input))) (freePieces (decode p)) t)
           → after ≡ stored (decode p .stock) st (newBuffers (decode p) (buffersFor (length input))) input → resultOf o q after [] noView ≡ perform (Put input) (lent p st)
       unfolding rule putAfter
-      put-done {t = t} most e a b is f =
+      put-done {t = t} most e a m b is f =
           let T = decode p in
           let k = buffersFor (length input) in
-          changed _ (want 1 k k) (newSlip T) (putAfter input (stateIn (lent p st))) a (sym e) b
+          changed _ (want 1 k k) (nameOf T (newSlip T)) (putAfter input (stateIn (lent p st))) a (m ∙ ap (nameOf T) (sym e)) b
           (record { shaped = is .shaped; is = is .is ∙ ap (underNew (plain T (laid (T .stock) (newBuffers T k) (length input))) (freePieces T)) (sym e) }) f
           ∙ perform-all (Put input) (lent p st) early some (omega (arith, enough)) most

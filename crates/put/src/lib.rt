@@ -6,6 +6,7 @@ use layout::Shape;
 ghost use mathlib.Core.Path.{_≡_};
 ghost use mathlib.Core.List.{[]};
 ghost use lib.ListN.{length};
+ghost use Rattle.kinds.specs.Serial.{slipIn};
 ghost use Rattle.kinds.specs.SlipState.{stateOf};
 ghost use Rattle.kinds.specs.Outcome.{numberOf};
 ghost use Rattle.rules.specs.Layout.{storageLength};
@@ -23,9 +24,9 @@ pub fn put(pool: &mut [u8], shape: Shape, storage: &mut [u8], input: &[u8]) -> O
     requires { ⌜ Opened (now pool) shape × (length (now storage) ≡ storageLength (stockOf shape) (shape .buffers)) ⌝ }
     ensures { λ r. ⌜ resultOf r (now (pool .exit)) (now (storage .exit)) [] noView
         ≡ perform (Put (now (input .entry))) (lent (now (pool .entry)) (now (storage .entry))) ⌝ }
-    ensures { λ r. ⌜ Leaves r (stateOf (slip (decode (now (pool .exit))) (numberOf r))) ⌝ }
+    ensures { λ r. ⌜ Leaves r (stateOf (slip (decode (now (pool .exit))) (slipIn (numberOf r)))) ⌝ }
 {
-    let t = room::next_vacant(pool, shape, SlipNumber(0));
+    let t = room::next_ready(pool, shape, SlipNumber(0));
     if t.0 == shape.slips {
         return Outcome::Refused(Refusal::Slips);
     }

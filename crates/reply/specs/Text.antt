@@ -1,13 +1,14 @@
--- The text of an answer, behind its call: `-> slip 0`, `-> done`, `-> 130`, or, refused, `-> 10 BUFFERS`.
+-- The text of an answer, behind its call: `-> slip 0`, `-> slip 0.1`, `-> done`, `-> 130`, or, refused, `-> 10 BUFFERS`.
 use mathlib.Core.List.{List, [], _∷_, _++_}
 use Prim.Native.Nat.{ℕ}
 use Prim.Native.String.{String}
 use lib.ListN.{getD}
 use lib.Dec.{eqb}
+use Rattle.kinds.specs.Serial.{slipIn, serialIn}
 use Rattle.kinds.specs.declared.Answer.{Answer}
 use Rattle.rules.specs.Basics.{if_then_else_}
 use Rattle.page.specs.Page.{ascii}
-use Rattle.page.specs.Digits.{tagged}
+use Rattle.page.specs.Digits.{tagged, serialText}
 use Rattle.reply.specs.declared.Reply.{Reply}
 use Rattle.reply.specs.declared.Reply.the-variants.{Slip, Done, Number}
 
@@ -20,7 +21,7 @@ nameText code = ascii (getD names code "")
 
 -- a done call's answer
 abbrev pub doneText : Reply → ℕ → List ℕ
-doneText Slip n = tagged " -> slip " n
+doneText Slip n = tagged " -> slip " (slipIn n) ++ serialText (serialIn n)
 doneText Done n = ascii " -> done"
 doneText Number n = tagged " -> " n
 

@@ -1,5 +1,6 @@
 // A call's answer as text, behind the call: a slip, done, a number, or a code with its name.
 use kinds::Answer;
+use kinds::Serial;
 use page::Cursor;
 ghost use Rattle.page.specs.Page.{page, Wrote};
 ghost use Rattle.reply.specs.Text.{nameText, doneText, answerText};
@@ -31,12 +32,20 @@ fn put_name(out: &mut [u8], c: Cursor, code: u16) -> Cursor
     }
 }
 
+// Writes the slip that the number `n` answers, with its serial where that is not 0: a new handle.
+fn put_slip(out: &mut [u8], c: Cursor, n: u32) -> Cursor
+    ensures { λ r. ⌜ Wrote (page (now (out .entry)) c) (page (now (out .exit)) r) (doneText Reply.Slip n) ⌝ }
+{
+    let at = page::put_tagged(out, c, b" -> slip ", n % 65536);
+    page::put_serial(out, at, Serial((n / 65536) as u16))
+}
+
 // Writes what a done call answers, a slip, nothing or the number `n`: a return value.
 fn put_done(out: &mut [u8], c: Cursor, kind: Reply, n: u32) -> Cursor
     ensures { λ r. ⌜ Wrote (page (now (out .entry)) c) (page (now (out .exit)) r) (doneText kind n) ⌝ }
 {
     match kind {
-        Reply::Slip => page::put_tagged(out, c, b" -> slip ", n),
+        Reply::Slip => put_slip(out, c, n),
         Reply::Done => page::put_text(out, c, b" -> done"),
         Reply::Number => page::put_tagged(out, c, b" -> ", n),
     }

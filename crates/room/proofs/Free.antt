@@ -1,6 +1,6 @@
 -- The numbers that pass a test, by a scan from the lowest on: the first, and whether there are enough. Assumes nothing.
 use mathlib.Core.Path.{_≡_, refl, sym, ap, subst, _∙_}
-use mathlib.Core.Bool.{Bool, true, false}
+use mathlib.Core.Bool.{Bool, true, false, not, _&&_}
 use mathlib.Core.List.{List, [], _∷_}
 use Prim.Native.Nat.{ℕ, zero, suc, _+_, _-_, _≤_, _<_}
 use native.Mathlib.Numerals.{add-one}
@@ -9,9 +9,11 @@ use native.Mathlib.Omega.{arith}
 use lib.ListN.{length, getD}
 use borrow.Author.Tests.{eq-eqb, ne-eqb, le-leb, lt-leb}
 use lib.Dec.{eqb, leb, leb·suc-suc, ltb, lt→ltb, ltb→lt}
+use Rattle.kinds.specs.Serial.{lastSerial}
+use Rattle.kinds.specs.declared.Serial.{Serial}
 use Rattle.rules.specs.Basics.{Is, if_then_else_, places, bit}
-use Rattle.rules.specs.Tables.{Tables, slipTotal, pieceTotal, bufferTotal}
-use Rattle.rules.specs.Room.{isVacant, isFree, isUnheld, vacantSlips, freePieces, freeBuffers, newSlip}
+use Rattle.rules.specs.Tables.{Tables, slip, serial, slipTotal, pieceTotal, bufferTotal}
+use Rattle.rules.specs.Room.{isReady, isFree, isUnheld, readySlips, freePieces, freeBuffers, newSlip}
 use Rattle.rules.proofs.Logic.{if-T, if-F, if-either, bit-one, is-true}
 use Rattle.rules.proofs.Sums.{sumTo-ones}
 use Rattle.rules.proofs.Room.{places-count-0}
@@ -25,6 +27,18 @@ is-zero {v} {m} e z = eq-eqb m 0 (omega arith)
 
 pub not-zero : {v m : ℕ} → v ≡ m → (v ≡ 0 → ⊥) → eqb m 0 ≡ false
 not-zero {v} {m} e z = ne-eqb m 0 (omega arith)
+
+-- ---- slips that may be given
+
+-- a held slip is not one
+pub ready-held : (T : Tables) (s : ℕ) {v : ℕ} → v ≡ slip T s → (v ≡ 0 → ⊥) → false ≡ isReady T s
+ready-held T s e n = sym (ap (λ (b : Bool). b && not (b && eqb (serial T s) lastSerial)) (not-zero e n))
+
+-- a vacant slip is one just where its serial is not the last
+pub ready-vacant : (T : Tables) (s : ℕ) {v : ℕ} {k : Serial} {b : Bool} → v ≡ slip T s → v ≡ 0 → k ≡ record { 0 = serial T s } → b ≡ eqb (k .0) lastSerial
+    → not b ≡ isReady T s
+ready-vacant T s e z k l =
+    ap not (l ∙ ap (λ (x : Serial). eqb (x .0) lastSerial) k) ∙ sym (ap (λ (b : Bool). b && not (b && eqb (serial T s) lastSerial)) (is-zero e z))
 
 -- ---- the first
 
@@ -136,14 +150,14 @@ module _ (T : Tables) {r : ℕ} where
   pub no-buffer : r ≡ firstFrom (isUnheld T) 0 (bufferTotal T) → r ≡ bufferTotal T → freeBuffers T ≡ []
   no-buffer = all-none (isUnheld T) (bufferTotal T)
 
--- the lowest vacant slip is the new one, or none is vacant
-pub new-slip : (T : Tables) {t : ℕ} → t ≡ firstFrom (isVacant T) 0 (slipTotal T) → t < slipTotal T → (newSlip T ≡ t) × (1 ≤ length (vacantSlips T))
+-- the lowest slip that may be given is the new one, or none may be given
+pub new-slip : (T : Tables) {t : ℕ} → t ≡ firstFrom (isReady T) 0 (slipTotal T) → t < slipTotal T → (newSlip T ≡ t) × (1 ≤ length (readySlips T))
 new-slip T e h =
-    let s = all-first (isVacant T) (slipTotal T) e h in
+    let s = all-first (isReady T) (slipTotal T) e h in
     (ap (λ (l : List ℕ). getD l 0 0) s, omega (arith, ap length s))
 
-pub no-slip : (T : Tables) {t : ℕ} → t ≡ firstFrom (isVacant T) 0 (slipTotal T) → t ≡ slipTotal T → length (vacantSlips T) ≡ 0
-no-slip T e h = ap length (all-none (isVacant T) (slipTotal T) e h)
+pub no-slip : (T : Tables) {t : ℕ} → t ≡ firstFrom (isReady T) 0 (slipTotal T) → t ≡ slipTotal T → length (readySlips T) ≡ 0
+no-slip T e h = ap length (all-none (isReady T) (slipTotal T) e h)
 
 -- ---- from the lowest wanted
 

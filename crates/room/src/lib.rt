@@ -7,7 +7,7 @@ ghost use mathlib.Core.Path.{_≡_};
 ghost use Prim.Native.Nat.{_≤_, _<_};
 ghost use Rattle.rules.specs.Tables.{slipTotal, pieceTotal, bufferTotal};
 ghost use Rattle.rules.specs.Bytes.{decode};
-ghost use Rattle.rules.specs.Room.{isVacant, isFree, isUnheld};
+ghost use Rattle.rules.specs.Room.{isReady, isFree, isUnheld};
 ghost use Rattle.rules.specs.Build.{buffersFor};
 ghost use Rattle.tables.specs.Shape.{Shaped};
 ghost use Rattle.room.specs.Free.{firstFrom, enoughFrom, RoomFor};
@@ -27,14 +27,25 @@ pub struct BufferRoom {
     pub enough: bool,
 }
 
-// The lowest vacant slip from `from` on, or the count of slips: a scan for a free handle.
-pub fn next_vacant(pool: &[u8], shape: Shape, from: SlipNumber) -> SlipNumber
+// Whether slip `s` may be given, vacant and not spent: a free handle with a generation left.
+fn ready(pool: &[u8], shape: Shape, s: SlipNumber) -> bool
+    requires { ⌜ Shaped (now pool) shape × (s .0 < shape .slips) ⌝ }
+    ensures { λ r. ⌜ r ≡ isReady (decode (now (pool .entry))) (s .0) ⌝ }
+{
+    if tables::slip(pool, shape, s) != 0 {
+        return false;
+    }
+    !tables::serial(pool, shape, s).last()
+}
+
+// The lowest slip from `from` on that may be given, or the count of slips: a scan for a free handle.
+pub fn next_ready(pool: &[u8], shape: Shape, from: SlipNumber) -> SlipNumber
     requires { ⌜ Shaped (now pool) shape × (from .0 ≤ shape .slips) ⌝ }
-    ensures { λ r. ⌜ r .0 ≡ firstFrom (isVacant (decode (now (pool .entry)))) (from .0) (slipTotal (decode (now (pool .entry)))) ⌝ }
+    ensures { λ r. ⌜ r .0 ≡ firstFrom (isReady (decode (now (pool .entry)))) (from .0) (slipTotal (decode (now (pool .entry)))) ⌝ }
 {
     let mut s = from.0;
     while s < shape.slips {
-        if tables::slip(pool, shape, SlipNumber(s)) == 0 {
+        if ready(pool, shape, SlipNumber(s)) {
             break;
         }
         s += 1;

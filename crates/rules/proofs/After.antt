@@ -34,7 +34,7 @@ pub at-there : {A : Type 0} (s t : ℕ) (x : A) (f : ℕ → A) → t ≢ s → 
 at-there s t x f n = if-F (eqb t s) x (f t) (λ e. n (eqb→eq t s e))
 
 -- the value of f itself changes nothing
-at-same : {A : Type 0} (s t : ℕ) (x : A) (f : ℕ → A) → x ≡ f s → at s x f t ≡ f t
+pub at-same : {A : Type 0} (s t : ℕ) (x : A) (f : ℕ → A) → x ≡ f s → at s x f t ≡ f t
 at-same s t x f e = elim (ℕ-discrete t s) [ yes q ↦ at-here s t x f q ∙ e ∙ ap f (sym q) | no q ↦ at-there s t x f q ]
 
 -- what holds at s and everywhere else

@@ -1,33 +1,33 @@
 -- The number that each call answers, what it was lent and its view, what a no leaves, and what open leaves. Assumes nothing.
 use mathlib.Core.Path.{_≡_, refl, sym, ap, subst, _∙_}
-use mathlib.Core.Bool.{Bool}
+use mathlib.Core.Logic.{_↔_}
+use mathlib.Core.Bool.{Bool, not, _&&_}
 use mathlib.Core.List.{List, [], _∷_}
 use Prim.Native.Nat.{ℕ, zero, suc, _≤_, _<_}
 use native.Mathlib.Decide.{ℕ-discrete}
 use native.Mathlib.Omega.{arith}
 use lib.ListN.{length, getD, length-replicate}
-use lib.Dec.{not-T, eqb, eqb→eq, leb, leb→le}
+use lib.Dec.{T-not, not-T, eqb, eqb→eq, leb, leb→le}
 use Rattle.rules.specs.Basics.{Is, places}
-use Rattle.rules.specs.Tables.{Tables, blank, slip, piece, bufferCount, slipTotal, pieceTotal, bufferTotal, freshTables}
+use Rattle.rules.specs.Tables.{Tables, blank, slip, serial, nameOf, piece, bufferCount, slipTotal, pieceTotal, bufferTotal, freshTables}
 use Rattle.rules.specs.Bytes.{decode, encode}
 use Rattle.rules.specs.Chain.{Stretch, State, chain, spans, total, firstLength, positionOf}
 use Rattle.rules.specs.Sound.{Lent, lent, countsOk}
-use Rattle.rules.specs.Room.{isVacant, vacantSlips, newSlip}
+use Rattle.rules.specs.Room.{isVacant, isReady, readySlips, newSlip}
 use Rattle.rules.specs.Rule.{noView}
 use Rattle.rules.specs.Open.{openable}
 use Rattle.rules.specs.Show.{scattered, viewOf}
 use Rattle.rules.specs.Step.{Operation, Audit, Put, Free, Dup, Cut, Append, Drop, Keep, Pullup, Pack, Length, Read, Show, WireList}
 use Rattle.rules.specs.Step.{Call, Open, Do, rule, lentOut, lentTo, Result, step, stateIn, done, next, leftBy}
-use Rattle.rules.specs.Answers.{LowestVacant, Answered, AnsweredBy, Numbers, Shown, Unseen, Seen, SeenBy, Outputs, Opened}
-use Rattle.rules.proofs.Logic.{if-T, if-F, if-either, and-0, not-not}
+use Rattle.rules.specs.Answers.{Ready, NamesLowest, Answered, AnsweredBy, Numbers, Shown, Unseen, Seen, SeenBy, Outputs, Opened}
+use Rattle.rules.proofs.Logic.{if-T, if-F, if-either, and-intro, and-0, and-1, eq→eqb, not-not}
 use Rattle.rules.proofs.Moves.{SoundNow}
-use Rattle.rules.proofs.Room.{new-slip-ok}
+use Rattle.rules.proofs.Room.{first-in, all-free}
 use Rattle.rules.proofs.Hang.{stretches-length}
 use Rattle.rules.proofs.Contents.{Fit}
 use Rattle.rules.proofs.Audit.{sound-now, fresh-sound, getD-same}
 use Rattle.rules.proofs.Codes.{Allowed, allowed, not-leb-is, no-cause}
 use Rattle.rules.proofs.After.{reads-length}
-use Rattle.rules.proofs.Lawful.{new-vacant}
 use Rattle.rules.proofs.Read.{read-exact}
 use Rattle.rules.proofs.Show.{show-length}
 use Rattle.rules.proofs.List.{list-exact}
@@ -47,9 +47,26 @@ first-lowest f i (suc k) u h a b =
     (λ n g l t. elim (ℕ-discrete i u) [ yes e ↦ n (subst (λ x. Is (f x)) (sym e) t) | no e ↦ first-lowest f (suc i) k u g (omega arith) l t ])
     h b
 
--- a new slip is the lowest vacant one
-pub new-lowest : (T : Tables) → 0 < length (vacantSlips T) → LowestVacant T (newSlip T)
-new-lowest T h = (new-slip-ok T h .0, new-vacant T h, λ u l. not-T (isVacant T u) (first-lowest (isVacant T) 0 _ u h (omega arith) l))
+-- a slip that may be given is vacant, and its serial is not the last
+pub ready-is : (T : Tables) (t : ℕ) → Is (isReady T t) ↔ Ready T t
+ready-is T t =
+    let v = isVacant T t in
+    let k = eqb (serial T t) 65535 in (
+      λ r. (
+          let a = and-0 v (not (v && k)) r in
+          (a, λ e. T-not (v && k) (and-1 v (not (v && k)) r) (and-intro v k a (eq→eqb (serial T t) 65535 e)))),
+      λ (a, n). and-intro v (not (v && k)) a (not-T (v && k) (λ q. n (eqb→eq (serial T t) 65535 (and-1 v k q)))),
+    )
+
+-- a new slip is the lowest that may be given, and it is answered with its serial
+pub new-lowest : (T : Tables) → 0 < length (readySlips T) → NamesLowest T (nameOf T (newSlip T))
+new-lowest T h =
+    let t = newSlip T in
+    let r = first-in (isReady T) 0 (slipTotal T) (readySlips T) h (all-free (isReady T) (slipTotal T)) in (
+      t,
+      record { below = r .0; ready = ready-is T t .0 (r .1); lowest = λ u l q. first-lowest (isReady T) 0 _ u h (omega arith) l (ready-is T u .1 q) },
+      refl,
+    )
 
 -- ---- every call
 
@@ -67,10 +84,10 @@ rule-answers (Drop s k) S h f a = refl
 rule-answers (Keep s k) S h f a = refl
 rule-answers (Pullup s k) S h f a = refl
 rule-answers (Pack s) S h f a = refl
-rule-answers (Length s) S h f a = sym (reads-length S h f s)
+rule-answers (Length s) S h f a = sym (reads-length S h f (s .slip))
 rule-answers (Read s off k out) S h f a = refl
 rule-answers (Show s k scratch) S h f a = refl
-rule-answers (WireList s list) S h f a = stretches-length (S .tables) (chain (S .tables) s)
+rule-answers (WireList s list) S h f a = stretches-length (S .tables) (chain (S .tables) (s .slip))
 
 open-answers : (B P S : ℕ) (m : Lent) → step (Open B P S) m .number ≡ 0
 unfolding step
@@ -145,7 +162,7 @@ module _ (S : State) (h : SoundNow (S .tables)) (f : Fit (S .tables .stock) (buf
   rule-seen (Pack s) a = (refl, refl)
   rule-seen (Length s) a = (refl, refl)
   rule-seen (Read s off n out) a = (refl, refl)
-  rule-seen (Show s n scratch) a = (let c = simp no-cause at (a .early) in view-shown (S .tables .stock) (spans (S .tables) s) n (omega arith))
+  rule-seen (Show s n scratch) a = (let c = simp no-cause at (a .early) in view-shown (S .tables .stock) (spans (S .tables) (s .slip)) n (omega arith))
   rule-seen (WireList s list) a = (refl, refl)
 
   rule-long : (o : Operation) → Allowed (rule o S) (S .tables) → length (rule o S .output) ≡ length (lentOut o)
@@ -214,7 +231,8 @@ fresh-back B P S m t =
     let b = length-replicate {A = ℕ} B 0 in
     let p = length-replicate P blank in
     let s = length-replicate {A = ℕ} S 0 in
-    decode-encode (freshTables B P S) (sized (freshTables B P S) (fresh-sound B P S) (omega arith) (omega arith) (omega arith) (ap (λ (n : ℕ). n ∷ []) (sym b)))
+    decode-encode (freshTables B P S) (sized (freshTables B P S) (fresh-sound B P S) (omega arith) (omega arith) (omega arith) (ap (λ (n : ℕ). n ∷ []) (sym b))
+    (record { small = λ i. subst (λ n. n < 65536) (sym (getD-same {A = ℕ} S i 0)) (omega arith); fit = refl }))
 
 -- A done open leaves an empty pool of the counts asked, and storage as it was.
 pub opened : (B P S : ℕ) (m : Lent) → step (Open B P S) m .code ≡ 0 → Opened B P S m (next (Open B P S) m)
@@ -227,6 +245,7 @@ opened B P S m e =
       pieces = ap pieceTotal T ∙ length-replicate P blank;
       buffers = ap bufferTotal T ∙ length-replicate {A = ℕ} B 0;
       all-vacant = λ i. ap (λ X. slip X i) T ∙ getD-same {A = ℕ} S i 0;
+      all-first = λ i. ap (λ X. serial X i) T ∙ getD-same {A = ℕ} S i 0;
       all-blank = λ i. ap (λ X. piece X i) T ∙ getD-same P i blank;
       none-held = λ i. ap (λ X. bufferCount X i) T ∙ getD-same {A = ℕ} B i 0;
       storage = ap (λ (x : Lent). x .storage) n;

@@ -6,16 +6,17 @@ use mathlib.Core.List.{List, [], _∷_, _++_, append-assoc, append-nil, map-appe
 use Prim.Native.Nat.{ℕ, _<_, pred, _≤_, suc, _+_, _-_}
 use native.Mathlib.Omega.{arith}
 use native.Mathlib.Decide.{ℕ-discrete}
-use lib.ListN.{length, getD, length-set, take, take-append-drop, length-drop}
+use lib.ListN.{length, getD, set, length-set, take, take-append-drop, length-drop}
 use lib.Seq.{getD-set-other, getD-set-same}
 use lib.Dec.{eqb, eqb→eq}
+use Rattle.kinds.specs.Serial.{older}
 use Rattle.rules.specs.Basics.{Is, if_then_else_, passing}
-use Rattle.rules.specs.Tables.{Tables, slip, headOf, vacant, slipTotal, pieceTotal, bufferTotal, setSlip, piece}
+use Rattle.rules.specs.Tables.{Tables, slip, headOf, vacant, slipTotal, pieceTotal, bufferTotal, setSlip, withSerials, piece}
 use Rattle.rules.specs.Chain.{State, spans, Stretch, chain, stretches, withTables, contents, reads, ownOf, stretch, total}
 use Rattle.rules.specs.Room.{freePieces, isFree, isUnheld, isVacant}
 use Rattle.rules.specs.Build.{built, builtLink}
-use Rattle.rules.specs.Rule.{reading, vacating, want}
-use Rattle.rules.specs.Append.{notOwn, joined, appendAfter, appendCall, oneEmpty, isEmpty}
+use Rattle.rules.specs.Rule.{Name, reading, vacating, want}
+use Rattle.rules.specs.Append.{notOwn, joined, appended, appendAfter, appendCall, oneEmpty, isEmpty}
 use Rattle.rules.specs.Takes.{Took}
 use Rattle.rules.proofs.Logic.{if-either, if-F, or-cases, is-false}
 use Rattle.rules.proofs.Moves.{SoundNow, hit, reorder, slip-move, SoundWith}
@@ -31,7 +32,8 @@ use Rattle.rules.proofs.Caused.{found, slip-both, twice-both, none-less
 use Rattle.rules.proofs.Sizes.{Sizes, behind-sizes, built-sizes, slip-set, then-sizes}
 use Rattle.rules.proofs.After.{Reading, at-by, at-there, empty-spans, gives-reading, gone-reading, held-false, same-reading, then-reading, reads-length}
 use Rattle.rules.proofs.Takes.{buffersOf, new-front, no-slips, old-as, old-none, spans-none, took, took-none, used-none, drop-none}
-use Rattle.rules.proofs.Lawful.{Lawful, Leaving, Causing, Staying}
+use Rattle.rules.proofs.Aged.{aged-sound, aged-reading, aged-stays, aged-took}
+use Rattle.rules.proofs.Lawful.{Lawful, Leaving, Causing, agedBy}
 use Rattle.rules.proofs.Storage.{behind-keeps, keeps-spans, fit-by}
 use Rattle.rules.proofs.Stays.{StorageStays, built-only, stays-as, behind-stays}
 
@@ -79,9 +81,9 @@ joined-sound a b S ne la lb h =
     let r = join-ready T a b ne la lb h in
     behind-sound (withTables S (ready T a b)) a (readyLink T a b) (ownOf T a) (r .below) (r .own) (r .held)
 
-pub append-sound : (a b : ℕ) (S : State) → a ≢ b → a < slipTotal (S .tables) → b < slipTotal (S .tables) → SoundNow (S .tables) → SoundNow (appendAfter a b S .tables)
-unfolding appendAfter
-append-sound a b S ne la lb (rank, h) =
+appended-sound : (a b : ℕ) (S : State) → a ≢ b → a < slipTotal (S .tables) → b < slipTotal (S .tables) → SoundNow (S .tables) → SoundNow (appended a b S .tables)
+unfolding appended
+appended-sound a b S ne la lb (rank, h) =
     let T = S .tables in
     if-either (λ (X : State). SoundNow (X .tables)) (eqb (headOf T a) 0) _ _
     (λ t. (
@@ -93,6 +95,9 @@ append-sound a b S ne la lb (rank, h) =
     (λ _. if-either (λ (X : State). SoundNow (X .tables)) (eqb (headOf T b) 0) _ _
     (λ t. (rank, reorder (λ x. omega (arith, ap (λ n. hit n x) (eqb→eq (headOf T b) 0 t))) (slip-move {fl = []} b 0 lb (reorder (λ x. omega arith) h))))
     (λ _. joined-sound a b S ne la lb (rank, h)))
+
+pub append-sound : (a b : ℕ) (S : State) → a ≢ b → a < slipTotal (S .tables) → b < slipTotal (S .tables) → SoundNow (S .tables) → SoundNow (appendAfter a b S .tables)
+append-sound a b S ne la lb h = aged-sound b (appended-sound a b S ne la lb h)
 
 -- ---- what append leaves
 
@@ -159,17 +164,17 @@ joined-stays a b S ne la lb h f =
     (built-only T (setSlip T b vacant) (freePieces T) (notOwn T a) (headOf T b) 0 refl (passing-none (isUnheld T) (buffersOf (notOwn T a)) none))
     (r .below) (r .own) (r .held) f
 
-append-stays : (a b : ℕ) → Staying (appendCall a b)
-unfolding appendAfter
-append-stays a b S h f al =
+appended-stays : (a b : ℕ) (S : State) → a ≢ b → a < slipTotal (S .tables) → b < slipTotal (S .tables) → SoundNow (S .tables)
+    → Fit (S .tables .stock) (bufferTotal (S .tables)) (S .storage) → StorageStays S (appended a b S) 0
+unfolding appended
+appended-stays a b S ne la lb h f =
     let T = S .tables in
-    let ((la, _), (lb, _), ne) = both-named T a b (al .early) in
     if-either (λ (X : State). StorageStays S X 0) (eqb (headOf T a) 0) _ _ (λ _. stays-as S _ 0 refl)
     (λ _. if-either (λ (X : State). StorageStays S X 0) (eqb (headOf T b) 0) _ _ (λ _. stays-as S _ 0 refl) (λ _. joined-stays a b S ne la lb h f))
 
-append-sizes : (a b : ℕ) (S : State) → Sizes (S .tables) (appendAfter a b S .tables)
-unfolding appendAfter
-append-sizes a b S =
+appended-sizes : (a b : ℕ) (S : State) → Sizes (S .tables) (appended a b S .tables)
+unfolding appended
+appended-sizes a b S =
     let T = S .tables in
     if-either (λ (X : State). Sizes T (X .tables)) (eqb (headOf T a) 0) _ _
     (λ _. then-sizes (slip-set T b vacant) (slip-set (setSlip T b vacant) a (slip T b)))
@@ -314,26 +319,30 @@ module _ (a b : ℕ) (S : State) (la : a < slipTotal (S .tables)) (za : 0 < slip
       ∙ passing-front (isUnheld T) (buffersOf (spans T a)) (buffersOf (spans T b)) (spans-none T a h)
       ∙ passing-none (isUnheld T) (buffersOf (spans T b)) (spans-none T b h))
 
-  append-takes : SoundNow (appendAfter a b S .tables) → (if oneEmpty (S .tables) a b then 0 else length (notOwn (S .tables) a)) ≤ length (freePieces (S .tables))
-      → Took (S .tables) (appendAfter a b S .tables) (want 0 (if oneEmpty (S .tables) a b then 0 else length (notOwn (S .tables) a)) 0) a
-  unfolding appendAfter
+  append-takes : SoundNow (appended a b S .tables) → (if oneEmpty (S .tables) a b then 0 else length (notOwn (S .tables) a)) ≤ length (freePieces (S .tables))
+      → Took (S .tables) (appended a b S .tables) (want 0 (if oneEmpty (S .tables) a b then 0 else length (notOwn (S .tables) a)) 0) a
+  unfolding appended
   append-takes =
       let T = S .tables in
       if-three (λ (X : State) (k : ℕ). SoundNow (X .tables) → k ≤ length (freePieces T) → Took T (X .tables) (want 0 k 0) a)
       (eqb (headOf T a) 0) (eqb (headOf T b) 0) _ _ _ 0 (length (notOwn T a)) (λ h′ _. none-a h′) (λ h′ _. none-b h′) joined-takes
 
-append-leaves : (a b : ℕ) → Leaving (appendCall a b)
-unfolding appendAfter
-append-leaves a b S h f al =
+append-leaves : (x y : Name) → Leaving (appendCall x y)
+unfolding appended
+append-leaves x y S h f al _ =
     let T = S .tables in
-    let ((la, za), (lb, zb), ne) = both-named T a b (al .early) in
+    let a = x .slip in
+    let b = y .slip in
+    let ((la, za), (lb, zb), ne) = both-named T x y (al .early) in
     let r = first-reading a b S la za lb zb ne h in
     let P : State → Type 0 = λ X. SoundNow (X .tables) → Reading S X (reading a (reads S a ++ reads S b) ∷ vacating b ∷ []) in
-    if-either P (eqb (headOf T a) 0) _ _
+    aged-reading S (appended a b S) b (reading a (reads S a ++ reads S b) ∷ vacating b ∷ [])
+    (if-either P (eqb (headOf T a) 0) _ _
     (λ e h′. then-reading refl r (taker-reading a b S la za lb zb ne h (eqb→eq (headOf T a) 0 e) h′))
     (λ na. if-either P (eqb (headOf T b) 0) _ _
     (λ e _. then-reading refl r (stayer-reading a b S la za lb zb ne h (eqb→eq (headOf T b) 0 e)))
     (λ nb h′. then-reading refl r (joined-reading a b S la za lb zb ne h f h′ (wanted-rest T a b (omega (arith, al .pieces-room)) na nb))))
+    (appended-sound a b S ne la lb h))
 
 -- a chain is empty where it has no bytes
 meets-none : (T : Tables) (n : ℕ) (l : List ℕ) → Meets T n l → Good (T .stock) (bufferTotal T) (stretches T l)
@@ -350,32 +359,55 @@ empty-test S h f s =
     let T = S .tables in
     meets-none T (headOf T s) (chain T s) (chain-meets T s h) (spans-good T s h) ∙ ap (λ k. eqb k 0) (sym (reads-length S h f s))
 
-append-caused : (a b : ℕ) → Causing (appendCall a b)
+append-caused : (x y : Name) → Causing (appendCall x y)
 unfolding found if_then_else_
-append-caused a b S h f = record {
+append-caused x y S h f = record {
   below = omega arith;
-  slip = slip-both (S .tables) a b;
-  same = twice-both a b;
+  slip = slip-both (S .tables) x y;
+  same = twice-both (x .slip) (y .slip);
   long = none-less 512;
   range = none-less _;
   narrow = none-less 0;
   asked = λ z. (
       let T = S .tables in
-      let x = empty-test S h f a in
-      let y = empty-test S h f b in
+      let a = x .slip in
+      let p = empty-test S h f a in
+      let q = empty-test S h f (y .slip) in
       let n : length (notOwn T a) ≡ length (chain T a) - length (ownOf T a) =
       length-drop (length (ownOf T a)) (spans T a) ∙ ap (λ k. k - length (ownOf T a)) (stretches-length T (chain T a)) in
-      λ i. want 0 (if x i || y i then 0 else n i) 0);
+      λ i. want 0 (if p i || q i then 0 else n i) 0);
 }
 
-pub append-lawful : (a b : ℕ) → Lawful (appendCall a b)
-append-lawful a b = record {
-  codes = λ S. omega arith;
-  sizes = append-sizes a b;
-  stays = append-stays a b;
-  sound = λ S h al. (let ((la, _), (lb, _), ne) = both-named (S .tables) a b (al .early) in append-sound a b S ne la lb h);
-  known = λ S _. (inl (inl refl), (inl (inr refl), tt));
-  caused = append-caused a b;
-  leaves = append-leaves a b;
-  takes = λ S h al h′. (let ((la, za), (lb, zb), ne) = both-named (S .tables) a b (al .early) in append-takes a b S la za lb zb ne h h′ (omega (arith, al .pieces-room)));
-}
+append-sizes : (x y : Name) (S : State) → Sizes (withSerials (S .tables) (agedBy (appendCall x y .changes S) (S .tables .serials))) (appendAfter (x .slip) (y .slip) S .tables)
+append-sizes x y S =
+    let z = appended-sizes (x .slip) (y .slip) S in
+    let b = y .slip in
+    record {
+      slips-size = z .slips-size;
+      pieces-size = z .pieces-size;
+      counts-size = z .counts-size;
+      serials-kept = ap (λ (ks : List ℕ). set ks b (older (getD ks b 0))) (z .serials-kept);
+      stock-kept = z .stock-kept;
+    }
+
+pub append-lawful : (x y : Name) → Lawful (appendCall x y)
+append-lawful x y =
+    let a = x .slip in
+    let b = y .slip in
+    record {
+      codes = λ S. omega arith;
+      sizes = append-sizes x y;
+      ages = λ S al. (
+          let ((_, _), (lb, _), ne) = both-named (S .tables) x y (al .early) in
+          (λ v. absurd v, λ v. subst Is (at-there b a true (λ u. false) ne) v, (λ _. lb, λ v. v, tt)));
+      stays = λ S h f al. (
+          let ((la, _), (lb, _), ne) = both-named (S .tables) x y (al .early) in
+          aged-stays S (appended a b S) b 0 (appended-stays a b S ne la lb h f));
+      sound = λ S h al. (let ((la, _), (lb, _), ne) = both-named (S .tables) x y (al .early) in append-sound a b S ne la lb h);
+      known = λ S _. (inl (inl refl), (inl (inr refl), tt));
+      caused = append-caused x y;
+      leaves = append-leaves x y;
+      takes = λ S h al _. (
+          let ((la, za), (lb, zb), ne) = both-named (S .tables) x y (al .early) in
+          aged-took b (append-takes a b S la za lb zb ne h (appended-sound a b S ne la lb h) (omega (arith, al .pieces-room))));
+    }

@@ -323,14 +323,14 @@ rule-first (Free s) S h e = refl
 rule-first (Dup s) S h e = refl
 rule-first (Cut s off n) S h e = refl
 rule-first (Append a b) S h e = refl
-rule-first (Drop s n) S h e = gives-back (S .tables) s n h (first-named (S .tables) s _ e .0)
+rule-first (Drop s n) S h e = gives-back (S .tables) (s .slip) n h (first-named (S .tables) s _ e .0)
 rule-first (Keep s n) S h e = refl
 rule-first (Pullup s n) S h e =
     let T = S .tables in
-    if-either (λ (w : Wants). (w .pieces ≡ 0 → w .back ≡ []) × ((w .pieces ≡ 0 → ⊥) → GivesBack T s n (w .back))) (inFirst T s n) (want 0 0 0)
-    (giving (dropBack T s n) (suc (length (dropped T s n .more))) 1)
-    (λ _. (λ _. refl, λ z. absurd (z refl))) (λ _. (λ z. absurd (omega arith), λ _. gives-back T s n h (first-named T s _ e .0)))
-rule-first (Pack s) S h e = if-either (λ (w : Wants). w .back ≡ []) (inOne (S .tables) s) _ _ (λ _. refl) (λ _. refl)
+    if-either (λ (w : Wants). (w .pieces ≡ 0 → w .back ≡ []) × ((w .pieces ≡ 0 → ⊥) → GivesBack T (s .slip) n (w .back))) (inFirst T (s .slip) n) (want 0 0 0)
+    (giving (dropBack T (s .slip) n) (suc (length (dropped T (s .slip) n .more))) 1)
+    (λ _. (λ _. refl, λ z. absurd (z refl))) (λ _. (λ z. absurd (omega arith), λ _. gives-back T (s .slip) n h (first-named T s _ e .0)))
+rule-first (Pack s) S h e = if-either (λ (w : Wants). w .back ≡ []) (inOne (S .tables) (s .slip)) _ _ (λ _. refl) (λ _. refl)
 rule-first (Length s) S h e = refl
 rule-first (Read s off n out) S h e = refl
 rule-first (Show s n scratch) S h e = refl

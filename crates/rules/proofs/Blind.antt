@@ -48,10 +48,11 @@ module _ {T T′ : Tables} (a : Alike T T′) where
   unfolding holders
   holders-alike b = λ i. sumTo (a .pieces i) (λ c. bit (reached-alike c i && eqb (a .on c i) b))
 
-  leaves-alike : leaves T ≡ leaves T′
+  -- what is left goes by the serials too
+  leaves-alike : T .serials ≡ T′ .serials → leaves T ≡ leaves T′
   unfolding leaves
-  leaves-alike =
-      λ i. spare (sumTo (length (a .slips i)) (λ s. bit (eqb (getD (a .slips i) s 0) 0)))
+  leaves-alike e =
+      λ i. spare (sumTo (length (a .slips i)) (λ s. bit (eqb (getD (a .slips i) s 0) 0 && not (eqb (getD (e i) s 0) 65535))))
       (sumTo (a .pieces i) (λ d. bit (not (reached-alike d i))))
       (sumTo (a .buffers i) (λ b. bit (eqb (holders-alike b i) 0)))
 
@@ -89,7 +90,7 @@ module _ (T : Tables) (f g : ℕ → ℕ) where
     same-reached = reached-alike counted-alike;
     same-references = references-alike counted-alike;
     same-holders = holders-alike counted-alike;
-    same-leaves = leaves-alike counted-alike;
+    same-leaves = leaves-alike counted-alike refl;
   }
 
 -- so the recounted tables are the same

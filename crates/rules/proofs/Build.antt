@@ -39,15 +39,16 @@ pub record Kept (T T′ : Tables) : Type 0 where
   pub slips-kept : T′ .slips ≡ T .slips
   pub pieces-size : length (T′ .pieces) ≡ length (T .pieces)
   pub counts-size : length (T′ .counts) ≡ length (T .counts)
+  pub serials-kept : T′ .serials ≡ T .serials
   pub stock-kept : T′ .stock ≡ T .stock
 
 pub built-kept : (T : Tables) (fs : List ℕ) (xs : List Stretch) (tail : ℕ) → Kept T (built T fs xs tail)
 unfolding built
-built-kept T fs [] tail = record { slips-kept = refl; pieces-size = refl; counts-size = refl; stock-kept = refl }
-built-kept T [] (x ∷ xs) tail = record { slips-kept = refl; pieces-size = refl; counts-size = refl; stock-kept = refl }
+built-kept T fs [] tail = record { slips-kept = refl; pieces-size = refl; counts-size = refl; serials-kept = refl; stock-kept = refl }
+built-kept T [] (x ∷ xs) tail = record { slips-kept = refl; pieces-size = refl; counts-size = refl; serials-kept = refl; stock-kept = refl }
 built-kept T (f ∷ fs) (x ∷ xs) tail =
     let r = built-kept T fs xs tail in
-    record { slips-kept = r .slips-kept; pieces-size = simp length-set (r .pieces-size); counts-size = simp length-set (r .counts-size); stock-kept = r .stock-kept }
+    record { slips-kept = r .slips-kept; pieces-size = simp length-set (r .pieces-size); counts-size = simp length-set (r .counts-size); serials-kept = r .serials-kept; stock-kept = r .stock-kept }
 
 pub built-other : (T : Tables) (fs : List ℕ) (xs : List Stretch) (tail d : ℕ) → (List·Memᴰ d fs → ⊥) → piece (built T fs xs tail) d ≡ piece T d
 unfolding built
@@ -133,7 +134,7 @@ pub record Still (T T′ : Tables) : Type 0 where
 
 pub still-refl : (T : Tables) → Still T T
 still-refl T = record {
-  kept = record { slips-kept = refl; pieces-size = refl; counts-size = refl; stock-kept = refl };
+  kept = record { slips-kept = refl; pieces-size = refl; counts-size = refl; serials-kept = refl; stock-kept = refl };
   counts-still = refl;
   free-still = λ d e. e;
   used-still = λ d u. u;
@@ -143,7 +144,7 @@ still-refl T = record {
 -- a store to a piece in use, which stays so on its buffer
 pub still-store : (T : Tables) (d : ℕ) (p : Piece) → 0 < piece T d .count → 0 < p .count → p .buffer ≡ piece T d .buffer → Still T (setPiece T d p)
 still-store T d p h u o = record {
-  kept = record { slips-kept = refl; pieces-size = length-set (T .pieces) d p; counts-size = refl; stock-kept = refl };
+  kept = record { slips-kept = refl; pieces-size = length-set (T .pieces) d p; counts-size = refl; serials-kept = refl; stock-kept = refl };
   counts-still = refl;
   free-still = λ x e. ap (λ (q : Piece). q .count) (getD-set-other (T .pieces) d x p blank (λ y. (let q = ap (λ z. piece T z .count) y in omega arith))) ∙ e;
   used-still = by-place (T .pieces) d p blank (used-in-range T d h) (λ q x. 0 < piece T x .count → 0 < q .count) (λ _. u) (λ x _ k. k);
@@ -156,6 +157,7 @@ still-trans s t = record {
     slips-kept = t .kept .slips-kept ∙ s .kept .slips-kept;
     pieces-size = t .kept .pieces-size ∙ s .kept .pieces-size;
     counts-size = t .kept .counts-size ∙ s .kept .counts-size;
+    serials-kept = t .kept .serials-kept ∙ s .kept .serials-kept;
     stock-kept = t .kept .stock-kept ∙ s .kept .stock-kept;
   };
   counts-still = t .counts-still ∙ s .counts-still;

@@ -14,9 +14,9 @@ use Rattle.word.proofs.Laws.{get16-past as load-past}
 pub use Rattle.word.proofs.Laws.{length-bytes16, get16-run}
 use Rattle.kinds.specs.Limits.{mostBuffers, mostPieces, mostSlips}
 use Rattle.rules.specs.Basics.{Is, table}
-use Rattle.rules.specs.Layout.{mark, version, slipAt, pieceAt, countAt, poolLength, storageLength, versionAt, buffersAt, piecesAt, slipsAt, headerLength}
-use Rattle.rules.specs.Tables.{Piece, Tables, blank, slip, piece, bufferCount, slipTotal, pieceTotal, bufferTotal, freshTables}
-use Rattle.rules.specs.Bytes.{versionIn, stockIn, buffersIn, piecesIn, slipsIn, pieceIn, decode, pieceBytes, encode}
+use Rattle.rules.specs.Layout.{mark, version, slipAt, serialAt, pieceAt, countAt, poolLength, storageLength, versionAt, buffersAt, piecesAt, slipsAt, headerLength}
+use Rattle.rules.specs.Tables.{Piece, Tables, blank, slip, serial, piece, bufferCount, slipTotal, pieceTotal, bufferTotal, freshTables}
+use Rattle.rules.specs.Bytes.{versionIn, stockIn, buffersIn, piecesIn, slipsIn, serialOf, pieceIn, decode, slipBytes, pieceBytes, encode}
 use Rattle.rules.specs.Sound.{Lent, headed, headerOk, lent, marked, countsOk}
 use Rattle.rules.proofs.Logic.{and-intro, and-parts, table-is}
 
@@ -103,6 +103,53 @@ module _ (p : List ℕ) (byte : AllBytes p) where
       let z : a + 2 * 0 ≡ a = omega arith in
       rw (table-same n _ _ (λ i b. ap (get16 p) (e i)), e n, run-drop n (a + 2) (omega arith), z) (get16-drop a (omega arith))
 
+-- ---- slips
+
+-- each entry takes four bytes: past its end ks reads as 0
+pub length-slipBytes : (xs ks : List ℕ) → length (slipBytes xs ks) ≡ 4 * length xs
+length-slipBytes [] ks = refl
+length-slipBytes (x ∷ xs) [] = let e = length-slipBytes xs [] in omega arith
+length-slipBytes (x ∷ xs) (k ∷ ks) = let e = length-slipBytes xs ks in omega arith
+
+-- the state of entry s of a run
+pub slip-run : (xs ks l : List ℕ) (s : ℕ) → ((j : ℕ) → getD xs j 0 < 65536) → s < length xs → get16 (slipBytes xs ks ++ l) (4 * s) ≡ getD xs s 0
+unfolding get16
+slip-run [] ks l s h b = absurd (omega arith)
+slip-run (x ∷ xs) [] l zero h b = two-bytes x (h 0)
+slip-run (x ∷ xs) (k ∷ ks) l zero h b = two-bytes x (h 0)
+slip-run (x ∷ xs) [] l (suc s) h b =
+    get16-past (bytes16 (x ∷ 0 ∷ [])) (slipBytes xs [] ++ l) (4 * s) (4 * suc s) (omega arith) ∙ slip-run xs [] l s (λ j. h (suc j)) (le-of-suc-le-suc b)
+slip-run (x ∷ xs) (k ∷ ks) l (suc s) h b =
+    get16-past (bytes16 (x ∷ k ∷ [])) (slipBytes xs ks ++ l) (4 * s) (4 * suc s) (omega arith) ∙ slip-run xs ks l s (λ j. h (suc j)) (le-of-suc-le-suc b)
+
+-- the serial of entry s of a run
+pub serial-run : (xs ks l : List ℕ) (s : ℕ) → ((j : ℕ) → getD ks j 0 < 65536) → s < length xs → get16 (slipBytes xs ks ++ l) (4 * s + 2) ≡ getD ks s 0
+unfolding get16
+serial-run [] ks l s h b = absurd (omega arith)
+serial-run (x ∷ xs) [] l zero h b = refl
+serial-run (x ∷ xs) (k ∷ ks) l zero h b = two-bytes k (h 0)
+serial-run (x ∷ xs) [] l (suc s) h b =
+    get16-past (bytes16 (x ∷ 0 ∷ [])) (slipBytes xs [] ++ l) (4 * s + 2) (4 * suc s + 2) (omega arith) ∙ serial-run xs [] l s h (le-of-suc-le-suc b)
+serial-run (x ∷ xs) (k ∷ ks) l (suc s) h b =
+    get16-past (bytes16 (x ∷ k ∷ [])) (slipBytes xs ks ++ l) (4 * s + 2) (4 * suc s + 2) (omega arith) ∙ serial-run xs ks l s (λ j. h (suc j)) (le-of-suc-le-suc b)
+
+-- n entries from a on, and what follows
+pub slips-drop : (p : List ℕ) → AllBytes p → (n a : ℕ) → a + 4 * n ≤ length p
+    → slipBytes (table n (λ s. get16 p (a + 4 * s))) (table n (λ s. get16 p (a + 4 * s + 2) % 65536)) ++ drop (a + 4 * n) p ≡ drop a p
+slips-drop p byte zero a h = let e : a + 4 * 0 ≡ a = omega arith in rw e
+slips-drop p byte (suc n) a h =
+    let e : (k : ℕ) → a + 4 * suc k ≡ a + 4 + 4 * k = λ k. omega arith in
+    let z : a + 4 * 0 ≡ a = omega arith in
+    let m : get16 p (a + 2) % 65536 ≡ get16 p (a + 2) = mod-eq-of-lt (get16-small p (a + 2) byte) in
+    rw (
+      table-same n _ _ (λ s b. ap (get16 p) (e s)),
+      table-same n _ _ (λ s b. ap (λ (k : ℕ). get16 p (k + 2) % 65536) (e s)),
+      e n,
+      slips-drop p byte n (a + 4) (omega arith),
+      z,
+      m,
+    ) (rw z at (run-drop p byte 2 a (omega arith)))
+
 -- ---- pieces
 
 -- each number fits 16 bits
@@ -153,9 +200,11 @@ pieces-drop p byte (suc n) a h =
 
 -- ---- the bytes of tables
 
--- each number of the tables, and each of their lengths, fits 16 bits
+-- each number of the tables, and each of their lengths, fits 16 bits; each slip has its serial
 pub record Sized (T : Tables) : Type 0 where
   pub slips-small : (s : ℕ) → slip T s < 65536
+  pub serials-small : (s : ℕ) → serial T s < 65536
+  pub serials-fit : length (T .serials) ≡ slipTotal T
   pub pieces-small : (d : ℕ) → SmallPiece (piece T d)
   pub counts-small : (b : ℕ) → bufferCount T b < 65536
   pub few-slips : slipTotal T < 65536
@@ -165,9 +214,9 @@ pub record Sized (T : Tables) : Type 0 where
 
 pub encode-length : (T : Tables) → length (encode T) ≡ poolLength (bufferTotal T) (pieceTotal T) (slipTotal T)
 unfolding encode
-encode-length T = simp (length-append, length-bytes16, length-pieceBytes) (omega arith)
+encode-length T = simp (length-append, length-bytes16, length-slipBytes, length-pieceBytes) (omega arith)
 
--- the bytes of words and of pieces are below 256
+-- the bytes of words, of slips and of pieces are below 256
 bytes-append : (p l : List ℕ) → AllBytes p → AllBytes l → AllBytes (p ++ l)
 bytes-append [] l a b i = b i
 bytes-append (x ∷ p) l a b zero = a 0
@@ -178,6 +227,11 @@ bytes-words [] i = omega arith
 bytes-words (v ∷ vs) zero = omega arith
 bytes-words (v ∷ vs) (suc zero) = omega arith
 bytes-words (v ∷ vs) (suc (suc i)) = bytes-words vs i
+
+bytes-slips : (xs ks : List ℕ) → AllBytes (slipBytes xs ks)
+bytes-slips [] ks i = omega arith
+bytes-slips (x ∷ xs) [] i = bytes-append (bytes16 (x ∷ 0 ∷ [])) (slipBytes xs []) (bytes-words (x ∷ 0 ∷ [])) (bytes-slips xs []) i
+bytes-slips (x ∷ xs) (k ∷ ks) i = bytes-append (bytes16 (x ∷ k ∷ [])) (slipBytes xs ks) (bytes-words (x ∷ k ∷ [])) (bytes-slips xs ks) i
 
 bytes-pieces : (xs : List Piece) → AllBytes (pieceBytes xs)
 bytes-pieces [] i = omega arith
@@ -196,8 +250,9 @@ unfolding encode
 encode-bytes T =
     let h = version ∷ bufferTotal T ∷ pieceTotal T ∷ slipTotal T ∷ [] in
     let l = pieceBytes (T .pieces) ++ bytes16 (T .counts) in
-    bytes-append mark (bytes16 h ++ (bytes16 (T .slips) ++ l)) bytes-mark (bytes-append (bytes16 h) (bytes16 (T .slips) ++ l) (bytes-words h)
-    (bytes-append (bytes16 (T .slips)) l (bytes-words (T .slips)) (bytes-append (pieceBytes (T .pieces)) (bytes16 (T .counts)) (bytes-pieces (T .pieces)) (bytes-words (T .counts)))))
+    let s = slipBytes (T .slips) (T .serials) in
+    bytes-append mark (bytes16 h ++ (s ++ l)) bytes-mark (bytes-append (bytes16 h) (s ++ l) (bytes-words h)
+    (bytes-append s l (bytes-slips (T .slips) (T .serials)) (bytes-append (pieceBytes (T .pieces)) (bytes16 (T .counts)) (bytes-pieces (T .pieces)) (bytes-words (T .counts)))))
 
 -- the header's bytes
 head : Tables → List ℕ
@@ -211,30 +266,36 @@ module _ (T : Tables) (z : Sized T) where
 
   slips-back : table (slipTotal T) (λ s. get16 (encode T) (slipAt s)) ≡ T .slips
   unfolding encode head
-  slips-back = table-is 0 (T .slips) _ (λ i b. get16-past (head T) _ (2 * i) (slipAt i) (omega arith) ∙ get16-run (T .slips) _ i (z .slips-small) b)
+  slips-back = table-is 0 (T .slips) _ (λ i b. get16-past (head T) _ (4 * i) (slipAt i) (omega arith) ∙ slip-run (T .slips) (T .serials) _ i (z .slips-small) b)
+
+  serials-back : table (slipTotal T) (serialOf (encode T)) ≡ T .serials
+  unfolding encode head
+  serials-back = ap (λ (n : ℕ). table n (serialOf (encode T))) (sym (z .serials-fit)) ∙ table-is 0 (T .serials) _ (λ i b.
+      let e = get16-past (head T) _ (4 * i + 2) (serialAt i) (omega arith) ∙ serial-run (T .slips) (T .serials) _ i (z .serials-small) (omega (arith, z .serials-fit)) in
+      ap (λ (k : ℕ). k % 65536) e ∙ mod-eq-of-lt (z .serials-small i))
 
   pieces-back : table (pieceTotal T) (λ d. pieceIn (encode T) (pieceAt (slipTotal T) d)) ≡ T .pieces
   unfolding encode head
   pieces-back = table-is blank (T .pieces) _ (λ i b.
-      let s = length-bytes16 (T .slips) in
-      pieceIn-past (head T) _ (2 * slipTotal T + 10 * i) (pieceAt (slipTotal T) i) (omega arith)
-      ∙ pieceIn-past (bytes16 (T .slips)) _ (10 * i) (2 * slipTotal T + 10 * i) (omega arith)
+      let s = length-slipBytes (T .slips) (T .serials) in
+      pieceIn-past (head T) _ (4 * slipTotal T + 10 * i) (pieceAt (slipTotal T) i) (omega arith)
+      ∙ pieceIn-past (slipBytes (T .slips) (T .serials)) _ (10 * i) (4 * slipTotal T + 10 * i) (omega arith)
       ∙ pieceIn-run (T .pieces) (bytes16 (T .counts)) i (z .pieces-small) b)
 
   counts-back : table (bufferTotal T) (λ b. get16 (encode T) (countAt (pieceTotal T) (slipTotal T) b)) ≡ T .counts
   unfolding encode head
   counts-back = table-is 0 (T .counts) _ (λ i b.
-      let s = length-bytes16 (T .slips) in
+      let s = length-slipBytes (T .slips) (T .serials) in
       let q = length-pieceBytes (T .pieces) in
-      get16-past (head T) _ (2 * slipTotal T + 10 * pieceTotal T + 2 * i) (countAt (pieceTotal T) (slipTotal T) i) (omega arith)
-      ∙ get16-past (bytes16 (T .slips)) _ (10 * pieceTotal T + 2 * i) (2 * slipTotal T + 10 * pieceTotal T + 2 * i) (omega arith)
+      get16-past (head T) _ (4 * slipTotal T + 10 * pieceTotal T + 2 * i) (countAt (pieceTotal T) (slipTotal T) i) (omega arith)
+      ∙ get16-past (slipBytes (T .slips) (T .serials)) _ (10 * pieceTotal T + 2 * i) (4 * slipTotal T + 10 * pieceTotal T + 2 * i) (omega arith)
       ∙ get16-past (pieceBytes (T .pieces)) _ (2 * i) (10 * pieceTotal T + 2 * i) (omega arith)
       ∙ ap (λ (l : List ℕ). get16 l (2 * i)) (sym (append-nil (bytes16 (T .counts)))) ∙ get16-run (T .counts) [] i (z .counts-small) b)
 
   -- the bytes of tables hold those tables
   pub decode-encode : decode (encode T) ≡ T
   unfolding decode
-  decode-encode = rw (encode-totals .1, encode-totals .2, encode-totals .3) (λ i. record { slips = slips-back i; pieces = pieces-back i; counts = counts-back i; stock = sym (z .stock-is) i })
+  decode-encode = rw (encode-totals .1, encode-totals .2, encode-totals .3) (λ i. record { slips = slips-back i; serials = serials-back i; pieces = pieces-back i; counts = counts-back i; stock = sym (z .stock-is) i })
 
 -- ---- the tables of bytes
 
@@ -242,6 +303,10 @@ module _ (p : List ℕ) where
   pub decode-slips : slipTotal (decode p) ≡ slipsIn p
   unfolding decode
   decode-slips = length-table (slipsIn p) _
+
+  pub decode-serials : length (decode p .serials) ≡ slipsIn p
+  unfolding decode
+  decode-serials = length-table (slipsIn p) _
 
   pub decode-pieces : pieceTotal (decode p) ≡ piecesIn p
   unfolding decode
@@ -251,12 +316,19 @@ module _ (p : List ℕ) where
   unfolding decode
   decode-counts = length-table (buffersIn p) _
 
+  -- a serial read is 16 bits, whatever numbers p has for bytes
+  pub serial-small : (s : ℕ) → serial (decode p) s < 65536
+  unfolding decode
+  serial-small = table-all (λ n. n < 65536) (slipsIn p) (serialOf p) 0 (omega arith) (λ s. omega arith)
+
   pub decode-sized : AllBytes p → Sized (decode p)
   unfolding decode
   decode-sized byte =
       let small : (a : ℕ) → get16 p a < 65536 = λ a. get16-small p a byte in
       record {
         slips-small = table-all (λ n. n < 65536) (slipsIn p) _ 0 (omega arith) (λ s. small (slipAt s));
+        serials-small = serial-small;
+        serials-fit = decode-serials ∙ sym decode-slips;
         pieces-small = table-all SmallPiece (piecesIn p) _ blank (omega arith) (λ d. let a = pieceAt (slipsIn p) d in record {
           small-count = small a;
           small-buffer = small (a + 2);
@@ -333,7 +405,7 @@ encode-decode p byte ok long =
     let B = buffersIn p in
     let first = rw (h .0, h .1 .0, h .1 .1 .0) at (front p (omega arith)) in
     let numbers = rw (h .1 .1 .1) at (run-drop p byte 4 versionAt (omega arith)) in
-    let slips = run-drop p byte S headerLength (omega arith) in
+    let slips = slips-drop p byte S headerLength (omega arith) in
     let pieces = pieces-drop p byte P (slipAt S) (omega arith) in
     let counts = run-drop p byte B (pieceAt S P) (omega arith) in
     let none : drop (poolLength B P S) p ≡ [] = drop-of-length-le p {i = poolLength B P S} (omega arith) in
@@ -345,16 +417,20 @@ zero-words : (n : ℕ) → bytes16 (replicate n 0) ≡ replicate (2 * n) 0
 zero-words zero = refl
 zero-words (suc n) = let e : 2 * suc n ≡ suc (suc (2 * n)) = omega arith in rw (e, ← zero-words n)
 
+zero-slips : (n : ℕ) → slipBytes (replicate n 0) (replicate n 0) ≡ replicate (4 * n) 0
+zero-slips zero = refl
+zero-slips (suc n) = let e : 4 * suc n ≡ 4 + 4 * n = omega arith in rw (e, ← replicate-append-replicate {A = ℕ} 4 (4 * n) 0, ← zero-slips n)
+
 zero-pieces : (n : ℕ) → pieceBytes (replicate n blank) ≡ replicate (10 * n) 0
 zero-pieces zero = refl
 zero-pieces (suc n) = let e : 10 * suc n ≡ 10 + 10 * n = omega arith in rw (e, ← replicate-append-replicate {A = ℕ} 10 (10 * n) 0, ← zero-pieces n)
 
 -- the header, then zeros
-pub fresh-bytes : (B P S : ℕ) → encode (freshTables B P S) ≡ mark ++ (bytes16 (version ∷ B ∷ P ∷ S ∷ []) ++ replicate (2 * S + 10 * P + 2 * B) 0)
+pub fresh-bytes : (B P S : ℕ) → encode (freshTables B P S) ≡ mark ++ (bytes16 (version ∷ B ∷ P ∷ S ∷ []) ++ replicate (4 * S + 10 * P + 2 * B) 0)
 unfolding encode
-fresh-bytes B P S = simp (length-replicate, zero-words, zero-pieces, replicate-append-replicate, add-assoc)
+fresh-bytes B P S = simp (length-replicate, zero-words, zero-slips, zero-pieces, replicate-append-replicate, add-assoc)
 
--- document 01's 87 bytes
-pub fresh-example : encode (freshTables 4 6 4) ≡ 83 ∷ 76 ∷ 80 ∷ 1 ∷ 0 ∷ 4 ∷ 0 ∷ 6 ∷ 0 ∷ 4 ∷ 0 ∷ replicate 76 0
+-- document 02's 95 bytes
+pub fresh-example : encode (freshTables 4 6 4) ≡ 83 ∷ 76 ∷ 80 ∷ 2 ∷ 0 ∷ 4 ∷ 0 ∷ 6 ∷ 0 ∷ 4 ∷ 0 ∷ replicate 84 0
 unfolding encode
 fresh-example = refl

@@ -1,23 +1,23 @@
 -- Every operation is lawful, and the laws of all operations that follow. Assumes nothing.
-use mathlib.Core.Path.{_≡_, sym, subst, _∙_}
-use mathlib.Core.Bool.{Bool, not, _&&_}
-use mathlib.Core.List.{List·Memᴰ}
+use mathlib.Core.Path.{_≡_, sym, ap, subst, _∙_}
+use mathlib.Core.Bool.{Bool, false, not, _&&_}
+use mathlib.Core.List.{List, List·Memᴰ}
 use Prim.Native.Nat.{_<_, ℕ}
 use native.Mathlib.Omega.{arith}
-use lib.ListN.{length}
+use lib.ListN.{length, getD}
 use lib.Dec.{eqb→eq, T-not}
 use Rattle.kinds.specs.declared.Refusal.the-variants.{Torn}
 use Rattle.kinds.specs.Refusal.{refusalCode}
 use Rattle.rules.specs.Basics.{Is}
-use Rattle.rules.specs.Tables.{bufferCount, bufferTotal}
+use Rattle.rules.specs.Tables.{serial, bufferCount, slipTotal, bufferTotal, withSerials}
 use Rattle.rules.specs.Chain.{State, reads}
 use Rattle.rules.specs.Room.{isVacant, isUnheld}
-use Rattle.rules.specs.Rule.{Change, firstCode, codeIn}
+use Rattle.rules.specs.Rule.{Change, slipsOf, firstCode, codeIn}
 use Rattle.rules.specs.Step.{Operation, Audit, Put, Free, Dup, Cut, Append, Drop, Keep, Pullup, Pack, Length, Read, Show, WireList, meaning, rule}
 use Rattle.rules.specs.Causes.{Cause}
-use Rattle.rules.specs.After.{Names, ReadsOk, readsAfter, vacantAfter}
+use Rattle.rules.specs.After.{Names, ReadsOk, readsAfter, vacantAfter, vacates, serialAfter}
 use Rattle.rules.specs.Takes.{TakesOk}
-use Rattle.rules.proofs.Logic.{and-0, and-1, not-zero}
+use Rattle.rules.proofs.Logic.{and-0, and-1, not-zero, if-F}
 use Rattle.rules.proofs.Moves.{SoundNow}
 use Rattle.rules.proofs.Room.{in-passes, all-free}
 use Rattle.rules.proofs.Contents.{Fit}
@@ -27,7 +27,7 @@ use Rattle.rules.proofs.Caused.{Before, Settled, before-settled, code-s
 use Rattle.rules.proofs.Sizes.{Sizes}
 use Rattle.rules.proofs.Storage.{heldBytes}
 use Rattle.rules.proofs.After.{with-stock}
-use Rattle.rules.proofs.Lawful.{Lawful, others-stay, audit-lawful}
+use Rattle.rules.proofs.Lawful.{Lawful, Ageable, agedBy, aged-at, others-stay, audit-lawful}
 use Rattle.rules.proofs.Put.{put-lawful}
 use Rattle.rules.proofs.Free.{free-lawful}
 use Rattle.rules.proofs.Dup.{dup-lawful}
@@ -88,8 +88,8 @@ pub wants-asked : (o : Operation) (S : State) → SoundNow (S .tables) → Fit (
 unfolding rule
 wants-asked o S h f z = lawful o .caused S h f .asked z
 
--- tables and storage stay as long as they were
-pub rule-sizes : (o : Operation) (S : State) → Sizes (S .tables) (rule o S .after .tables)
+-- tables and storage stay as long as they were, and only serials of vacated slips move
+pub rule-sizes : (o : Operation) (S : State) → Sizes (withSerials (S .tables) (agedBy (meaning o .changes S) (S .tables .serials))) (rule o S .after .tables)
 unfolding rule
 rule-sizes o S = lawful o .sizes S
 
@@ -107,6 +107,15 @@ rule-sound o S h a = lawful o .sound S h a
 pub reads-ok : (o : Operation) (S : State) → SoundNow (S .tables) → Fit (S .tables .stock) (bufferTotal (S .tables)) (S .storage) → Allowed (rule o S) (S .tables) → ReadsOk o S
 unfolding rule readsAfter vacantAfter
 reads-ok o S h f a = (let S′ = rule o S .after in let r = lawful o .leaves S h f a (rule-sound o S h a) in record { bytes = λ t. sym (with-stock S S′ S′ (rule-sizes o S .stock-kept) t) ∙ r .bytes t; vacancy = r .vacancy })
+
+-- what the serial of every slip then is
+pub rule-serials : (o : Operation) (S : State) → Allowed (rule o S) (S .tables) → length (S .tables .serials) ≡ slipTotal (S .tables)
+    → (t : ℕ) → serial (rule o S .after .tables) t ≡ serialAfter o S t
+unfolding rule serialAfter vacates
+rule-serials o S a e t =
+    let ks = S .tables .serials in
+    ap (λ (qs : List ℕ). getD qs t 0) (lawful o .sizes S .serials-kept)
+    ∙ aged-at (meaning o .changes S) ks t (subst (λ n. Ageable n (meaning o .changes S)) (sym e) (lawful o .ages S a))
 
 -- it takes the lowest free, in chain order
 pub takes : (o : Operation) (S : State) → SoundNow (S .tables) → Allowed (rule o S) (S .tables) → TakesOk o S
@@ -128,6 +137,15 @@ rule-bytes o S h f a b l e =
     T-not (isUnheld T′ b) (and-1 (isUnheld T b) _ t) (subst Is (sym e) (and-0 (isUnheld T b) _ t))))
     (λ u. not-zero (bufferCount T′ b) (λ t. omega (arith, eqb→eq (bufferCount T b) 0 (subst Is e t))))
 
+-- it moves no serial of a held slip that it does not name
+pub others-serial : (o : Operation) (S : State) → Allowed (rule o S) (S .tables) → (t : ℕ) → (Names o t → ⊥) → Is (not (isVacant (S .tables) t))
+    → serialAfter o S t ≡ serial (S .tables) t
+unfolding rule serialAfter vacates
+others-serial o S a t n v =
+    let m = meaning o in
+    let same = others-stay (λ (c : Change). c .vacated) (λ u. false) (S .tables) (slipsOf (m .names)) (m .changes S) t (lawful o .known S a) n v in
+    if-F (vacates o S t) _ _ (λ z. subst Is same z)
+
 -- and it changes no held slip that it does not name
 pub others-same : (o : Operation) (S : State) → Allowed (rule o S) (S .tables) → (t : ℕ) → (Names o t → ⊥) → Is (not (isVacant (S .tables) t))
     → (readsAfter o S t ≡ reads S t) × (vacantAfter o S t ≡ isVacant (S .tables) t)
@@ -135,6 +153,6 @@ unfolding rule readsAfter vacantAfter
 others-same o S a t n v =
     let m = meaning o in
     let k = lawful o .known S a in (
-      others-stay (λ (c : Change). c .bytes) (reads S) (S .tables) (m .names) (m .changes S) t k n v,
-      others-stay (λ (c : Change). c .vacated) (isVacant (S .tables)) (S .tables) (m .names) (m .changes S) t k n v,
+      others-stay (λ (c : Change). c .bytes) (reads S) (S .tables) (slipsOf (m .names)) (m .changes S) t k n v,
+      others-stay (λ (c : Change). c .vacated) (isVacant (S .tables)) (S .tables) (slipsOf (m .names)) (m .changes S) t k n v,
     )

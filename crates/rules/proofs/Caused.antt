@@ -12,10 +12,10 @@ use Rattle.kinds.specs.declared.Refusal.{Refusal}
 use Rattle.kinds.specs.declared.Refusal.the-variants.{Counts, Torn, Slip, Same, Long, Range, Narrow, Slips, Pieces, Buffers, WireList}
 use Rattle.kinds.specs.Refusal.{refusalCode}
 use Rattle.rules.specs.Basics.{Is, if_then_else_, Among}
-use Rattle.rules.specs.Tables.{Tables, slipTotal, bufferTotal}
+use Rattle.rules.specs.Tables.{Tables, serial, slipTotal, bufferTotal}
 use Rattle.rules.specs.Chain.{State, lengthOf, reads}
 use Rattle.rules.specs.Room.{isVacant}
-use Rattle.rules.specs.Rule.{Judged, firstCode, unnamed, room, full, codeIn, Meaning}
+use Rattle.rules.specs.Rule.{Judged, firstCode, Name, unnamed, room, full, codeIn, Meaning}
 use Rattle.rules.specs.Recount.{leaves}
 use Rattle.rules.specs.Causes.{Cause, Missing, Twice}
 use Rattle.rules.proofs.Logic.{if-T, if-F, if-either, eq→eqb, is-dec, and-intro, and-0, and-1, or-cases, or-left, or-right}
@@ -228,30 +228,37 @@ module _ (m : Meaning) (S : State) (o : InOrder (m .rule S .judged)) (c : Caused
 -- ---- the tests of the rules and the causes of the table
 
 -- a slip that a rule takes for unnamed is missing
-missing-is : (T : Tables) (s : ℕ) → Is (unnamed T s) ↔ Missing T s
-missing-is T s =
+pub missing-is : (T : Tables) (x : Name) → Is (unnamed T x) ↔ Missing T x
+missing-is T x =
+    let s = x .slip in
     let b = ltb s (slipTotal T) in
-    let v = isVacant T s in (
+    let v = isVacant T s in
+    let k = eqb (serial T s) (x .serial) in (
       λ u. elim (decLt s (slipTotal T)) [
-        | yes l ↦ ⊎-elim (λ t. inr t) (λ n. absurd (T-not (b && not v) u (and-intro b (not v) (lt→ltb s (slipTotal T) l) (not-T v n)))) (is-dec v)
+        | yes l ↦ ⊎-elim (λ t. inr (inl t))
+            (λ n. inr (inr (λ e. T-not (b && (not v && k)) u
+            (and-intro b (not v && k) (lt→ltb s (slipTotal T) l) (and-intro (not v) k (not-T v n) (eq→eqb (serial T s) (x .serial) e)))))) (is-dec v)
         | no l ↦ inl (omega arith)
       ],
-      λ x. not-T (b && not v)
-          (λ t. ⊎-elim (λ l. omega (arith, ltb→lt s (slipTotal T) (and-0 b (not v) t))) (λ w. T-not v (and-1 b (not v) t) w) x),
+      λ y. not-T (b && (not v && k))
+          (λ t. (
+          let r = and-1 b (not v && k) t in
+          ⊎-elim (λ l. omega (arith, ltb→lt s (slipTotal T) (and-0 b (not v && k) t)))
+          (⊎-elim (λ w. T-not v (and-0 (not v) k r) w) (λ n. n (eqb→eq (serial T s) (x .serial) (and-1 (not v) k r)))) y)),
     )
 
 -- the one slip of a call; and a call that names none
-pub slip-one : (T : Tables) (s : ℕ) → Is (unnamed T s) ↔ ((t : ℕ) × Among (s ∷ []) t × Missing T t)
-slip-one T s = (λ u. (s, refl, missing-is T s .0 u), λ x. missing-is T s .1 (subst (Missing T) (x .1) (x .2)))
+pub slip-one : (T : Tables) (x : Name) → Is (unnamed T x) ↔ ((y : Name) × Among (x ∷ []) y × Missing T y)
+slip-one T x = (λ u. (x, refl, missing-is T x .0 u), λ y. missing-is T x .1 (subst (Missing T) (y .1) (y .2)))
 
-pub slip-none : (T : Tables) → Is false ↔ ((t : ℕ) × Among [] t × Missing T t)
+pub slip-none : (T : Tables) → Is false ↔ ((y : Name) × Among [] y × Missing T y)
 slip-none T = (λ t. absurd t, λ x. absurd (x .1))
 
 pub twice-one : (s : ℕ) → Is false ↔ Twice (s ∷ [])
 twice-one s = (λ t. absurd t, λ x. ⊎-elim (λ y. y) (λ y. y) x)
 
 -- the two slips of append
-pub slip-both : (T : Tables) (a b : ℕ) → Is (unnamed T a || unnamed T b) ↔ ((t : ℕ) × Among (a ∷ b ∷ []) t × Missing T t)
+pub slip-both : (T : Tables) (a b : Name) → Is (unnamed T a || unnamed T b) ↔ ((y : Name) × Among (a ∷ b ∷ []) y × Missing T y)
 slip-both T a b =
     let u = unnamed T a in
     let v = unnamed T b in (

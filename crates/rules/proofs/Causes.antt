@@ -32,7 +32,7 @@ enough n k = (λ h. omega arith, λ h. omega arith)
 -- ---- any call
 
 -- no row of the table is below code 3
-cause-above : (r : Refusal) (o : Meaning) (S : State) → Cause r o S → refusalCode Torn < refusalCode r
+pub cause-above : (r : Refusal) (o : Meaning) (S : State) → Cause r o S → refusalCode Torn < refusalCode r
 cause-above Counts o S x = absurd x
 cause-above Torn o S x = absurd x
 cause-above Slip o S x = omega arith

@@ -12,8 +12,8 @@ use Rattle.kinds.specs.declared.Refusal.{Refusal}
 use Rattle.kinds.specs.declared.Refusal.the-variants.{Counts, Torn, Slip, Same, Long, Range, Narrow, Slips, Pieces, Buffers, WireList}
 use Rattle.kinds.specs.Refusal.{refusalCode}
 use Rattle.rules.specs.Basics.{Is, if_then_else_}
-use Rattle.rules.specs.Tables.{Tables, slip, slipTotal}
-use Rattle.rules.specs.Rule.{Judged, _⇐_, firstCode, unnamed, Wants, want, Spare, room, Rule, full, codeIn}
+use Rattle.rules.specs.Tables.{Tables, slip, serial, slipTotal}
+use Rattle.rules.specs.Rule.{Judged, _⇐_, firstCode, Name, unnamed, Wants, want, Spare, room, Rule, full, codeIn}
 use Rattle.rules.proofs.Logic.{if-T, if-F, if-either, and-0, and-1, not-not, not-zero, not-most, eq→eqb, or-none}
 
 pub refusal-pos : (r : Refusal) → 0 < refusalCode r
@@ -131,25 +131,34 @@ allowed r T e =
       | no z ↦ absurd (z (sym (s ∙ if-F (eqb (firstCode js) 0) (firstCode f) (firstCode js) (λ t. z (eqb→eq (firstCode js) 0 t))) ∙ e))
     ]
 
--- a named slip is below S, and held
-pub named : (T : Tables) (s : ℕ) → (Is (unnamed T s) → ⊥) → (s < slipTotal T) × (0 < slip T s)
-named T s h =
-    let t = not-not (ltb s (slipTotal T) && not (eqb (slip T s) 0)) h in (
-      ltb→lt s (slipTotal T) (and-0 (ltb s (slipTotal T)) (not (eqb (slip T s) 0)) t),
-      not-zero (slip T s) (λ z. T-not (eqb (slip T s) 0) (and-1 (ltb s (slipTotal T)) (not (eqb (slip T s) 0)) t) z),
+-- the slip of a name that a rule takes is below S, and held, and its serial is the name's
+pub named-all : (T : Tables) (x : Name) → (Is (unnamed T x) → ⊥) → (x .slip < slipTotal T) × (0 < slip T (x .slip)) × (serial T (x .slip) ≡ x .serial)
+named-all T x h =
+    let s = x .slip in
+    let v = eqb (slip T s) 0 in
+    let k = eqb (serial T s) (x .serial) in
+    let t = not-not (ltb s (slipTotal T) && (not v && k)) h in
+    let u = and-1 (ltb s (slipTotal T)) (not v && k) t in (
+      ltb→lt s (slipTotal T) (and-0 (ltb s (slipTotal T)) (not v && k) t),
+      not-zero (slip T s) (λ z. T-not v (and-0 (not v) k u) z),
+      eqb→eq (serial T s) (x .serial) (and-1 (not v) k u),
     )
 
+pub named : (T : Tables) (x : Name) → (Is (unnamed T x) → ⊥) → (x .slip < slipTotal T) × (0 < slip T (x .slip))
+named T x h = let (l, p, _) = named-all T x h in (l, p)
+
 -- the slip of a call whose first judged refusal is Slip
-pub first-named : (T : Tables) (s : ℕ) (js : List Judged) → firstCode ((Slip ⇐ unnamed T s) ∷ js) ≡ 0 → (s < slipTotal T) × (0 < slip T s)
-first-named T s js e = named T s (first-zero (Slip ⇐ unnamed T s) js e .0)
+pub first-named : (T : Tables) (x : Name) (js : List Judged) → firstCode ((Slip ⇐ unnamed T x) ∷ js) ≡ 0 → (x .slip < slipTotal T) × (0 < slip T (x .slip))
+first-named T x js e = named T x (first-zero (Slip ⇐ unnamed T x) js e .0)
 
 -- the two slips of append
-pub both-named : (T : Tables) (a b : ℕ) → firstCode ((Slip ⇐ (unnamed T a || unnamed T b)) ∷ (Same ⇐ eqb a b) ∷ []) ≡ 0
-    → ((a < slipTotal T) × (0 < slip T a)) × ((b < slipTotal T) × (0 < slip T b)) × (a ≢ b)
+pub both-named : (T : Tables) (a b : Name) → firstCode ((Slip ⇐ (unnamed T a || unnamed T b)) ∷ (Same ⇐ eqb (a .slip) (b .slip)) ∷ []) ≡ 0
+    → ((a .slip < slipTotal T) × (0 < slip T (a .slip))) × ((b .slip < slipTotal T) × (0 < slip T (b .slip))) × (a .slip ≢ b .slip)
 both-named T a b e =
-    let z = first-zero (Slip ⇐ (unnamed T a || unnamed T b)) ((Same ⇐ eqb a b) ∷ []) e in
+    let same : Judged = Same ⇐ eqb (a .slip) (b .slip) in
+    let z = first-zero (Slip ⇐ (unnamed T a || unnamed T b)) (same ∷ []) e in
     let n = or-none (unnamed T a) (unnamed T b) (z .0) in
-    (named T a (n .0), named T b (n .1), λ q. first-zero (Same ⇐ eqb a b) [] (z .1) .0 (eq→eqb a b q))
+    (named T a (n .0), named T b (n .1), λ q. first-zero same [] (z .1) .0 (eq→eqb (a .slip) (b .slip) q))
 
 -- ---- the codes judged before room
 

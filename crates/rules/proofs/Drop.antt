@@ -16,7 +16,7 @@ use Rattle.rules.specs.Chain.{State, chain, stretch, Stretch, stretches,
 use Rattle.rules.specs.Room.{freePieces, freeWith, isFree, isUnheld}
 use Rattle.rules.specs.Release.{shared}
 use Rattle.rules.specs.Build.{Plan, underFreed, stored}
-use Rattle.rules.specs.Rule.{reading, giving}
+use Rattle.rules.specs.Rule.{Name, reading, giving}
 use Rattle.rules.specs.Drop.{shorter, dropHere, dropPlan, dropped, dropBack, dropAfter, dropCall, dropPieces, frontOwn}
 use Rattle.rules.specs.Back.{linkPast}
 use Rattle.rules.specs.Takes.{Took}
@@ -527,11 +527,12 @@ plan-sizes T own (d ∷ ds) n =
     let own′ = ownAt T own d in
     if-either (λ (p : Plan). Sizes T (p .base)) (leb (piece T d .len) n) _ _ (λ _. plan-sizes T own′ ds (n - piece T d .len)) (λ _. here-sizes T own′ d n)
 
-drop-leaves : (s n : ℕ) → Leaving (dropCall s n)
+drop-leaves : (x : Name) (n : ℕ) → Leaving (dropCall x n)
 unfolding dropAfter
-drop-leaves s n S h f al =
+drop-leaves x n S h f al =
     let T = S .tables in
-    let (b, z) = first-named T s _ (al .early) in
+    let s = x .slip in
+    let (b, z) = first-named T x _ (al .early) in
     let p = dropped T s n in
     let d = dropped-planned T s n h in
     let v = dropped-leaves T s n b h in
@@ -550,19 +551,21 @@ dropped-none T s n b h =
     let e = sym (map-append (λ (x : Stretch). x .buffer) (p .more) (stretches (p .base) (v .rest))) ∙ ap buffersOf (v .covers) in
     none-front (isUnheld T) (buffersOf (p .more)) _ (subst (NoneOf (isUnheld T)) (sym e) (dropOut-none (isUnheld T) (spans T s) n (spans-none T s h)))
 
-drop-stays : (s n : ℕ) → Staying (dropCall s n)
+drop-stays : (x : Name) (n : ℕ) → Staying (dropCall x n)
 unfolding dropAfter stored
-drop-stays s n S h f a =
+drop-stays x n S h f a =
     let T = S .tables in
-    let b = first-named T s _ (a .early) .0 in
+    let s = x .slip in
+    let b = first-named T x _ (a .early) .0 in
     maybe-stays S (underFreed S (dropped T s n) s) (eqb n 0) 0
     (freed-stays S [] (dropped T s n) s 0 (dropped-planned T s n h) b f (dropped-spared S T s n b h))
 
-drop-takes : (s n : ℕ) → Taking (dropCall s n)
+drop-takes : (x : Name) (n : ℕ) → Taking (dropCall x n)
 unfolding dropAfter
-drop-takes s n S h a =
+drop-takes x n S h a =
     let T = S .tables in
-    let (b, z) = first-named T s _ (a .early) in
+    let s = x .slip in
+    let (b, z) = first-named T x _ (a .early) in
     let p = dropped T s n in
     let v = dropped-leaves T s n b h in
     if-either (λ (X : State). SoundNow (X .tables) → Took T (X .tables) (giving (dropBack T s n) (length (p .more)) 0) s) (eqb n 0) S (underFreed S p s)
@@ -570,27 +573,28 @@ drop-takes s n S h a =
     (λ _ _. took-freed S p s (dropped-planned T s n h) b (v .rest) (v .meets) (v .others) (dropOut (spans T s) n) (length (p .more)) 0 h z refl (roomy a) (v .covers)
     (passing-none (isUnheld T) (buffersOf (dropOut (spans T s) n)) (dropOut-none (isUnheld T) (spans T s) n (spans-none T s h))))
 
-drop-caused : (s n : ℕ) → Causing (dropCall s n)
+drop-caused : (x : Name) (n : ℕ) → Causing (dropCall x n)
 unfolding found if_then_else_
-drop-caused s n S h f = record {
+drop-caused x n S h f = record {
   below = omega arith;
-  slip = slip-one (S .tables) s;
-  same = twice-one s;
+  slip = slip-one (S .tables) x;
+  same = twice-one (x .slip);
   long = none-less 512;
-  range = past-is S h f s n;
+  range = past-is S h f (x .slip) n;
   narrow = none-less 0;
-  asked = λ z. (let T = S .tables in λ i. giving (drop-back T s n h i) (drop-count T s n h i) 0);
+  asked = λ z. (let T = S .tables in λ i. giving (drop-back T (x .slip) n h i) (drop-count T (x .slip) n h i) 0);
 }
 
-pub drop-lawful : (s n : ℕ) → Lawful (dropCall s n)
+pub drop-lawful : (x : Name) (n : ℕ) → Lawful (dropCall x n)
 unfolding dropAfter
-drop-lawful s n = record {
+drop-lawful x n = record {
   codes = λ S. omega arith;
-  sizes = λ S. (let T = S .tables in maybe-sizes S (underFreed S (dropped T s n) s) (eqb n 0) (freed-sizes S (dropped T s n) s (plan-sizes T true (chain T s) n)));
-  stays = drop-stays s n;
-  sound = λ S h a. drop-sound s n S (first-named (S .tables) s _ (a .early) .0) h;
+  sizes = λ S. (let T = S .tables in maybe-sizes S (underFreed S (dropped T (x .slip) n) (x .slip)) (eqb n 0) (freed-sizes S (dropped T (x .slip) n) (x .slip) (plan-sizes T true (chain T (x .slip)) n)));
+  ages = λ S _. (λ v. absurd v, λ v. v, tt);
+  stays = drop-stays x n;
+  sound = λ S h a. drop-sound (x .slip) n S (first-named (S .tables) x _ (a .early) .0) h;
   known = λ S _. (inl refl, tt);
-  caused = drop-caused s n;
-  leaves = drop-leaves s n;
-  takes = drop-takes s n;
+  caused = drop-caused x n;
+  leaves = drop-leaves x n;
+  takes = drop-takes x n;
 }

@@ -8,8 +8,8 @@ use lib.ListN.{length, take, drop}
 use Rattle.rules.specs.Basics.{if_then_else_}
 use Rattle.rules.specs.Tables.{Tables, piece, headOf, bufferTotal}
 use Rattle.rules.specs.Chain.{State, stretches, Stretch, chain, stretch, spans, reads, total}
-use Rattle.rules.specs.Room.{vacantSlips, freePieces, newSlip, isUnheld}
-use Rattle.rules.specs.Rule.{want}
+use Rattle.rules.specs.Room.{readySlips, freePieces, newSlip, isUnheld}
+use Rattle.rules.specs.Rule.{Name, want}
 use Rattle.rules.specs.Dup.{dupPlan, dupAfter, dupCall}
 use Rattle.rules.proofs.Moves.{SoundNow}
 use Rattle.rules.proofs.Rank.{next-pos, head-pos}
@@ -34,7 +34,7 @@ dup-planned T (suc d) h (rank, S) = record {
   held = (rank, share-sound (piece T d .next) (λ e q. next-pos d e S q) S);
 }
 
-pub dup-sound : (s : ℕ) (S : State) → 0 < length (vacantSlips (S .tables)) → SoundNow (S .tables) → SoundNow (dupAfter s S .tables)
+pub dup-sound : (s : ℕ) (S : State) → 0 < length (readySlips (S .tables)) → SoundNow (S .tables) → SoundNow (dupAfter s S .tables)
 unfolding dupAfter
 dup-sound s S h (rank, g) =
     let T = S .tables in
@@ -55,7 +55,7 @@ dup-others T zero u S = same-refl T (headOf T u)
 dup-others T (suc d) u (rank, S) = shared-same T (piece T d .next) (headOf T u) (λ e q. next-pos d e S q)
 
 -- what dup leaves: the new slip holds a new piece for the head, and the rest of the same chain
-pub dup-gives : (s : ℕ) (S : State) → SoundNow (S .tables) → 0 < length (vacantSlips (S .tables)) → length (dupPlan (S .tables) (headOf (S .tables) s) .more) ≤ length (freePieces (S .tables))
+pub dup-gives : (s : ℕ) (S : State) → SoundNow (S .tables) → 0 < length (readySlips (S .tables)) → length (dupPlan (S .tables) (headOf (S .tables) s) .more) ≤ length (freePieces (S .tables))
     → Gives (S .tables) (dupAfter s S .tables) (newSlip (S .tables))
     (take (length (dupPlan (S .tables) (headOf (S .tables) s) .more)) (freePieces (S .tables)) ++ drop (length (dupPlan (S .tables) (headOf (S .tables) s) .more)) (chain (S .tables) s))
     (spans (S .tables) s)
@@ -75,16 +75,18 @@ unfolding dupPlan
 dup-sizes T zero = same-sizes T
 dup-sizes T (suc d) = shared-sizes T (piece T d .next)
 
-dup-leaves : (s : ℕ) → Leaving (dupCall s)
+dup-leaves : (x : Name) → Leaving (dupCall x)
 unfolding dupAfter
-dup-leaves s S h _ a h′ =
+dup-leaves x S h _ a h′ =
     let T = S .tables in
+    let s = x .slip in
     gives-reading S (dupAfter s S) (S .storage) (newSlip T) _ (spans T s) (reads S s) (dup-gives s S h (a .slips-room) (omega (arith, a .pieces-room))) h h′
     (λ u. refl) (λ u. refl) refl
 
-dup-takes : (s : ℕ) → Taking (dupCall s)
-dup-takes s S h a h′ =
+dup-takes : (x : Name) → Taking (dupCall x)
+dup-takes x S h a h′ =
     let T = S .tables in
+    let s = x .slip in
     let k = length (dupPlan T (headOf T s) .more) in
     took-new T _ _ _ h h′ (dup-gives s S h (a .slips-room) (omega (arith, a .pieces-room))) k 0 (roomy a)
     (new-front T k (drop k (chain T s)) (used-drop T k (chain T s) (chain-used T s h))) (passing-none (isUnheld T) (buffersOf (spans T s)) (spans-none T s h))
@@ -96,30 +98,31 @@ unfolding dupPlan stretches total
 dup-count T n l stop g = omega arith
 dup-count T n l (go c) g = omega (arith, g .1)
 
-dup-caused : (s : ℕ) → Causing (dupCall s)
+dup-caused : (x : Name) → Causing (dupCall x)
 unfolding found if_then_else_
-dup-caused s S h f = record {
+dup-caused x S h f = record {
   below = omega arith;
-  slip = slip-one (S .tables) s;
-  same = twice-one s;
+  slip = slip-one (S .tables) x;
+  same = twice-one (x .slip);
   long = none-less 512;
   range = none-less _;
   narrow = none-less 0;
   asked = λ z. (
       let T = S .tables in
-      let k = dup-count T (headOf T s) (chain T s) (chain-meets T s h) (spans-good T s h) in
-      ap (λ j. want 1 j 0) (k ∙ ap (min 1) (sym (reads-length S h f s))));
+      let k = dup-count T (headOf T (x .slip)) (chain T (x .slip)) (chain-meets T (x .slip) h) (spans-good T (x .slip) h) in
+      ap (λ j. want 1 j 0) (k ∙ ap (min 1) (sym (reads-length S h f (x .slip)))));
 }
 
-pub dup-lawful : (s : ℕ) → Lawful (dupCall s)
+pub dup-lawful : (x : Name) → Lawful (dupCall x)
 unfolding dupAfter
-dup-lawful s = record {
+dup-lawful x = record {
   codes = λ S. omega arith;
-  sizes = λ S. (let T = S .tables in new-sizes (dupPlan T (headOf T s)) (freePieces T) (newSlip T) (dup-sizes T (headOf T s)));
-  stays = λ S _ _ _. stays-as S (dupAfter s S) 0 refl;
-  sound = λ S h a. dup-sound s S (a .slips-room) h;
+  sizes = λ S. (let T = S .tables in new-sizes (dupPlan T (headOf T (x .slip))) (freePieces T) (newSlip T) (dup-sizes T (headOf T (x .slip))));
+  ages = λ S _. (λ v. absurd v, λ v. v, tt);
+  stays = λ S _ _ _. stays-as S (dupAfter (x .slip) S) 0 refl;
+  sound = λ S h a. dup-sound (x .slip) S (a .slips-room) h;
   known = λ S a. (inr (new-vacant (S .tables) (a .slips-room)), tt);
-  caused = dup-caused s;
-  leaves = dup-leaves s;
-  takes = dup-takes s;
+  caused = dup-caused x;
+  leaves = dup-leaves x;
+  takes = dup-takes x;
 }

@@ -198,26 +198,28 @@ rule-fills (Drop s k) S h f a n = none-filled _ _ (S .tables)
 rule-fills (Keep s k) S h f a n = none-filled _ _ (S .tables)
 rule-fills (Pullup s k) S h f a n =
     let T = S .tables in
+    let t = s .slip in
     let i = simp no-cause at (a .early) in
-    let front = take k (reads S s) in
+    let front = take k (reads S t) in
     if-both
     (λ (X : State) (w : Wants). w .buffers ≤ length (freeBuffers T) → Filled (T .stock) (X .storage) (newBuffers T (w .buffers)) front)
-    (leb k (firstLength (spans T s))) _ _ (want 0 0 0) (giving (dropBack T s k) (suc (length (dropped T s k .more))) 1)
-    (λ t. absurd (n (leb→le k (firstLength (spans T s)) t)))
-    (λ t r. freed-filled S f 1 front (pulled T s k) s (pulled-planned T s k (omega (arith, not-most k (firstLength (spans T s)) t)) h)
-    (first-named T s _ (a .early) .0) r (omega (arith, length-take k (reads S s))))
+    (leb k (firstLength (spans T t))) _ _ (want 0 0 0) (giving (dropBack T t k) (suc (length (dropped T t k .more))) 1)
+    (λ z. absurd (n (leb→le k (firstLength (spans T t)) z)))
+    (λ z r. freed-filled S f 1 front (pulled T t k) t (pulled-planned T t k (omega (arith, not-most k (firstLength (spans T t)) z)) h)
+    (first-named T s _ (a .early) .0) r (omega (arith, length-take k (reads S t))))
     (a .buffers-room)
 rule-fills (Pack s) S h f a n =
     let T = S .tables in
-    let k = buffersFor (lengthOf T s) in
-    let xs = laid (T .stock) (newBuffers T k) (lengthOf T s) in
+    let t = s .slip in
+    let k = buffersFor (lengthOf T t) in
+    let xs = laid (T .stock) (newBuffers T k) (lengthOf T t) in
     if-both
     (λ (X : State) (w : Wants). tookBuffers T (X .tables) ≡ newBuffers T (w .buffers) → w .buffers ≤ length (freeBuffers T)
-    → Filled (T .stock) (X .storage) (newBuffers T (w .buffers)) (reads S s))
-    (leb (length (chain T s)) 1) _ _ (want 0 0 0) (want 0 k k)
-    (λ t. absurd (n (leb→le (length (chain T s)) 1 t)))
-    (λ _ e r. hung-filled S f k (reads S s) (plain T xs) s (plain-planned T xs (new-good T (lengthOf T s)) h)
-    (first-named T s _ (a .early) .0) e r (omega (arith, reads-length S h f s)))
+    → Filled (T .stock) (X .storage) (newBuffers T (w .buffers)) (reads S t))
+    (leb (length (chain T t)) 1) _ _ (want 0 0 0) (want 0 k k)
+    (λ z. absurd (n (leb→le (length (chain T t)) 1 z)))
+    (λ _ e r. hung-filled S f k (reads S t) (plain T xs) t (plain-planned T xs (new-good T (lengthOf T t)) h)
+    (first-named T s _ (a .early) .0) e r (omega (arith, reads-length S h f t)))
     (takes (Pack s) S h a .buffers) (a .buffers-room)
 rule-fills (Length s) S h f a n = none-filled _ _ (S .tables)
 rule-fills (Read s off k out) S h f a n = none-filled _ _ (S .tables)

@@ -172,7 +172,7 @@ module _ {T : Tables} (S : State) (p : Plan) (s : ℕ) (h : Planned T p) (l : s 
   pub emptied-sizes : Sizes T after
   emptied-sizes =
       let k = h .still .kept in
-      then-sizes (record { slips-size = ap length (k .slips-kept); pieces-size = k .pieces-size; counts-size = k .counts-size; stock-kept = k .stock-kept })
+      then-sizes (record { slips-size = ap length (k .slips-kept); pieces-size = k .pieces-size; counts-size = k .counts-size; serials-kept = k .serials-kept; stock-kept = k .stock-kept })
       (turned-sizes before s (holding 0))
 
   base-free : FreeAs T (p .base)
@@ -282,7 +282,7 @@ spared-at T T′ b (x ∷ xs) a m =
 
 module _ {T : Tables} (S : State) (p : Plan) (s : ℕ) (h : Planned T p) (l : s < slipTotal T) (f : Fit (T .stock) (bufferTotal T) (S .storage)) where
   base-sizes : Sizes T (p .base)
-  base-sizes = let k = h .still .kept in record { slips-size = ap length (k .slips-kept); pieces-size = k .pieces-size; counts-size = k .counts-size; stock-kept = k .stock-kept }
+  base-sizes = let k = h .still .kept in record { slips-size = ap length (k .slips-kept); pieces-size = k .pieces-size; counts-size = k .counts-size; serials-kept = k .serials-kept; stock-kept = k .stock-kept }
 
   -- every byte stays of a buffer that is not set free
   pub emptied-keeps : Keeps (withTables S (p .base)) (emptied S p s)

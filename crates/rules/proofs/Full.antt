@@ -13,7 +13,7 @@ use Rattle.rules.specs.Tables.{Tables}
 use Rattle.rules.specs.Bytes.{decode}
 use Rattle.rules.specs.Chain.{withTables, spans, firstLength, ownOf}
 use Rattle.rules.specs.Sound.{Lent, sound}
-use Rattle.rules.specs.Rule.{Wants, want, giving, _⇐_}
+use Rattle.rules.specs.Rule.{Name, Wants, want, giving, _⇐_}
 use Rattle.rules.specs.Drop.{dropped, dropBack}
 use Rattle.rules.specs.Pullup.{pullupWants}
 use Rattle.rules.specs.Step.{Operation, Do, Drop, Pullup, rule, stateIn}
@@ -47,22 +47,22 @@ no-back : (ds es : List ℕ) → length ds ≤ length es → length es ≡ 0 →
 no-back [] es l z = refl
 no-back (d ∷ ds) es l z = absurd (omega arith)
 
-module _ (s n : ℕ) (m : Lent) where
+module _ (s : Name) (n : ℕ) (m : Lent) where
   abbrev T : Tables
   T = decode (m .pool)
 
-  drop-wants : early (Do (Drop s n)) m ≡ 0 → wanted (Do (Drop s n)) m ≡ giving (dropBack T s n) (length (dropped T s n .more)) 0
+  drop-wants : early (Do (Drop s n)) m ≡ 0 → wanted (Do (Drop s n)) m ≡ giving (dropBack T (s .slip) n) (length (dropped T (s .slip) n .more)) 0
   unfolding rule
   drop-wants e = wants-own (Drop s n) m e
 
-  pullup-wants : WantsPieces (Do (Pullup s n)) m → (wanted (Do (Pullup s n)) m ≡ giving (dropBack T s n) (suc (length (dropped T s n .more))) 1) × (firstLength (spans T s) < n)
+  pullup-wants : WantsPieces (Do (Pullup s n)) m → (wanted (Do (Pullup s n)) m ≡ giving (dropBack T (s .slip) n) (suc (length (dropped T (s .slip) n .more))) 1) × (firstLength (spans T (s .slip)) < n)
   unfolding rule pullupWants
   pullup-wants (e, l) =
       let w = wants-own (Pullup s n) m e in
-      let k = firstLength (spans T s) in
+      let k = firstLength (spans T (s .slip)) in
       elim (decLt k n) [
         | yes i ↦ (w ∙ if-F (leb n k) (want 0 0 0) _ (λ t. omega (arith, leb→le n k t)), i)
-        | no i ↦ absurd (omega (arith, ap (λ (x : Wants). x .pieces) (w ∙ if-T (leb n k) (want 0 0 0) (giving (dropBack T s n) (suc (length (dropped T s n .more))) 1) (le→leb n k (omega arith)))))
+        | no i ↦ absurd (omega (arith, ap (λ (x : Wants). x .pieces) (w ∙ if-T (leb n k) (want 0 0 0) (giving (dropBack T (s .slip) n) (suc (length (dropped T (s .slip) n .more))) 1) (le→leb n k (omega arith)))))
       ]
 
   drop-full : WantsPieces (Do (Drop s n)) m → DropFull s n m
@@ -74,10 +74,10 @@ module _ (s n : ℕ) (m : Lent) where
       let b = ap (λ (x : Wants). x .back) w in
       let k = call-ok c m (was-sound (Drop s n) m e) .pieces-full in
       record {
-        own = λ o z. omega (arith, k .0 z .2, p, ap {B = ℕ} length b, drop-count T s n h, pieces-most T s n, back-all T s n h (omega arith));
+        own = λ o z. omega (arith, k .0 z .2, p, ap {B = ℕ} length b, drop-count T (s .slip) n h, pieces-most T (s .slip) n, back-all T (s .slip) n h (omega arith));
         not-own = λ o. (
-          b ∙ no-back (dropBack T s n) (ownOf T s) (back-most T s n h) o,
-          (λ z. omega (arith, k .0 z .2), λ z. k .1 (e, omega (arith, ap (λ (x : Wants). x .slips) w), omega (arith, ap {B = ℕ} length b, back-most T s n h))),
+          b ∙ no-back (dropBack T (s .slip) n) (ownOf T (s .slip)) (back-most T (s .slip) n h) o,
+          (λ z. omega (arith, k .0 z .2), λ z. k .1 (e, omega (arith, ap (λ (x : Wants). x .slips) w), omega (arith, ap {B = ℕ} length b, back-most T (s .slip) n h))),
         );
       }
 
@@ -92,15 +92,15 @@ module _ (s n : ℕ) (m : Lent) where
       let k = call-ok c m (was-sound (Pullup s n) m e) .pieces-full in
       record {
         own = λ o. (
-          λ q. omega (arith, k .0 q .2, p, ap {B = ℕ} length b, drop-count T s n h, pieces-most T s n, ap {B = ℕ} length (drop-back T s n h), front-some T s n h i o),
+          λ q. omega (arith, k .0 q .2, p, ap {B = ℕ} length b, drop-count T (s .slip) n h, pieces-most T (s .slip) n, ap {B = ℕ} length (drop-back T (s .slip) n h), front-some T (s .slip) n h i o),
           λ q. k .1 (e, omega (arith, z), omega (arith, q)),
         );
         not-own = λ o. (
-          b ∙ no-back (dropBack T s n) (ownOf T s) (back-most T s n h) o,
-          (λ q. omega (arith, k .0 q .2), λ q. k .1 (e, omega (arith, z), omega (arith, ap {B = ℕ} length b, back-most T s n h))),
+          b ∙ no-back (dropBack T (s .slip) n) (ownOf T (s .slip)) (back-most T (s .slip) n h) o,
+          (λ q. omega (arith, k .0 q .2), λ q. k .1 (e, omega (arith, z), omega (arith, ap {B = ℕ} length b, back-most T (s .slip) n h))),
         );
       }
 
 -- Of any bytes.
-pub full-ok : (s n : ℕ) (m : Lent) → FullOk s n m
+pub full-ok : (s : Name) (n : ℕ) (m : Lent) → FullOk s n m
 full-ok s n m = record { drop = drop-full s n m; pullup = pullup-full s n m }

@@ -13,7 +13,7 @@ use Rattle.rules.specs.Tables.{Piece, Tables, blank, piece, headOf, slip
 use Rattle.rules.specs.Chain.{State, Stretch, spans, lengthOf, stretch, stretches, cutOut, withTables, reads, chain, ownOf, overlaps}
 use Rattle.rules.specs.Room.{freePieces, isFree, isUnheld}
 use Rattle.rules.specs.Build.{built, builtLink, behindOwn}
-use Rattle.rules.specs.Rule.{reading, want}
+use Rattle.rules.specs.Rule.{Name, reading, want}
 use Rattle.rules.specs.Keep.{kept, keptOwn, keptNotOwn, shortened, keptBy, keepAfter, keepCall}
 use Rattle.rules.specs.Takes.{Took}
 use Rattle.rules.proofs.Logic.{if-either, if-F, if-both}
@@ -329,25 +329,27 @@ tables-only : (T : Tables) (own : List ℕ) (xs rest : List Stretch) → NoneOf 
 tables-only T own xs [] n = shortened-only T own xs
 tables-only T own xs (y ∷ ys) n = built-only T T (freePieces T) (y ∷ ys) 0 0 refl (passing-none (isUnheld T) (buffersOf (y ∷ ys)) n)
 
-keep-stays : (s n : ℕ) → Staying (keepCall s n)
+keep-stays : (x : Name) (n : ℕ) → Staying (keepCall x n)
 unfolding keepAfter
-keep-stays s n S h f a =
+keep-stays x n S h f a =
     let T = S .tables in
+    let s = x .slip in
     let own = keptOwn T s n in
     let xs = kept T s n in
     let rest = keptNotOwn T s n in
-    let r = keep-ready T s n (first-named T s _ (a .early) .0) h in
+    let r = keep-ready T s n (first-named T x _ (a .early) .0) h in
     maybe-stays S _ (eqb n (lengthOf T s)) 0
     (subst (λ (X : State). StorageStays S X 0) (kept-as S s own xs rest)
     (behind-stays S (keptTables T own xs rest) s (keptLink T rest) own (tables-sizes T own xs rest)
     (tables-only T own xs rest (drop-none (isUnheld T) (length own) xs (cutOut-none (isUnheld T) (spans T s) 0 n (spans-none T s h))))
     (r .below) (r .own-list) (r .held) f))
 
-keep-leaves : (s n : ℕ) → Leaving (keepCall s n)
+keep-leaves : (x : Name) (n : ℕ) → Leaving (keepCall x n)
 unfolding keepAfter
-keep-leaves s n S h f al =
+keep-leaves x n S h f al =
     let T = S .tables in
-    let (b, z₀) = first-named T s _ (al .early) in
+    let s = x .slip in
+    let (b, z₀) = first-named T x _ (al .early) in
     if-either (λ (X : State). SoundNow (X .tables) → Reading S X (reading s (take n (reads S s)) ∷ [])) (eqb n (lengthOf T s)) _ _
     (λ e _. same-reading S s (take n (reads S s)) z₀ (take-all n (reads S s) (omega (arith, reads-length S h f s, eqb→eq n (lengthOf T s) e))))
     (λ ne h′. (
@@ -362,11 +364,12 @@ keep-leaves s n S h f al =
     gives-reading S _ (S .storage) s _ _ (take n (reads S s)) (keep-gives s n S b z₀ h r) h h′ (keeps-spans (T .stock) (z .stock-kept) k h′) (λ u. refl)
     (cutOut-contents (T .stock) (bufferTotal T) (S .storage) (spans T s) 0 n f (spans-good T s h))))
 
-keep-takes : (s n : ℕ) → Taking (keepCall s n)
+keep-takes : (x : Name) (n : ℕ) → Taking (keepCall x n)
 unfolding keepAfter
-keep-takes s n S h a h″ =
+keep-takes x n S h a h″ =
     let T = S .tables in
-    let (b, z) = first-named T s _ (a .early) in
+    let s = x .slip in
+    let (b, z) = first-named T x _ (a .early) in
     let k = length (keptNotOwn T s n) in
     let own = keptOwn T s n in
     if-both (λ (X : State) (j : ℕ). SoundNow (X .tables) → Roomy T (want 0 j 0) → Took T (X .tables) (want 0 j 0) s) (eqb n (lengthOf T s)) _ _ 0 k
@@ -389,27 +392,28 @@ keep-count T s n h =
       overlaps-cut (T .stock) (bufferTotal T) (spans T s) 0 n (spans-good T s h),
     )
 
-keep-caused : (s n : ℕ) → Causing (keepCall s n)
+keep-caused : (x : Name) (n : ℕ) → Causing (keepCall x n)
 unfolding found if_then_else_
-keep-caused s n S h f = record {
+keep-caused x n S h f = record {
   below = omega arith;
-  slip = slip-one (S .tables) s;
-  same = twice-one s;
+  slip = slip-one (S .tables) x;
+  same = twice-one (x .slip);
   long = none-less 512;
-  range = past-is S h f s n;
+  range = past-is S h f (x .slip) n;
   narrow = none-less 0;
-  asked = λ z. (λ i. want 0 (if eqb n (sym (reads-length S h f s) i) then 0 else keep-count (S .tables) s n h i) 0);
+  asked = λ z. (λ i. want 0 (if eqb n (sym (reads-length S h f (x .slip)) i) then 0 else keep-count (S .tables) (x .slip) n h i) 0);
 }
 
-pub keep-lawful : (s n : ℕ) → Lawful (keepCall s n)
+pub keep-lawful : (x : Name) (n : ℕ) → Lawful (keepCall x n)
 unfolding keepAfter
-keep-lawful s n = record {
+keep-lawful x n = record {
   codes = λ S. omega arith;
-  sizes = λ S. (let T = S .tables in maybe-sizes S _ (eqb n (lengthOf T s)) (kept-sizes S s (keptOwn T s n) (kept T s n) (keptNotOwn T s n)));
-  stays = keep-stays s n;
-  sound = λ S h a. keep-sound s n S (first-named (S .tables) s _ (a .early) .0) h;
+  sizes = λ S. (let T = S .tables in maybe-sizes S _ (eqb n (lengthOf T (x .slip))) (kept-sizes S (x .slip) (keptOwn T (x .slip) n) (kept T (x .slip) n) (keptNotOwn T (x .slip) n)));
+  ages = λ S _. (λ v. absurd v, λ v. v, tt);
+  stays = keep-stays x n;
+  sound = λ S h a. keep-sound (x .slip) n S (first-named (S .tables) x _ (a .early) .0) h;
   known = λ S _. (inl refl, tt);
-  caused = keep-caused s n;
-  leaves = keep-leaves s n;
-  takes = keep-takes s n;
+  caused = keep-caused x n;
+  leaves = keep-leaves x n;
+  takes = keep-takes x n;
 }

@@ -26,6 +26,7 @@ pub mod Takes
 pub mod Stays
 pub mod Freed
 pub mod Caused
+pub mod Aged
 pub mod Lawful
 -- each call that works on a pool, in document 01's order: it is lawful, and what it has besides
 pub mod Put
@@ -65,5 +66,6 @@ pub mod Demand
 pub mod Full
 pub mod Most
 pub mod Lists
+pub mod Serials
 pub mod Settles
 pub mod Morning

@@ -1,4 +1,4 @@
--- The ten marked rows, the edges and the full tables, by computing. Assumes nothing.
+-- The ten marked rows, the edges, the full tables and the rows of serials, by computing. Assumes nothing.
 use mathlib.Core.Path.{_≡_, refl, sym, ap, _∙_}
 use mathlib.Core.List.{List, [], _∷_, map}
 use Prim.Native.Nat.{ℕ, zero, suc, _+_, _-_, _%_, _<_}
@@ -14,30 +14,30 @@ use Rattle.rules.specs.Sound.{heads, nexts, lying, headerOk, acyclic, so
 use Rattle.rules.specs.Room.{freePieces}
 use Rattle.rules.specs.Release.{releaseIn, release, turned, relinked}
 use Rattle.rules.specs.Build.{builtLink, built, underNew, underOld, underFreed, behindOwn, laid, filledAt, stored}
-use Rattle.rules.specs.Rule.{firstCode}
+use Rattle.rules.specs.Rule.{Name, name, firstCode}
 use Rattle.rules.specs.Open.{openable}
 use Rattle.rules.specs.Put.{putAfter}
 use Rattle.rules.specs.Dup.{dupPlan, dupAfter}
 use Rattle.rules.specs.Cut.{cutAfter}
-use Rattle.rules.specs.Append.{joined, appendAfter}
+use Rattle.rules.specs.Append.{joined, appended}
 use Rattle.rules.specs.Drop.{dropHere, dropPlan, dropAfter}
 use Rattle.rules.specs.Keep.{shortened, keptBy, keepAfter}
 use Rattle.rules.specs.Pullup.{pullupAfter, pullupWants}
 use Rattle.rules.specs.Pack.{packAfter, packWants}
-use Rattle.rules.specs.Step.{Put, Free, Dup, Cut, Append, Drop, Keep, Pullup, Pack}
+use Rattle.rules.specs.Step.{Put, Free, Dup, Cut, Append, Drop, Keep, Pullup, Pack, Length}
 use Rattle.rules.specs.Recount.{reached, references, holders, recounted, leaves}
 use Rattle.rules.specs.Demand.{early, wanted, left}
 use Rattle.rules.specs.Full.{owned}
 use Rattle.rules.specs.Step.{Open, Do, rule, done, perform, step, stateIn, leftBy, next, afterCalls}
-use Rattle.rules.specs.Morning.{Row, byteRun, rows, fresh4, given, Edge, edge, edges, tried, FullTable, fullTable, put600, fullTables, triedFull}
+use Rattle.rules.specs.Morning.{Row, byteRun, first, rows, fresh4, given, Edge, edge, edges, tried, FullTable, fullTable, put600, fullTables, triedFull, serialRows, triedSerials}
 
 -- unfolding this unfolds every rule
 every-rule : Unit {0}
-unfolding get16 classOf if_then_else_ allTo places decode encode follow walk ownPieces stretches total cutOut contents heads nexts lying headerOk acyclic soundTables sound releaseIn release turned relinked builtLink built underNew underOld underFreed behindOwn laid filledAt stored firstCode putAfter dupPlan dupAfter cutAfter joined appendAfter dropHere dropPlan dropAfter shortened keptBy keepAfter pullupAfter pullupWants packAfter packWants rule done perform step
+unfolding get16 classOf if_then_else_ allTo places decode encode follow walk ownPieces stretches total cutOut contents heads nexts lying headerOk acyclic soundTables sound releaseIn release turned relinked builtLink built underNew underOld underFreed behindOwn laid filledAt stored firstCode putAfter dupPlan dupAfter cutAfter joined appended dropHere dropPlan dropAfter shortened keptBy keepAfter pullupAfter pullupWants packAfter packWants rule done perform step
 every-rule = tt
 
--- fresh4 is what open 4, 6, 4 leaves of any 87 bytes over storage of bytes 238
-pub fresh4-open : (q : List ℕ) → length q ≡ 87 → next (Open 4 6 4) (lent q (replicate 2048 238)) ≡ fresh4
+-- fresh4 is what open 4, 6, 4 leaves of any 95 bytes over storage of bytes 238
+pub fresh4-open : (q : List ℕ) → length q ≡ 95 → next (Open 4 6 4) (lent q (replicate 2048 238)) ≡ fresh4
 unfolding step openable if_then_else_ classOf
 fresh4-open q e = rw e
 
@@ -46,10 +46,10 @@ pub morning : given rows fresh4 ≡ rows
 unfolding every-rule given
 morning = refl
 
--- the 87 bytes of the pool after row 3
-pub used-example : afterCalls (Do (Put (byteRun 0 600)) ∷ Do (Cut 0 500 50) ∷ Do (Dup 0) ∷ []) fresh4 .pool
-    ≡ 83 ∷ 76 ∷ 80 ∷ 1 ∷ 0 ∷ 4 ∷ 0 ∷ 6 ∷ 0 ∷ 4 ∷ 0
-    ∷ 2 ∷ 0 ∷ 4 ∷ 0 ∷ 6 ∷ 0 ∷ 0 ∷ 0
+-- the 95 bytes of the pool after row 3
+pub used-example : afterCalls (Do (Put (byteRun 0 600)) ∷ Do (Cut (first 0) 500 50) ∷ Do (Dup (first 0)) ∷ []) fresh4 .pool
+    ≡ 83 ∷ 76 ∷ 80 ∷ 2 ∷ 0 ∷ 4 ∷ 0 ∷ 6 ∷ 0 ∷ 4 ∷ 0
+    ∷ 2 ∷ 0 ∷ 0 ∷ 0 ∷ 4 ∷ 0 ∷ 0 ∷ 0 ∷ 6 ∷ 0 ∷ 0 ∷ 0 ∷ 0 ∷ 0 ∷ 0 ∷ 0
     ∷ 1 ∷ 0 ∷ 0 ∷ 0 ∷ 0 ∷ 0 ∷ 0 ∷ 2 ∷ 2 ∷ 0 ∷ 2 ∷ 0 ∷ 1 ∷ 0 ∷ 0 ∷ 0 ∷ 88 ∷ 0 ∷ 0 ∷ 0
     ∷ 1 ∷ 0 ∷ 0 ∷ 0 ∷ 244 ∷ 1 ∷ 12 ∷ 0 ∷ 4 ∷ 0 ∷ 1 ∷ 0 ∷ 1 ∷ 0 ∷ 0 ∷ 0 ∷ 38 ∷ 0 ∷ 0 ∷ 0
     ∷ 1 ∷ 0 ∷ 0 ∷ 0 ∷ 0 ∷ 0 ∷ 0 ∷ 2 ∷ 2 ∷ 0 ∷ 0 ∷ 0 ∷ 0 ∷ 0 ∷ 0 ∷ 0 ∷ 0 ∷ 0 ∷ 0 ∷ 0
@@ -62,31 +62,37 @@ pub edges-hold : tried edges fresh4 ≡ edges
 unfolding every-rule tried
 edges-hold = refl
 
+-- the rules give every column of the rows of serials
+pub serials-hold : triedSerials serialRows ≡ serialRows
+unfolding every-rule triedSerials
+serials-hold = refl
+
 -- ---- which rows and edges these are
 
 -- the ten calls, in order, and the slip whose bytes each row has
 pub ten-rows : (map (λ (r : Row). r .call) rows
-    ≡ Put (byteRun 0 600) ∷ Cut 0 500 50 ∷ Dup 0 ∷ Free 0 ∷ Drop 2 520 ∷ Append 1 2 ∷ Keep 1 40 ∷ Pullup 1 20 ∷ Pack 1 ∷ Free 1 ∷ [])
+    ≡ Put (byteRun 0 600) ∷ Cut (first 0) 500 50 ∷ Dup (first 0) ∷ Free (first 0) ∷ Drop (first 2) 520 ∷ Append (first 1) (first 2) ∷ Keep (first 1) 40 ∷ Pullup (first 1) 20 ∷ Pack (first 1) ∷ Free (first 1) ∷ [])
     × (_≡_ {A = List ℕ} (map (λ (r : Row). r .slip) rows) (0 ∷ 1 ∷ 2 ∷ 0 ∷ 2 ∷ 1 ∷ 1 ∷ 1 ∷ 1 ∷ 1 ∷ []))
 ten-rows = (refl, refl)
 
 -- the seven full tables: the calls before each, the call, and its code
 pub seven-full-tables : (map (λ (e : FullTable). e .before) fullTables
-    ≡ (put600 ∷ Cut 0 500 50 ∷ Cut 0 500 50 ∷ []) ∷ (put600 ∷ Put (byteRun 0 10) ∷ Append 0 1 ∷ Dup 0 ∷ Drop 1 512 ∷ Cut 0 0 600 ∷ Dup 1 ∷ [])
-    ∷ (put600 ∷ Cut 0 500 50 ∷ Dup 1 ∷ Dup 0 ∷ []) ∷ (put600 ∷ Cut 0 500 50 ∷ Dup 1 ∷ []) ∷ (put600 ∷ Dup 0 ∷ Cut 0 0 600 ∷ Dup 2 ∷ [])
-    ∷ (put600 ∷ Dup 0 ∷ Drop 1 512 ∷ Cut 0 0 600 ∷ Cut 0 0 600 ∷ []) ∷ (put600 ∷ Dup 0 ∷ Cut 0 0 600 ∷ Dup 2 ∷ []) ∷ [])
+    ≡ (put600 ∷ Cut (first 0) 500 50 ∷ Cut (first 0) 500 50 ∷ []) ∷ (put600 ∷ Put (byteRun 0 10) ∷ Append (first 0) (first 1) ∷ Dup (first 0) ∷ Drop (name 1 1) 512 ∷ Cut (first 0) 0 600 ∷ Dup (name 1 1) ∷ [])
+    ∷ (put600 ∷ Cut (first 0) 500 50 ∷ Dup (first 1) ∷ Dup (first 0) ∷ []) ∷ (put600 ∷ Cut (first 0) 500 50 ∷ Dup (first 1) ∷ []) ∷ (put600 ∷ Dup (first 0) ∷ Cut (first 0) 0 600 ∷ Dup (first 2) ∷ [])
+    ∷ (put600 ∷ Dup (first 0) ∷ Drop (first 1) 512 ∷ Cut (first 0) 0 600 ∷ Cut (first 0) 0 600 ∷ []) ∷ (put600 ∷ Dup (first 0) ∷ Cut (first 0) 0 600 ∷ Dup (first 2) ∷ []) ∷ [])
     × (map (λ (e : FullTable). e .call) fullTables
-    ≡ Pullup 1 20 ∷ Pullup 1 98 ∷ Pullup 1 20 ∷ Pullup 1 20 ∷ Drop 0 520 ∷ Drop 1 8 ∷ Drop 0 512 ∷ [])
+    ≡ Pullup (first 1) 20 ∷ Pullup (name 1 1) 98 ∷ Pullup (first 1) 20 ∷ Pullup (first 1) 20 ∷ Drop (first 0) 520 ∷ Drop (first 1) 8 ∷ Drop (first 0) 512 ∷ [])
     × (_≡_ {A = List ℕ} (map (λ (e : FullTable). e .code) fullTables) (0 ∷ 9 ∷ 9 ∷ 0 ∷ 0 ∷ 9 ∷ 0 ∷ []))
 seven-full-tables = (refl, refl, refl)
 
--- the nine edges: the calls before each, and the call
-pub nine-edges : (map (λ (e : Edge). e .before) edges
-    ≡ [] ∷ [] ∷ [] ∷ [] ∷ (Put (byteRun 0 600) ∷ []) ∷ (Put (byteRun 0 600) ∷ []) ∷ (Put (byteRun 0 10) ∷ []) ∷ (Put (byteRun 0 10) ∷ []) ∷ [] ∷ [])
+-- the twelve edges: the calls before each, and the call
+pub twelve-edges : (map (λ (e : Edge). e .before) edges
+    ≡ [] ∷ [] ∷ [] ∷ [] ∷ (Put (byteRun 0 600) ∷ []) ∷ (Put (byteRun 0 600) ∷ []) ∷ (Put (byteRun 0 10) ∷ []) ∷ (Put (byteRun 0 10) ∷ []) ∷ []
+    ∷ (Put [] ∷ Free (first 0) ∷ []) ∷ (Put [] ∷ Free (first 0) ∷ Put [] ∷ []) ∷ (Put [] ∷ Free (first 0) ∷ Put [] ∷ []) ∷ [])
     × (map (λ (e : Edge). e .call) edges
-    ≡ Put (byteRun 0 512) ∷ Put (byteRun 0 513) ∷ Put (byteRun 0 2048) ∷ Put (byteRun 0 2049) ∷ Cut 0 600 0 ∷ Cut 0 601 0 ∷ Pullup 0 513
-    ∷ Append 0 0 ∷ Append 0 0 ∷ [])
-nine-edges = (refl, refl)
+    ≡ Put (byteRun 0 512) ∷ Put (byteRun 0 513) ∷ Put (byteRun 0 2048) ∷ Put (byteRun 0 2049) ∷ Cut (first 0) 600 0 ∷ Cut (first 0) 601 0 ∷ Pullup (first 0) 513
+    ∷ Append (first 0) (first 0) ∷ Append (first 0) (first 0) ∷ Put [] ∷ Length (first 0) ∷ Append (name 0 1) (first 0) ∷ [])
+twelve-edges = (refl, refl)
 
 -- data byte i is i mod 251
 pub run-at : (a n i : ℕ) → i < n → getD (byteRun a n) i 0 ≡ (a + i) % 251
@@ -138,7 +144,7 @@ tried-at (e ∷ es) m zero z l = refl
 tried-at (e ∷ es) m (suc i) z l = tried-at es m i z (omega arith)
 
 -- Edge i is what its call gives.
-pub edge-at : (i : ℕ) (z : Edge) → i < 9 → getD edges i z ≡ edgeAfter (getD edges i z) fresh4
+pub edge-at : (i : ℕ) (z : Edge) → i < 12 → getD edges i z ≡ edgeAfter (getD edges i z) fresh4
 edge-at i z l = ap (λ (es : List Edge). getD es i z) (sym edges-hold) ∙ tried-at edges fresh4 i z l
 
 -- the rules give every column of the full tables
@@ -162,7 +168,7 @@ full-table-at i z l = ap (λ (es : List FullTable). getD es i z) (sym full-table
 
 -- Before each of a list of full tables, whose calls name the slips ss: the first code before room, the pieces that the call wants, those it gives back
 -- first, those that the recount leaves, and the own pieces of its slip.
-abbrev asked : List ℕ → List FullTable → List (List ℕ)
+abbrev asked : List Name → List FullTable → List (List ℕ)
 asked [] es = []
 asked (s ∷ ss) [] = []
 asked (s ∷ ss) (e ∷ es) =
@@ -171,7 +177,7 @@ asked (s ∷ ss) (e ∷ es) =
     (early (Do (e .call)) m ∷ w .pieces ∷ length (w .back) ∷ left m .pieces ∷ owned s m ∷ []) ∷ asked ss es
 
 -- so each case of when drop and pullup find no piece, and of when they find one, is met
-pub full-tables-ask : asked (1 ∷ 1 ∷ 1 ∷ 1 ∷ 0 ∷ 1 ∷ 0 ∷ []) fullTables
+pub full-tables-ask : asked (first 1 ∷ name 1 1 ∷ first 1 ∷ first 1 ∷ first 0 ∷ first 1 ∷ first 0 ∷ []) fullTables
     ≡ (0 ∷ 1 ∷ 1 ∷ 0 ∷ 2 ∷ []) ∷ (0 ∷ 1 ∷ 0 ∷ 0 ∷ 0 ∷ []) ∷ (0 ∷ 2 ∷ 1 ∷ 0 ∷ 1 ∷ []) ∷ (0 ∷ 2 ∷ 1 ∷ 1 ∷ 1 ∷ [])
     ∷ (0 ∷ 1 ∷ 1 ∷ 0 ∷ 1 ∷ []) ∷ (0 ∷ 1 ∷ 0 ∷ 0 ∷ 0 ∷ []) ∷ (0 ∷ 0 ∷ 1 ∷ 0 ∷ 1 ∷ []) ∷ []
 unfolding every-rule anyTo member early wanted recounted reached references holders leaves

@@ -12,17 +12,18 @@ use Rattle.kinds.specs.declared.Refusal.the-variants.{Counts, Torn, Slip, Same,
 use Rattle.kinds.specs.Limits.{mostPieces, bufferSize}
 use Rattle.kinds.proofs.Sizes.{size-one, start-one}
 use Rattle.rules.specs.Basics.{Is, sumTo, table}
-use Rattle.rules.specs.Tables.{Piece, Tables, blank, piece, slip, bufferCount, pieceTotal, slipTotal, holding}
+use Rattle.rules.specs.Tables.{Piece, Tables, blank, piece, slip, serial, bufferCount, pieceTotal, slipTotal, holding}
 use Rattle.rules.specs.Bytes.{decode, encode}
 use Rattle.rules.specs.Chain.{State, walk, chain, stretches, total, lengthOf}
 use Rattle.rules.specs.Sound.{Lent, lent, sound, heads, lying}
+use Rattle.rules.specs.Rule.{Name, name}
 use Rattle.rules.specs.Length.{lengthCall}
 use Rattle.rules.specs.Step.{Call, Do, Length, Result, rule, done, step, stateIn, afterCalls}
 use Rattle.rules.specs.Causes.{Cause}
 use Rattle.rules.specs.Most.{Most, Longest}
 use Rattle.rules.proofs.Sums.{sumTo-same, sumTo-one, sumTo-zero}
 use Rattle.rules.proofs.Moves.{hit, lies, links, Fits, SoundNow, hit-same, hit-other, lies-other}
-use Rattle.rules.proofs.Audit.{sound-is, sound-now}
+use Rattle.rules.proofs.Audit.{getD-same, sound-is, sound-now}
 use Rattle.rules.proofs.Bounds.{small, chain-short, chain-bytes}
 use Rattle.rules.proofs.Bytes.{length-table, getD-table, decode-encode}
 use Rattle.rules.proofs.Step.{Within, within-sized, encode-sound, sound-within, did}
@@ -63,7 +64,7 @@ whole d = record { count = 1; buffer = 0; offset = 0; len = bufferSize; next = d
 
 -- the slip heads the last piece
 long : ℕ → Tables
-long n = record { slips = holding n ∷ []; pieces = table n whole; counts = n ∷ []; stock = 1 ∷ [] }
+long n = record { slips = holding n ∷ []; serials = 0 ∷ []; pieces = table n whole; counts = n ∷ []; stock = 1 ∷ [] }
 
 -- of the links up to n none leads to a piece from n on, and one to each below
 no-link : (n d : ℕ) → n ≤ d → sumTo (suc n) (λ c. hit c d) ≡ 0
@@ -136,6 +137,7 @@ module _ (n : ℕ) where
     counts = omega (arith, length-table n whole);
     storage-fits = length-replicate {A = ℕ} bufferSize 0 ∙ sym (start-one (1 ∷ []) 1);
     stock-is = refl;
+    serialled = record { small = λ t. omega (arith, getD-same {A = ℕ} 1 t 0); fit = refl };
   }
 
   -- as bytes it is a sound pool with a chain of n pieces, and n references to its buffer
@@ -183,28 +185,34 @@ heads-some T s l = elim (ℕ-discrete (slip T s) 0) [ yes z ↦ absurd (omega (a
     none : slip T s ≡ 0 → length (chain T s) ≡ 0
     none z = ap (λ v. length (walk (pieceTotal T) T (pred v))) z ∙ none-met (pieceTotal T)
 
--- length of a held slip 0 is refused for no cause but a torn pool
-length-uncaused : (S : State) → 0 < slip (S .tables) 0 → 0 < slipTotal (S .tables) → (r : Refusal) → Cause r (lengthCall 0) S → ⊥
-length-uncaused S some few Counts c = c
-length-uncaused S some few Torn c = c
-length-uncaused S some few Slip (t, e, inl n) = omega arith
-length-uncaused S some few Slip (t, e, inr v) = omega (arith, eqb→eq (slip (S .tables) t) 0 v, ap (slip (S .tables)) e)
-length-uncaused S some few Same (inl c) = c
-length-uncaused S some few Long c = omega arith
-length-uncaused S some few Range c = omega arith
-length-uncaused S some few Narrow c = omega arith
-length-uncaused S some few Slips c = omega arith
-length-uncaused S some few Pieces c = omega arith
-length-uncaused S some few Buffers c = omega arith
-length-uncaused S some few WireList c = c
+-- length of a held slip 0 with its serial is refused for no cause but a torn pool
+length-uncaused : (S : State) (x : Name) → x ≡ name 0 (serial (S .tables) 0) → 0 < slip (S .tables) 0 → 0 < slipTotal (S .tables) → (r : Refusal) → Cause r (lengthCall x) S → ⊥
+length-uncaused S x z some few Counts c = c
+length-uncaused S x z some few Torn c = c
+length-uncaused S x z some few Slip (t, e, inl n) = omega (arith, ap (λ (y : Name). y .slip) (e ∙ z))
+length-uncaused S x z some few Slip (t, e, inr (inl v)) =
+    omega (arith, eqb→eq (slip (S .tables) (t .slip)) 0 v, ap (λ (y : Name). slip (S .tables) (y .slip)) (e ∙ z))
+length-uncaused S x z some few Slip (t, e, inr (inr n)) =
+    n (ap (λ (y : Name). serial (S .tables) (y .slip)) (e ∙ z) ∙ sym (ap (λ (y : Name). y .serial) (e ∙ z)))
+length-uncaused S x z some few Same (inl c) = c
+length-uncaused S x z some few Long c = omega arith
+length-uncaused S x z some few Range c = omega arith
+length-uncaused S x z some few Narrow c = omega arith
+length-uncaused S x z some few Slips c = omega arith
+length-uncaused S x z some few Pieces c = omega arith
+length-uncaused S x z some few Buffers c = omega arith
+length-uncaused S x z some few WireList c = c
 
--- Asked for its length, slip 0 of that pool is answered 1,048,576.
-pub longest-answers : (m : Lent) → Longest m → (step (Do (Length 0)) m .code ≡ 0) × (step (Do (Length 0)) m .number ≡ 1048576)
+-- Asked for its length, slip 0 of that pool, with its serial, is answered 1,048,576.
+pub longest-answers : (m : Lent) → Longest m
+    → let x = name 0 (serial (decode (m .pool)) 0) in
+    (step (Do (Length x)) m .code ≡ 0) × (step (Do (Length x)) m .number ≡ 1048576)
 unfolding done rule
 longest-answers m l =
     let T = decode (m .pool) in
     let some = heads-some T 0 (omega (arith, l .chain-pieces)) in
     let few = sound-within m (l .is-sound) .counts in
     let good = sound-is m .0 (l .is-sound) in
-    let e = exactly (Do (Length 0)) m .done .1 (λ r c. ⊎-elim (λ (y : _). y .1 good) (length-uncaused (stateIn m) some (omega arith) r) c) in
-    (e, ap (λ (x : Result). x .number) (did (Length 0) m e .result) ∙ l .chain-bytes)
+    let x = name 0 (serial T 0) in
+    let e = exactly (Do (Length x)) m .done .1 (λ r c. ⊎-elim (λ (y : _). y .1 good) (length-uncaused (stateIn m) x refl some (omega arith) r) c) in
+    (e, ap (λ (y : Result). y .number) (did (Length x) m e .result) ∙ l .chain-bytes)

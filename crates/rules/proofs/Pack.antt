@@ -11,7 +11,7 @@ use Rattle.rules.specs.Tables.{slipTotal, pieceTotal}
 use Rattle.rules.specs.Chain.{State, chain, lengthOf, stretches, contents, reads, withStorage}
 use Rattle.rules.specs.Room.{freePieces, newBuffers, freeBuffers, isFree}
 use Rattle.rules.specs.Build.{plain, buffersFor, laid, underOld, stored}
-use Rattle.rules.specs.Rule.{Wants, reading, want}
+use Rattle.rules.specs.Rule.{Name, Wants, reading, want}
 use Rattle.rules.specs.Pack.{packAfter, packCall, packWants}
 use Rattle.rules.specs.Takes.{Took}
 use Rattle.rules.proofs.Logic.{if-either, if-F, if-both}
@@ -54,11 +54,12 @@ pack-gives s S S₁ b h rp rb =
 
 -- ---- pack is lawful
 
-pack-leaves : (s : ℕ) → Leaving (packCall s)
+pack-leaves : (x : Name) → Leaving (packCall x)
 unfolding packAfter packWants
-pack-leaves s S h f al =
+pack-leaves x S h f al =
     let T = S .tables in
-    let (b, z) = first-named T s _ (al .early) in
+    let s = x .slip in
+    let (b, z) = first-named T x _ (al .early) in
     let stays = leb (length (chain T s)) 1 in
     let n = lengthOf T s in
     let k = buffersFor n in
@@ -76,11 +77,12 @@ pack-leaves s S h f al =
     (new-others S h f k (reads S s))
     (ap (λ i. contents (T .stock) (S₁ .storage) (laid (T .stock) bs i)) (sym long) ∙ new-here S h f k (reads S s) rb (omega arith))))
 
-pack-takes : (s : ℕ) → Taking (packCall s)
+pack-takes : (x : Name) → Taking (packCall x)
 unfolding packAfter packWants
-pack-takes s S h a h″ =
+pack-takes x S h a h″ =
     let T = S .tables in
-    let (b, z) = first-named T s _ (a .early) in
+    let s = x .slip in
+    let (b, z) = first-named T x _ (a .early) in
     let n = lengthOf T s in
     let k = buffersFor n in
     if-both (λ (X : State) (w : Wants). SoundNow (X .tables) → Roomy T w → Took T (X .tables) w s) (leb (length (chain T s)) 1) _ _ (want 0 0 0) (want 0 k k)
@@ -88,39 +90,41 @@ pack-takes s S h a h″ =
     (λ _ h′ r. took-held T _ s _ _ h h′ (pack-gives s S _ b h (omega (arith, r .1)) (r .2)) z k k r (new-pass (isFree T) (pieceTotal T) k) (new-laid T k n))
     h″ (roomy a)
 
-pack-caused : (s : ℕ) → Causing (packCall s)
+pack-caused : (x : Name) → Causing (packCall x)
 unfolding found if_then_else_ packWants
-pack-caused s S h f = record {
+pack-caused x S h f = record {
   below = omega arith;
-  slip = slip-one (S .tables) s;
-  same = twice-one s;
+  slip = slip-one (S .tables) x;
+  same = twice-one (x .slip);
   long = none-less 512;
   range = none-less _;
   narrow = none-less 0;
-  asked = λ z. ap (λ k. if leb (length (chain (S .tables) s)) 1 then want 0 0 0 else want 0 (buffersFor k) (buffersFor k)) (sym (reads-length S h f s));
+  asked = λ z. ap (λ k. if leb (length (chain (S .tables) (x .slip))) 1 then want 0 0 0 else want 0 (buffersFor k) (buffersFor k)) (sym (reads-length S h f (x .slip)));
 }
 
-pack-stays : (s : ℕ) → Staying (packCall s)
+pack-stays : (x : Name) → Staying (packCall x)
 unfolding packAfter packWants
-pack-stays s S h f a =
+pack-stays x S h f a =
     let T = S .tables in
+    let s = x .slip in
     let n = lengthOf T s in
     let k = buffersFor n in
     let xs = laid (T .stock) (newBuffers T k) n in
     if-both (λ (X : State) (w : Wants). StorageStays S X (w .buffers)) (leb (length (chain T s)) 1) _ _ (want 0 0 0) (want 0 k k)
     (λ _. stays-as S S 0 refl)
     (λ _. old-stays S (reads S s) (plain T xs) (freePieces T) s k (plain-planned T xs (new-good T n) h) (free-pieces T)
-    (first-named T s _ (a .early) .0) f (new-laid T k n))
+    (first-named T x _ (a .early) .0) f (new-laid T k n))
 
-pub pack-lawful : (s : ℕ) → Lawful (packCall s)
+pub pack-lawful : (x : Name) → Lawful (packCall x)
 unfolding packAfter
-pack-lawful s = record {
+pack-lawful x = record {
   codes = λ S. omega arith;
-  sizes = λ S. (let T = S .tables in maybe-sizes S _ (leb (length (chain T s)) 1) (old-sizes _ (plain T _) (freePieces T) s (same-sizes T)));
-  stays = pack-stays s;
-  sound = λ S h a. pack-sound s S (first-named (S .tables) s _ (a .early) .0) h;
+  sizes = λ S. (let T = S .tables in maybe-sizes S _ (leb (length (chain T (x .slip))) 1) (old-sizes _ (plain T _) (freePieces T) (x .slip) (same-sizes T)));
+  ages = λ S _. (λ v. absurd v, λ v. v, tt);
+  stays = pack-stays x;
+  sound = λ S h a. pack-sound (x .slip) S (first-named (S .tables) x _ (a .early) .0) h;
   known = λ S _. (inl refl, tt);
-  caused = pack-caused s;
-  leaves = pack-leaves s;
-  takes = pack-takes s;
+  caused = pack-caused x;
+  leaves = pack-leaves x;
+  takes = pack-takes x;
 }

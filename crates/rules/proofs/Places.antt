@@ -1,16 +1,17 @@
 -- Where in a pool's bytes each entry stands, in numbers written out. Assumes nothing.
-use mathlib.Core.Path.{_≡_, refl, ap}
+use mathlib.Core.Path.{_≡_, refl, ap, _∙_}
 use mathlib.Core.Logic.{_↔_}
 use mathlib.Core.Bool.{_&&_}
 use mathlib.Core.List.{List, [], _∷_}
 use Prim.Native.Nat.{ℕ, _+_, _*_, _<_}
+use native.Mathlib.Nat.{mod-eq-of-lt}
 use native.Mathlib.Omega.{arith}
 use lib.ListN.{length}
 use Rattle.word.specs.Word.{get16}
 use Rattle.kinds.proofs.Sizes.{start-one}
 use Rattle.rules.specs.Basics.{Is}
 use Rattle.rules.specs.Layout.{poolLength, storageLength}
-use Rattle.rules.specs.Tables.{Piece, blank, slip, piece, bufferCount}
+use Rattle.rules.specs.Tables.{Piece, blank, slip, serial, piece, bufferCount}
 use Rattle.rules.specs.Bytes.{versionIn, buffersIn, piecesIn, slipsIn, decode}
 use Rattle.rules.specs.Sound.{Lent, marked, countsOk, lengthsOk, headed, headerOk}
 use Rattle.rules.specs.Open.{openable}
@@ -18,7 +19,7 @@ use Rattle.rules.specs.Step.{Open, step}
 use Rattle.rules.specs.Places.{CountsAt, HeaderAt}
 use Rattle.rules.specs.Causes.{Fitting}
 use Rattle.rules.proofs.Logic.{and-intro, and-parts}
-use Rattle.rules.proofs.Bytes.{and-is, eqb-is, getD-table, counts-facts, counts-test}
+use Rattle.rules.proofs.Bytes.{and-is, eqb-is, AllBytes, get16-small, getD-table, counts-facts, counts-test}
 use Rattle.rules.proofs.Step.{open-code}
 
 module _ (p : List ℕ) where
@@ -27,17 +28,22 @@ module _ (p : List ℕ) where
   header-at = (refl, refl, refl, refl)
 
   -- slip s
-  pub slip-at : (s : ℕ) → s < slipsIn p → slip (decode p) s ≡ get16 p (11 + 2 * s)
+  pub slip-at : (s : ℕ) → s < slipsIn p → slip (decode p) s ≡ get16 p (11 + 4 * s)
   unfolding decode
   slip-at s l = getD-table (slipsIn p) _ s 0 l
 
+  -- its serial, where p has bytes
+  pub serial-at : (s : ℕ) → s < slipsIn p → AllBytes p → serial (decode p) s ≡ get16 p (11 + 4 * s + 2)
+  unfolding decode
+  serial-at s l byte = getD-table (slipsIn p) _ s 0 l ∙ mod-eq-of-lt (get16-small p (11 + 4 * s + 2) byte)
+
   -- the numbers of piece d
   pub piece-at : (d : ℕ) → d < piecesIn p
-      → (piece (decode p) d .count ≡ get16 p (11 + 2 * slipsIn p + 10 * d))
-      × (piece (decode p) d .buffer ≡ get16 p (11 + 2 * slipsIn p + 10 * d + 2))
-      × (piece (decode p) d .offset ≡ get16 p (11 + 2 * slipsIn p + 10 * d + 4))
-      × (piece (decode p) d .len ≡ get16 p (11 + 2 * slipsIn p + 10 * d + 6))
-      × (piece (decode p) d .next ≡ get16 p (11 + 2 * slipsIn p + 10 * d + 8))
+      → (piece (decode p) d .count ≡ get16 p (11 + 4 * slipsIn p + 10 * d))
+      × (piece (decode p) d .buffer ≡ get16 p (11 + 4 * slipsIn p + 10 * d + 2))
+      × (piece (decode p) d .offset ≡ get16 p (11 + 4 * slipsIn p + 10 * d + 4))
+      × (piece (decode p) d .len ≡ get16 p (11 + 4 * slipsIn p + 10 * d + 6))
+      × (piece (decode p) d .next ≡ get16 p (11 + 4 * slipsIn p + 10 * d + 8))
   unfolding decode
   piece-at d l =
       let e = getD-table (piecesIn p) _ d blank l in (
@@ -49,14 +55,14 @@ module _ (p : List ℕ) where
       )
 
   -- the count of buffer b
-  pub count-at : (b : ℕ) → b < buffersIn p → bufferCount (decode p) b ≡ get16 p (11 + 2 * slipsIn p + 10 * piecesIn p + 2 * b)
+  pub count-at : (b : ℕ) → b < buffersIn p → bufferCount (decode p) b ≡ get16 p (11 + 4 * slipsIn p + 10 * piecesIn p + 2 * b)
   unfolding decode
   count-at b l = getD-table (buffersIn p) _ b 0 l
 
 -- ---- which bytes are a pool's
 
 -- a pool of B buffers, P pieces and S slips has this length, and storage that one
-pub lengths-at : (B P S : ℕ) → (poolLength B P S ≡ 11 + 2 * S + 10 * P + 2 * B) × (storageLength (B ∷ []) B ≡ 512 * B)
+pub lengths-at : (B P S : ℕ) → (poolLength B P S ≡ 11 + 4 * S + 10 * P + 2 * B) × (storageLength (B ∷ []) B ≡ 512 * B)
 lengths-at B P S = (refl, start-one (B ∷ []) B)
 
 -- counts and lengths pass their tests just where they are these
@@ -79,8 +85,8 @@ header-exact m =
       λ t. (
           let (a, c) = and-parts (marked p) _ t in
           let k = simp (and-is, eqb-is) at a in
-          record { mark-0 = k .0; mark-1 = k .1 .0; mark-2 = k .1 .1 .0; version-1 = k .1 .1 .1; counts = f .0 c }),
-      λ h. and-intro (marked p) _ (simp (and-is, eqb-is) (h .mark-0, (h .mark-1, (h .mark-2, h .version-1)))) (f .1 (h .counts)),
+          record { mark-0 = k .0; mark-1 = k .1 .0; mark-2 = k .1 .1 .0; version-2 = k .1 .1 .1; counts = f .0 c }),
+      λ h. and-intro (marked p) _ (simp (and-is, eqb-is) (h .mark-0, (h .mark-1, (h .mark-2, h .version-2)))) (f .1 (h .counts)),
     )
 
 -- Open is done just where its counts are in range and both lengths are these.

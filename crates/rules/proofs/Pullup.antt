@@ -13,7 +13,7 @@ use Rattle.rules.specs.Tables.{Tables, bufferCount, slipTotal, bufferTot
 use Rattle.rules.specs.Chain.{State, spans, firstLength, Stretch, stretches, chain, contents, reads, withStorage}
 use Rattle.rules.specs.Room.{isUnheld, freePieces, freeWith, freeBuffers, newBuffers}
 use Rattle.rules.specs.Build.{laid, underFreed, stored}
-use Rattle.rules.specs.Rule.{Wants, reading, want, giving}
+use Rattle.rules.specs.Rule.{Name, Wants, reading, want, giving}
 use Rattle.rules.specs.Drop.{dropped, dropBack, dropPieces}
 use Rattle.rules.specs.Pullup.{pulled, pullupAfter, pullupCall, pullupWants}
 use Rattle.rules.specs.Takes.{Took}
@@ -103,11 +103,12 @@ good-dropOut Z B (x ∷ xs) n g =
     if-either (Good Z B) (leb (x .len) n) _ _ (λ _. good-dropOut Z B xs (n - x .len) (g .3))
     (λ t. (let k = not-most (x .len) n t in (g .0, omega arith, omega (arith, g .2), g .3)))
 
-pullup-leaves : (s n : ℕ) → Leaving (pullupCall s n)
+pullup-leaves : (x : Name) (n : ℕ) → Leaving (pullupCall x n)
 unfolding pullupAfter pullupWants
-pullup-leaves s n S h f al =
+pullup-leaves x n S h f al =
     let T = S .tables in
-    let (b, z) = first-named T s _ (al .early) in
+    let s = x .slip in
+    let (b, z) = first-named T x _ (al .early) in
     let i = simp no-cause at (al .early) in
     let stays = leb n (firstLength (spans T s)) in
     if-either (λ (X : State). SoundNow (X .tables) → Reading S X (reading s (reads S s) ∷ [])) stays _ _ (λ _ _. same-reading S s (reads S s) z refl)
@@ -132,11 +133,12 @@ pullup-leaves s n S h f al =
     (contents-append (T .stock) (S₁ .storage) (laid (T .stock) bs n) (dropOut (spans T s) n)
     ∙ (λ j. fst j ++ rst j) ∙ take-append-drop n (reads S s))))
 
-pullup-takes : (s n : ℕ) → Taking (pullupCall s n)
+pullup-takes : (x : Name) (n : ℕ) → Taking (pullupCall x n)
 unfolding pullupAfter pullupWants
-pullup-takes s n S h a h″ =
+pullup-takes x n S h a h″ =
     let T = S .tables in
-    let (b, z) = first-named T s _ (a .early) in
+    let s = x .slip in
+    let (b, z) = first-named T x _ (a .early) in
     let k = length (dropped T s n .more) in
     let v = dropped-leaves T s n b h in
     let xs = laid (T .stock) (newBuffers T 1) n in
@@ -149,42 +151,44 @@ pullup-takes s n S h a h″ =
     ∙ new-laid T 1 n))
     h″ (roomy a)
 
-pullup-caused : (s n : ℕ) → Causing (pullupCall s n)
+pullup-caused : (x : Name) (n : ℕ) → Causing (pullupCall x n)
 unfolding found if_then_else_ pullupWants
-pullup-caused s n S h f = record {
+pullup-caused x n S h f = record {
   below = omega arith;
-  slip = slip-one (S .tables) s;
-  same = twice-one s;
+  slip = slip-one (S .tables) x;
+  same = twice-one (x .slip);
   long = less-is 512 n;
-  range = past-is S h f s n;
+  range = past-is S h f (x .slip) n;
   narrow = none-less 0;
   asked = λ z. (
       let T = S .tables in
-      let e : suc (length (dropped T s n .more)) ≡ 1 + dropPieces T s n = omega (arith, drop-count T s n h) in
-      λ i. if leb n (firstLength (spans T s)) then want 0 0 0 else giving (drop-back T s n h i) (e i) 1);
+      let e : suc (length (dropped T (x .slip) n .more)) ≡ 1 + dropPieces T (x .slip) n = omega (arith, drop-count T (x .slip) n h) in
+      λ i. if leb n (firstLength (spans T (x .slip))) then want 0 0 0 else giving (drop-back T (x .slip) n h i) (e i) 1);
 }
 
-pullup-stays : (s n : ℕ) → Staying (pullupCall s n)
+pullup-stays : (x : Name) (n : ℕ) → Staying (pullupCall x n)
 unfolding pullupAfter pullupWants
-pullup-stays s n S h f a =
+pullup-stays x n S h f a =
     let T = S .tables in
-    let b = first-named T s _ (a .early) .0 in
+    let s = x .slip in
+    let b = first-named T x _ (a .early) .0 in
     if-both (λ (X : State) (w : Wants). StorageStays S X (w .buffers)) (leb n (firstLength (spans T s))) _ _ (want 0 0 0) (giving (dropBack T s n) (suc (length (dropped T s n .more))) 1)
     (λ _. stays-as S S 0 refl)
     (λ t. freed-stays S (take n (reads S s)) (pulled T s n) s 1 (pulled-planned T s n (omega (arith, not-most n (firstLength (spans T s)) t)) h) b f
     (pulled-spared (withStorage S (stored (T .stock) (S .storage) (newBuffers T 1) (take n (reads S s)))) T s n b h))
 
-pub pullup-lawful : (s n : ℕ) → Lawful (pullupCall s n)
+pub pullup-lawful : (x : Name) (n : ℕ) → Lawful (pullupCall x n)
 unfolding pullupAfter
-pullup-lawful s n = record {
+pullup-lawful x n = record {
   codes = λ S. omega arith;
   sizes = λ S. (
       let T = S .tables in
-      maybe-sizes S _ (leb n (firstLength (spans T s))) (freed-sizes _ (pulled T s n) s (plan-sizes T true (chain T s) n)));
-  stays = pullup-stays s n;
-  sound = λ S h a. pullup-sound s n S (first-named (S .tables) s _ (a .early) .0) h;
+      maybe-sizes S _ (leb n (firstLength (spans T (x .slip)))) (freed-sizes _ (pulled T (x .slip) n) (x .slip) (plan-sizes T true (chain T (x .slip)) n)));
+  ages = λ S _. (λ v. absurd v, λ v. v, tt);
+  stays = pullup-stays x n;
+  sound = λ S h a. pullup-sound (x .slip) n S (first-named (S .tables) x _ (a .early) .0) h;
   known = λ S _. (inl refl, tt);
-  caused = pullup-caused s n;
-  leaves = pullup-leaves s n;
-  takes = pullup-takes s n;
+  caused = pullup-caused x n;
+  leaves = pullup-leaves x n;
+  takes = pullup-takes x n;
 }

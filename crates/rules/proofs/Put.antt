@@ -7,7 +7,7 @@ use native.Mathlib.Omega.{arith}
 use lib.ListN.{length, length-take, take}
 use Rattle.rules.specs.Tables.{Tables, bufferTotal, pieceTotal}
 use Rattle.rules.specs.Chain.{State, stretches}
-use Rattle.rules.specs.Room.{isUnheld, vacantSlips, freePieces, freeBuffers, newSlip, newBuffers, isFree}
+use Rattle.rules.specs.Room.{isUnheld, readySlips, freePieces, freeBuffers, newSlip, newBuffers, isFree}
 use Rattle.rules.specs.Build.{plain, buffersFor, laid}
 use Rattle.rules.specs.Put.{putAfter, putCall}
 use Rattle.rules.proofs.Moves.{SoundNow}
@@ -29,7 +29,7 @@ pub new-good : (T : Tables) (n : ℕ) → Good (T .stock) (bufferTotal T) (laid 
 new-good T n =
     laid-good (T .stock) (isUnheld T) 0 (bufferTotal T) (newBuffers T (buffersFor n)) n (new-buffers-in T (buffersFor n)) (omega (arith, length-take (buffersFor n) (freeBuffers T)))
 
-pub put-sound : (input : List ℕ) (S : State) → 0 < length (vacantSlips (S .tables)) → SoundNow (S .tables) → SoundNow (putAfter input S .tables)
+pub put-sound : (input : List ℕ) (S : State) → 0 < length (readySlips (S .tables)) → SoundNow (S .tables) → SoundNow (putAfter input S .tables)
 unfolding putAfter
 put-sound input S h s =
     let T = S .tables in
@@ -40,7 +40,7 @@ pub new-count : (T : Tables) (k n : ℕ) → k ≤ length (freeBuffers T) → le
 new-count T k n h = omega (arith, laid-count (T .stock) (newBuffers T k) n, length-take k (freeBuffers T))
 
 -- what put leaves: the new slip holds new pieces on new buffers
-pub put-gives : (input : List ℕ) (S : State) → SoundNow (S .tables) → 0 < length (vacantSlips (S .tables))
+pub put-gives : (input : List ℕ) (S : State) → SoundNow (S .tables) → 0 < length (readySlips (S .tables))
     → buffersFor (length input) ≤ length (freePieces (S .tables)) → buffersFor (length input) ≤ length (freeBuffers (S .tables))
     → Gives (S .tables) (putAfter input S .tables) (newSlip (S .tables)) (take (buffersFor (length input)) (freePieces (S .tables))) (laid (S .tables .stock) (newBuffers (S .tables) (buffersFor (length input))) (length input))
 unfolding putAfter stretches
@@ -86,6 +86,7 @@ unfolding putAfter
 put-lawful input = record {
   codes = λ S. omega arith;
   sizes = λ S. new-sizes (plain (S .tables) _) (freePieces (S .tables)) (newSlip (S .tables)) (same-sizes (S .tables));
+  ages = λ S _. (λ v. absurd v, λ v. v, tt);
   stays = λ S _ f _. stays-new S _ (buffersFor (length input)) input f refl;
   sound = λ S h a. put-sound input S (a .slips-room) h;
   known = λ S a. (inr (new-vacant (S .tables) (a .slips-room)), tt);

@@ -1,17 +1,17 @@
 -- In sound tables every chain ends, and the recount of demand 3 agrees with the stored counts. Assumes nothing.
 use mathlib.Core.Path.{_≡_, refl, sym, ap, subst, _∙_}
 use mathlib.Core.Logic.{_↔_, ⊎-elim}
-use mathlib.Core.Bool.{Bool, not, _&&_}
+use mathlib.Core.Bool.{Bool, true, false, not, _&&_}
 use mathlib.Core.List.{[]}
 use Prim.Native.Nat.{ℕ, zero, suc, _+_, _≤_, _<_}
 use native.Mathlib.Decide.{ℕ-discrete}
 use native.Mathlib.Omega.{arith}
 use lib.Dec.{eqb, eqb→eq, eqb-refl, eqb·suc-zero, ltb, ltb→lt, lt→ltb}
 use Rattle.rules.specs.Basics.{Is, bit, member}
-use Rattle.rules.specs.Tables.{Piece, Tables, blank, isBlank, piece, bufferCount, headOf, slipTotal, pieceTotal, bufferTotal, withCount, withBoth}
+use Rattle.rules.specs.Tables.{Piece, Tables, blank, isBlank, piece, bufferCount, headOf, serial, slipTotal, pieceTotal, bufferTotal, withCount, withBoth}
 use Rattle.rules.specs.Chain.{follow, walk, chain}
 use Rattle.rules.specs.Sound.{inUse, leads, heads, nexts, lying}
-use Rattle.rules.specs.Room.{isVacant, isFree, isUnheld}
+use Rattle.rules.specs.Room.{isVacant, isReady, isFree, isUnheld}
 use Rattle.rules.specs.Rule.{spare, room}
 use Rattle.rules.specs.Recount.{Reached, headed, after, reached, references, holders, recounted, leaves, Recount}
 use Rattle.rules.proofs.Logic.{and-0, or-cases, or-left, or-right, is-true, same-test, any-intro, any-at, bit-T, bit-F, table-is}
@@ -181,10 +181,16 @@ pub not-used : (n : ℕ) → not (ltb 0 n) ≡ eqb n 0
 not-used zero = refl
 not-used (suc n) = ap not (is-true (ltb 0 (suc n)) (lt→ltb 0 (suc n) (omega arith))) ∙ sym (eqb·suc-zero n)
 
+-- vacant and not spent, said of the serial alone
+unspent : (v k : Bool) → (v && not k) ≡ (v && not (v && k))
+unspent true k = refl
+unspent false k = refl
+
 pub leaves-room : (T : Tables) → SoundNow T → leaves T ≡ room T
 unfolding leaves
 leaves-room T S =
-    let s = sym (places-count-0 (isVacant T) (slipTotal T)) in
+    let s = sumTo-same (slipTotal T) (λ s. bit (isVacant T s && not (eqb (serial T s) 65535))) (λ s. bit (isReady T s)) (λ s _. ap bit (unspent (isVacant T s) (eqb (serial T s) 65535)))
+    ∙ sym (places-count-0 (isReady T) (slipTotal T)) in
     let p = sumTo-same (pieceTotal T) (λ d. bit (not (reached T d))) (λ d. bit (isFree T d))
     (λ d _. ap (λ (t : Bool). bit (not t)) (reached-same T S d) ∙ ap bit (not-used (piece T d .count))) ∙ sym (places-count-0 (isFree T) (pieceTotal T)) in
     let b = sumTo-same (bufferTotal T) (λ b. bit (eqb (holders T b) 0)) (λ b. bit (isUnheld T b))

@@ -10,7 +10,7 @@ use lib.ListN.{length, getD, take}
 use lib.Dec.{eqb→eq, T-not, not-T}
 use Rattle.rules.specs.Basics.{Is, if_then_else_, bit, sumTo, places, passing}
 use Rattle.rules.specs.Tables.{Tables, slip, piece, slipTotal, pieceTotal, bufferTotal}
-use Rattle.rules.specs.Room.{isVacant, isFree, isUnheld, vacantSlips, freePieces, freeBuffers, newSlip, newBuffers}
+use Rattle.rules.specs.Room.{isVacant, isSpent, isReady, isFree, isUnheld, readySlips, freePieces, freeBuffers, newSlip, newBuffers}
 use Rattle.rules.proofs.Logic.{if-T, if-F, if-either, and-intro, and-0, and-1, bit-T, bit-F}
 use Rattle.rules.proofs.Sums.{sumTo-same, sumTo-shift}
 use Rattle.rules.proofs.Build.{Free}
@@ -71,8 +71,11 @@ first-in f i n (x ∷ xs) h a = (a .1, a .2)
 pub all-free : (f : ℕ → Bool) (n : ℕ) → AllIn f 0 n (places f 0 n)
 all-free f n = places-in f 0 n n (omega arith)
 
-pub new-slip-ok : (T : Tables) → 0 < length (vacantSlips T) → (newSlip T < slipTotal T) × (slip T (newSlip T) ≡ 0)
-new-slip-ok T h = let r = first-in (isVacant T) 0 (slipTotal T) (vacantSlips T) h (all-free (isVacant T) (slipTotal T)) in (r .0, eqb→eq (slip T (newSlip T)) 0 (r .1))
+pub new-slip-ok : (T : Tables) → 0 < length (readySlips T) → (newSlip T < slipTotal T) × (slip T (newSlip T) ≡ 0)
+new-slip-ok T h =
+    let t = newSlip T in
+    let r = first-in (isReady T) 0 (slipTotal T) (readySlips T) h (all-free (isReady T) (slipTotal T)) in
+    (r .0, eqb→eq (slip T t) 0 (and-0 (isVacant T t) (not (isSpent T t)) (r .1)))
 
 -- the first k of them
 pub take-in : (f : ℕ → Bool) (i n k : ℕ) (xs : List ℕ) → AllIn f i n xs → AllIn f i n (take k xs)
@@ -82,6 +85,15 @@ take-in f i n (suc k) (x ∷ xs) a = (a .0, a .1, a .2, take-in f (suc x) n k xs
 
 pub new-buffers-in : (T : Tables) (k : ℕ) → AllIn (isUnheld T) 0 (bufferTotal T) (newBuffers T k)
 new-buffers-in T k = take-in (isUnheld T) 0 (bufferTotal T) k (freeBuffers T) (all-free (isUnheld T) (bufferTotal T))
+
+-- a number in between that passes is one of them
+pub places-has : (f : ℕ → Bool) (i k x : ℕ) → i ≤ x → x < i + k → Is (f x) → List·Memᴰ x (places f i k)
+unfolding places
+places-has f i zero x a b t = absurd (omega arith)
+places-has f i (suc k) x a b t =
+    if-either (List·Memᴰ x) (f i) (i ∷ places f (suc i) k) (places f (suc i) k)
+    (λ _. elim (ℕ-discrete x i) [ yes e ↦ List·Memᴰ·head e | no e ↦ List·Memᴰ·tail (places-has f (suc i) k x (omega arith) (omega arith) t) ])
+    (λ n. elim (ℕ-discrete x i) [ yes e ↦ absurd (n (subst (λ j. Is (f j)) e t)) | no e ↦ places-has f (suc i) k x (omega arith) (omega arith) t ])
 
 -- ---- the numbers of a list that pass
 

@@ -2,20 +2,19 @@
 use mathlib.Core.Path.{_≡_, refl, sym, ap, _∙_}
 use mathlib.Core.Logic.{_≢_, _↔_, ⊎-elim}
 use mathlib.Core.List.{List, [], _∷_, _++_, map}
-use Prim.Native.Nat.{ℕ, zero, suc, _+_, _≤_, _<_}
+use Prim.Native.Nat.{ℕ, zero, suc, _+_, _*_, _≤_, _<_}
 use native.Mathlib.Decide.{ℕ-discrete, decLt}
 use native.Mathlib.Omega.{arith}
 use lib.ListN.{length, getD}
 use lib.Seq.{ext-getD}
-use lib.Dec.{T-not}
 use Rattle.rules.specs.Basics.{bit, passing}
-use Rattle.rules.specs.Tables.{Tables, blank, isBlank, piece, bufferCount, headOf, slipTotal, pieceTotal, bufferTotal}
+use Rattle.rules.specs.Tables.{Tables, blank, isBlank, serial, piece, bufferCount, headOf, slipTotal, pieceTotal, bufferTotal}
 use Rattle.rules.specs.Bytes.{decode}
 use Rattle.rules.specs.Chain.{State, Stretch, follow, walk, chain, spans, firstLength, lengthOf, contents}
 use Rattle.rules.specs.Sound.{Lent, lent}
-use Rattle.rules.specs.Room.{isVacant, isFreeWith, isUnheld}
+use Rattle.rules.specs.Room.{isFreeWith, isUnheld}
 use Rattle.rules.specs.Build.{buffersFor}
-use Rattle.rules.specs.Rule.{Wants, want, View}
+use Rattle.rules.specs.Rule.{Name, Wants, want, View}
 use Rattle.rules.specs.Step.{Operation, Audit, Put, Free, Dup, Cut, Append, Drop, Keep, Pullup, Pack, Length, Read, Show, WireList}
 use Rattle.rules.specs.Pack.{inOne, packWants}
 use Rattle.rules.specs.Step.{Call, Open, Do, Result, rule, step, stateIn, next, afterCalls}
@@ -23,11 +22,12 @@ use Rattle.rules.specs.Recount.{Reached, headed, after, reached, referen
 use Rattle.rules.specs.Back.{turnedPast}
 use Rattle.rules.specs.Demand.{early, wanted, left, CallOk, Each, DemandThree}
 use Rattle.rules.specs.Takes.{tookSlips, tookPieces, tookBuffers, Took}
-use Rattle.rules.specs.Answers.{LowestVacant, Answered, AnsweredBy, Numbers, Shown, Unseen, Seen, SeenBy, Outputs, Opened}
+use Rattle.rules.specs.Answers.{LowestReady, NamesLowest, Answered, AnsweredBy, Numbers, Shown, Unseen, Seen, SeenBy, Outputs, Opened}
 use Rattle.rules.specs.Fills.{wholes, Filled}
 use Rattle.rules.proofs.Logic.{if-either, is-dec, bit-F, bit-one}
 use Rattle.rules.proofs.Sums.{sumTo-lt, sumTo-one, sumTo-both}
 use Rattle.rules.proofs.Audit.{blank-is}
+use Rattle.rules.proofs.Bytes.{decode-slips, decode-serials}
 use Rattle.rules.proofs.Blind.{Alike, references-alike, holders-alike}
 
 -- ---- the recount
@@ -97,19 +97,22 @@ chain-settled T r s l =
 
 -- ---- numbers
 
-lowest-one : (T : Tables) (t u : ℕ) → LowestVacant T t → LowestVacant T u → t ≡ u
+lowest-one : (T : Tables) (t u : ℕ) → LowestReady T t → LowestReady T u → t ≡ u
 lowest-one T t u x y =
     elim (decLt t u) [
-      | yes l ↦ absurd (T-not (isVacant T t) (y .2 t l) (x .1))
-      | no l ↦ elim (decLt u t) [ yes k ↦ absurd (T-not (isVacant T u) (x .2 u k) (y .1)) | no k ↦ omega arith ]
+      | yes l ↦ absurd (y .lowest t l (x .ready))
+      | no l ↦ elim (decLt u t) [ yes k ↦ absurd (x .lowest u k (y .ready)) | no k ↦ omega arith ]
     ]
+
+names-one : (T : Tables) (n k : ℕ) → NamesLowest T n → NamesLowest T k → n ≡ k
+names-one T n k (t, x, e) (u, y, f) = e ∙ ap (λ v. v + 65536 * serial T v) (lowest-one T t u x y) ∙ sym f
 
 answered-one : (o : Operation) (S : State) (n k : ℕ) → Answered o S n → Answered o S k → n ≡ k
 answered-one Audit S n k x y = x ∙ sym y
-answered-one (Put input) S n k x y = lowest-one (S .tables) n k x y
+answered-one (Put input) S n k x y = names-one (S .tables) n k x y
 answered-one (Free s) S n k x y = x ∙ sym y
-answered-one (Dup s) S n k x y = lowest-one (S .tables) n k x y
-answered-one (Cut s off j) S n k x y = lowest-one (S .tables) n k x y
+answered-one (Dup s) S n k x y = names-one (S .tables) n k x y
+answered-one (Cut s off j) S n k x y = names-one (S .tables) n k x y
 answered-one (Append a b) S n k x y = x ∙ sym y
 answered-one (Drop s j) S n k x y = x ∙ sym y
 answered-one (Keep s j) S n k x y = x ∙ sym y
@@ -185,7 +188,7 @@ seen-one (Pullup s n) S v w x y = unseen-one v w x y
 seen-one (Pack s) S v w x y = unseen-one v w x y
 seen-one (Length s) S v w x y = unseen-one v w x y
 seen-one (Read s off n out) S v w x y = unseen-one v w x y
-seen-one (Show s n scratch) S v w x y = shown-one (S .tables .stock) (spans (S .tables) s) n v w x y
+seen-one (Show s n scratch) S v w x y = shown-one (S .tables .stock) (spans (S .tables) (s .slip)) n v w x y
 seen-one (WireList s list) S v w x y = unseen-one v w x y
 
 by-seen : (c : Call) (m : Lent) (v w : View) → SeenBy c m v → SeenBy c m w → v ≡ w
@@ -199,12 +202,17 @@ view-settled c m r q e f x y = (by-seen c m (r .view) (q .view) (x .view-done e)
 
 -- ---- what open leaves
 
+-- there are as many serials as slips
+serials-many : (p : List ℕ) → length (decode p .serials) ≡ slipTotal (decode p)
+serials-many p = decode-serials p ∙ sym (decode-slips p)
+
 -- A done open settles every entry of the three tables, and storage.
 pub opened-settled : (B P S : ℕ) (m a b : Lent) → Opened B P S m a → Opened B P S m b
-    → (decode (a .pool) .slips ≡ decode (b .pool) .slips) × (decode (a .pool) .pieces ≡ decode (b .pool) .pieces)
+    → (decode (a .pool) .slips ≡ decode (b .pool) .slips) × (decode (a .pool) .serials ≡ decode (b .pool) .serials) × (decode (a .pool) .pieces ≡ decode (b .pool) .pieces)
     × (decode (a .pool) .counts ≡ decode (b .pool) .counts) × (a .storage ≡ b .storage)
 opened-settled B P S m a b x y = (
   ext-getD 0 _ _ (x .slips ∙ sym (y .slips)) (λ i _. x .all-vacant i ∙ sym (y .all-vacant i)),
+  ext-getD 0 _ _ (serials-many (a .pool) ∙ x .slips ∙ sym (y .slips) ∙ sym (serials-many (b .pool))) (λ i _. x .all-first i ∙ sym (y .all-first i)),
   ext-getD blank _ _ (x .pieces ∙ sym (y .pieces)) (λ i _. x .all-blank i ∙ sym (y .all-blank i)),
   ext-getD 0 _ _ (x .buffers ∙ sym (y .buffers)) (λ i _. x .none-held i ∙ sym (y .none-held i)),
   x .storage ∙ sym (y .storage),
@@ -237,16 +245,16 @@ each-at [] c ds m x = x .0
 each-at (b ∷ cs) c ds m x = each-at cs c ds (next b m) (x .1)
 
 -- drop and pack want no slip
-no-slips-drop : (s n : ℕ) (m : Lent) → wanted (Do (Drop s n)) m .slips ≤ left m .slips
+no-slips-drop : (s : Name) (n : ℕ) (m : Lent) → wanted (Do (Drop s n)) m .slips ≤ left m .slips
 unfolding wanted rule
 no-slips-drop s n m = omega arith
 
-no-slips-pack : (s : ℕ) (m : Lent) → wanted (Do (Pack s)) m .slips ≤ left m .slips
+no-slips-pack : (s : Name) (m : Lent) → wanted (Do (Pack s)) m .slips ≤ left m .slips
 unfolding wanted rule packWants
 no-slips-pack s m =
     let T = recounted (decode (m .pool)) in
-    let k = buffersFor (lengthOf T s) in
-    if-either (λ (w : Wants). w .slips ≤ left m .slips) (inOne T s) (want 0 0 0) (want 0 k k) (λ _. omega arith) (λ _. omega arith)
+    let k = buffersFor (lengthOf T (s .slip)) in
+    if-either (λ (w : Wants). w .slips ≤ left m .slips) (inOne T (s .slip)) (want 0 0 0) (want 0 k k) (λ _. omega arith) (λ _. omega arith)
 
 -- So after any open that is done, and any calls, no call answers 2; it answers 8, 9 or 10 where no code judged before applies and more is wanted
 -- than the recount leaves and the call gives back first, and it answers none of them where there is enough.
@@ -272,10 +280,10 @@ demand-codes d B P S m cs c e =
 
 -- After any list of calls, where no code judged before room applies: drop answers 9 exactly where it wants more than the recount leaves once the slip heads
 -- the first piece with a byte past n, and pack exactly where it wants more than the recount leaves.
-pub demand-room : DemandThree → (B P S : ℕ) (m : Lent) (cs : List Call) (s n : ℕ) → step (Open B P S) m .code ≡ 0
+pub demand-room : DemandThree → (B P S : ℕ) (m : Lent) (cs : List Call) (s : Name) (n : ℕ) → step (Open B P S) m .code ≡ 0
     → let m₁ = afterCalls cs (next (Open B P S) m) in
     let T = decode (m₁ .pool) in
-    (early (Do (Drop s n)) m₁ ≡ 0 → (step (Do (Drop s n)) m₁ .code ≡ 9) ↔ (leaves (turnedPast T s n) .pieces < wanted (Do (Drop s n)) m₁ .pieces))
+    (early (Do (Drop s n)) m₁ ≡ 0 → (step (Do (Drop s n)) m₁ .code ≡ 9) ↔ (leaves (turnedPast T (s .slip) n) .pieces < wanted (Do (Drop s n)) m₁ .pieces))
     × (early (Do (Pack s)) m₁ ≡ 0 → (step (Do (Pack s)) m₁ .code ≡ 9) ↔ (left m₁ .pieces < wanted (Do (Pack s)) m₁ .pieces))
 demand-room d B P S m cs s n e =
     let m₀ = next (Open B P S) m in

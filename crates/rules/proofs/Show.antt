@@ -11,7 +11,7 @@ use lib.Dec.{eqb, eqb→eq, leb, leb→le, T-not, not-T, ltb, ltb→lt, lt→ltb
 use Rattle.rules.specs.Basics.{Is, if_then_else_}
 use Rattle.rules.specs.Tables.{bufferTotal}
 use Rattle.rules.specs.Chain.{Stretch, State, spans, total, firstLength, positionOf, bytesOf, contents, reads}
-use Rattle.rules.specs.Rule.{View}
+use Rattle.rules.specs.Rule.{Name, View}
 use Rattle.rules.specs.Read.{copied}
 use Rattle.rules.specs.Show.{scattered, viewOf, show, showAsks, showCall}
 use Rattle.rules.specs.Step.{Show, rule}
@@ -51,34 +51,34 @@ seen-first Z B st scratch (x ∷ xs) (suc n) f g l e =
     let k = bytes-length Z B st x f (g .0) (g .2) in
     sym (take-append-le (suc n) (bytesOf Z st x) (contents Z st xs) (omega arith) ∙ take-take (suc n) (x .len) (drop (positionOf Z x) st) u)))
 
-module _ (s n : ℕ) (scratch : List ℕ) (S : State) (h : SoundNow (S .tables)) (f : Fit (S .tables .stock) (bufferTotal (S .tables)) (S .storage)) (a : Allowed (rule (Show s n scratch) S) (S .tables)) where
+module _ (s : Name) (n : ℕ) (scratch : List ℕ) (S : State) (h : SoundNow (S .tables)) (f : Fit (S .tables .stock) (bufferTotal (S .tables)) (S .storage)) (a : Allowed (rule (Show s n scratch) S) (S .tables)) where
   -- a done show stays within the chain: it shows n bytes, not fewer
-  pub show-exact : length (take n (reads S s)) ≡ n
+  pub show-exact : length (take n (reads S (s .slip))) ≡ n
   unfolding rule
-  show-exact = let c = simp no-cause at (a .early) in let l = reads-length S h f s in simp length-take (omega arith)
+  show-exact = let c = simp no-cause at (a .early) in let l = reads-length S h f (s .slip) in simp length-take (omega arith)
 
   -- the view shows the first n bytes
-  pub show-seen : seen (rule (Show s n scratch) S .view) n (S .storage) (rule (Show s n scratch) S .output) ≡ take n (reads S s)
+  pub show-seen : seen (rule (Show s n scratch) S .view) n (S .storage) (rule (Show s n scratch) S .output) ≡ take n (reads S (s .slip))
   unfolding rule
-  show-seen = let c = simp no-cause at (a .early) in seen-first (S .tables .stock) (bufferTotal (S .tables)) (S .storage) scratch (spans (S .tables) s) n f (spans-good (S .tables) s h) (omega arith) show-exact
+  show-seen = let c = simp no-cause at (a .early) in seen-first (S .tables .stock) (bufferTotal (S .tables)) (S .storage) scratch (spans (S .tables) (s .slip)) n f (spans-good (S .tables) (s .slip) h) (omega arith) show-exact
 
   -- the scratch keeps its length
   pub show-length : length (rule (Show s n scratch) S .output) ≡ length scratch
   unfolding rule
   show-length =
       let c = simp no-cause at (a .early) in
-      if-either (λ (q : List ℕ). length q ≡ length scratch) (scattered (spans (S .tables) s) n) _ _
-      (λ t. copied-length n (take n (reads S s)) scratch show-exact (let w = c .1 .1 .1 .0 (simp not-leb-is at t) in omega arith)) (λ _. refl)
+      if-either (λ (q : List ℕ). length q ≡ length scratch) (scattered (spans (S .tables) (s .slip)) n) _ _
+      (λ t. copied-length n (take n (reads S (s .slip))) scratch show-exact (let w = c .1 .1 .1 .0 (simp not-leb-is at t) in omega arith)) (λ _. refl)
 
   -- the scratch past the first n bytes is unchanged
   pub show-rest : drop n (rule (Show s n scratch) S .output) ≡ drop n scratch
   unfolding rule
-  show-rest = if-either (λ (q : List ℕ). drop n q ≡ drop n scratch) (scattered (spans (S .tables) s) n) _ _ (λ _. copied-rest n (take n (reads S s)) scratch show-exact) (λ _. refl)
+  show-rest = if-either (λ (q : List ℕ). drop n q ≡ drop n scratch) (scattered (spans (S .tables) (s .slip)) n) _ _ (λ _. copied-rest n (take n (reads S (s .slip))) scratch show-exact) (λ _. refl)
 
 -- where the first piece has the n bytes the scratch is unchanged
-pub show-unchanged : (s n : ℕ) (scratch : List ℕ) (S : State) → n ≤ firstLength (spans (S .tables) s) → rule (Show s n scratch) S .output ≡ scratch
+pub show-unchanged : (s : Name) (n : ℕ) (scratch : List ℕ) (S : State) → n ≤ firstLength (spans (S .tables) (s .slip)) → rule (Show s n scratch) S .output ≡ scratch
 unfolding rule
-show-unchanged s n scratch S l = if-F (scattered (spans (S .tables) s) n) _ _ (λ t. (let k = simp not-leb-is at t in omega arith))
+show-unchanged s n scratch S l = if-F (scattered (spans (S .tables) (s .slip)) n) _ _ (λ t. (let k = simp not-leb-is at t in omega arith))
 
 -- ---- show only looks
 
@@ -92,17 +92,17 @@ narrow-is k n c =
     (λ x. ltb→lt c n (and-1 u (ltb c n) x), λ x. and-intro u (ltb c n) (not-T (leb n k) (λ y. omega (arith, leb→le n k y))) (lt→ltb c n x))))
     (λ t. (λ x. absurd (T-not (leb n k) (and-0 u (ltb c n) x) (le→leb n k (not-less k n t))), λ x. absurd (omega arith)))
 
-show-caused : (s n : ℕ) (scratch : List ℕ) → Causing (showCall s n scratch)
+show-caused : (x : Name) (n : ℕ) (scratch : List ℕ) → Causing (showCall x n scratch)
 unfolding found if_then_else_
-show-caused s n scratch S h f = record {
+show-caused x n scratch S h f = record {
   below = omega arith;
-  slip = slip-one (S .tables) s;
-  same = twice-one s;
+  slip = slip-one (S .tables) x;
+  same = twice-one (x .slip);
   long = less-is 512 n;
-  range = past-is S h f s n;
-  narrow = narrow-is (firstLength (spans (S .tables) s)) n (length scratch);
+  range = past-is S h f (x .slip) n;
+  narrow = narrow-is (firstLength (spans (S .tables) (x .slip))) n (length scratch);
   asked = λ z. refl;
 }
 
-pub show-lawful : (s n : ℕ) (scratch : List ℕ) → Lawful (showCall s n scratch)
-show-lawful s n scratch = looks-lawful (s ∷ []) scratch (show s n scratch) (showAsks s n) (λ S. omega arith) (λ S. (refl, refl)) (show-caused s n scratch)
+pub show-lawful : (x : Name) (n : ℕ) (scratch : List ℕ) → Lawful (showCall x n scratch)
+show-lawful x n scratch = looks-lawful (x ∷ []) scratch (show x n scratch) (showAsks x n) (λ S. omega arith) (λ S. (refl, refl)) (show-caused x n scratch)

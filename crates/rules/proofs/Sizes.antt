@@ -22,16 +22,18 @@ pub record Sizes (T T′ : Tables) : Type 0 where
   pub slips-size : length (T′ .slips) ≡ length (T .slips)
   pub pieces-size : length (T′ .pieces) ≡ length (T .pieces)
   pub counts-size : length (T′ .counts) ≡ length (T .counts)
+  pub serials-kept : T′ .serials ≡ T .serials
   pub stock-kept : T′ .stock ≡ T .stock
 
 pub same-sizes : (T : Tables) → Sizes T T
-same-sizes T = record { slips-size = refl; pieces-size = refl; counts-size = refl; stock-kept = refl }
+same-sizes T = record { slips-size = refl; pieces-size = refl; counts-size = refl; serials-kept = refl; stock-kept = refl }
 
 pub then-sizes : {A B C : Tables} → Sizes A B → Sizes B C → Sizes A C
 then-sizes s t = record {
   slips-size = t .slips-size ∙ s .slips-size;
   pieces-size = t .pieces-size ∙ s .pieces-size;
   counts-size = t .counts-size ∙ s .counts-size;
+  serials-kept = t .serials-kept ∙ s .serials-kept;
   stock-kept = t .stock-kept ∙ s .stock-kept;
 }
 
@@ -42,13 +44,13 @@ maybe-sizes S X b h = if-either (λ (Y : State). Sizes (S .tables) (Y .tables)) 
 -- the stores
 
 pub slip-set : (T : Tables) (s v : ℕ) → Sizes T (setSlip T s v)
-slip-set T s v = record { slips-size = length-set (T .slips) s v; pieces-size = refl; counts-size = refl; stock-kept = refl }
+slip-set T s v = record { slips-size = length-set (T .slips) s v; pieces-size = refl; counts-size = refl; serials-kept = refl; stock-kept = refl }
 
 pub piece-set : (T : Tables) (d : ℕ) (p : Piece) → Sizes T (setPiece T d p)
-piece-set T d p = record { slips-size = refl; pieces-size = length-set (T .pieces) d p; counts-size = refl; stock-kept = refl }
+piece-set T d p = record { slips-size = refl; pieces-size = length-set (T .pieces) d p; counts-size = refl; serials-kept = refl; stock-kept = refl }
 
 pub both-set : (T : Tables) (d : ℕ) (p : Piece) (b n : ℕ) → Sizes T (setPieceCount T d p b n)
-both-set T d p b n = record { slips-size = refl; pieces-size = length-set (T .pieces) d p; counts-size = length-set (T .counts) b n; stock-kept = refl }
+both-set T d p b n = record { slips-size = refl; pieces-size = length-set (T .pieces) d p; counts-size = length-set (T .counts) b n; serials-kept = refl; stock-kept = refl }
 
 -- the steps that the operations share
 
@@ -73,13 +75,13 @@ turned-sizes S s v = then-sizes (slip-set (S .tables) s v) (release-sizes (withT
 pub built-sizes : (T : Tables) (fs : List ℕ) (xs : List Stretch) (tail : ℕ) → Sizes T (built T fs xs tail)
 built-sizes T fs xs tail =
     let k = built-kept T fs xs tail in
-    record { slips-size = ap length (k .slips-kept); pieces-size = k .pieces-size; counts-size = k .counts-size; stock-kept = k .stock-kept }
+    record { slips-size = ap length (k .slips-kept); pieces-size = k .pieces-size; counts-size = k .counts-size; serials-kept = k .serials-kept; stock-kept = k .stock-kept }
 
 -- a plan that is made
 pub made-sizes : {T : Tables} (p : Plan) (fs : List ℕ) → Planned T p → Sizes T (made p fs)
 made-sizes p fs h =
     let k = h .still .kept in
-    then-sizes (record { slips-size = ap length (k .slips-kept); pieces-size = k .pieces-size; counts-size = k .counts-size; stock-kept = k .stock-kept })
+    then-sizes (record { slips-size = ap length (k .slips-kept); pieces-size = k .pieces-size; counts-size = k .counts-size; serials-kept = k .serials-kept; stock-kept = k .stock-kept })
     (built-sizes (p .base) fs (p .more) (p .tail))
 
 pub new-sizes : {T : Tables} (p : Plan) (fs : List ℕ) (t : ℕ) → Sizes T (p .base) → Sizes T (underNew p fs t)

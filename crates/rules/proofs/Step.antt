@@ -14,27 +14,28 @@ use Rattle.kinds.specs.Limits.{mostBuffers, mostPieces, mostSlips, counted}
 use Rattle.kinds.specs.Refusal.{refusalCode}
 use Rattle.rules.specs.Basics.{Is, member}
 use Rattle.rules.specs.Layout.{storageLength}
-use Rattle.rules.specs.Tables.{Tables, slipTotal, pieceTotal, bufferTotal, blank, freshTables, bufferCount}
+use Rattle.rules.specs.Tables.{Tables, serial, slipTotal, pieceTotal, bufferTotal, blank, freshTables, bufferCount}
 use Rattle.rules.specs.Bytes.{stockIn, decode, encode}
 use Rattle.rules.specs.Chain.{State, reads, stateOf}
 use Rattle.rules.specs.Sound.{Lent, headerOk, soundTables, sound, lent, countsOk}
 use Rattle.rules.specs.Room.{isVacant, isUnheld, newBuffers}
 use Rattle.rules.specs.Rule.{codeIn}
 use Rattle.rules.specs.Open.{openable}
-use Rattle.rules.specs.Step.{Operation, Call, Open, Do, rule, lentOut, Result, refused, stateIn, done, perform, step, next, lentTo, leftBy}
-use Rattle.rules.specs.After.{readsAfter, vacantAfter}
+use Rattle.rules.specs.Step.{Operation, Call, Open, Do, meaning, rule, lentOut, Result, refused, stateIn, done, perform, step, next, lentTo, leftBy}
+use Rattle.rules.specs.After.{readsAfter, vacantAfter, vacates, serialAfter}
 use Rattle.rules.specs.Takes.{Took, target, tookBuffers}
 use Rattle.rules.proofs.Logic.{if-T, if-F, if-either, and-intro, and-0, eq→eqb, is-dec, and-parts}
 use Rattle.rules.proofs.Moves.{SoundNow}
-use Rattle.rules.proofs.Audit.{tables-pass, sound-now, fresh-sound}
+use Rattle.rules.proofs.Audit.{tables-pass, sound-now, fresh-sound, getD-same}
 use Rattle.rules.proofs.Codes.{Allowed, allowed, first-listed}
 use Rattle.rules.proofs.Storage.{heldBytes}
 use Rattle.rules.proofs.After.{held-not-new}
 use Rattle.rules.proofs.Takes.{in-member}
-use Rattle.rules.proofs.Calls.{reads-ok, rule-bytes, rule-sizes, rule-sound, rule-storage, takes}
+use Rattle.rules.proofs.Lawful.{aged-size}
+use Rattle.rules.proofs.Calls.{reads-ok, rule-bytes, rule-serials, rule-sizes, rule-sound, rule-storage, takes}
 use Rattle.rules.proofs.Writes.{unwritten}
 use Rattle.rules.proofs.Bounds.{small}
-use Rattle.rules.proofs.Bytes.{Sized, header-facts, decode-slips, decode-pieces, decode-counts, decode-encode, encode-header, and-is, eqb-is, InRange, counts-facts}
+use Rattle.rules.proofs.Bytes.{Sized, header-facts, decode-slips, decode-serials, serial-small, decode-pieces, decode-counts, decode-encode, encode-header, and-is, eqb-is, InRange, counts-facts}
 
 -- ---- the operation on a sound pool
 
@@ -124,12 +125,20 @@ code-listed (Do o) m n =
 
 -- ---- soundness in bytes
 
+-- each slip has its serial, which fits 16 bits
+pub record Serialled (T : Tables) : Type 0 where
+  pub small : (t : ℕ) → serial T t < 65536
+  pub fit : length (T .serials) ≡ slipTotal T
+
 -- every entry of sound tables within the limits fits 16 bits
-pub sized : (T : Tables) → SoundNow T → bufferTotal T ≤ mostBuffers → pieceTotal T ≤ mostPieces → slipTotal T ≤ mostSlips → T .stock ≡ bufferTotal T ∷ [] → Sized T
-sized T h b p s k₀ =
+pub sized : (T : Tables) → SoundNow T → bufferTotal T ≤ mostBuffers → pieceTotal T ≤ mostPieces → slipTotal T ≤ mostSlips → T .stock ≡ bufferTotal T ∷ []
+    → Serialled T → Sized T
+sized T h b p s k₀ r =
     let k = small T h in
     record {
       slips-small = λ i. omega (arith, k .slips-small i);
+      serials-small = r .small;
+      serials-fit = r .fit;
       pieces-small = λ d. omega (arith, k .counts-small d, k .buffers-small d, k .places-small d, k .nexts-small d);
       counts-small = λ i. omega (arith, k .buffer-counts-small i);
       few-slips = omega arith;
@@ -146,9 +155,10 @@ pub record Within (T : Tables) (st : List ℕ) : Type 0 where
   pub counts : InRange (bufferTotal T) (pieceTotal T) (slipTotal T)
   pub storage-fits : length st ≡ storageLength (T .stock) (bufferTotal T)
   pub stock-is : T .stock ≡ bufferTotal T ∷ []
+  pub serialled : Serialled T
 
 pub within-sized : {T : Tables} {st : List ℕ} → SoundNow T → Within T st → Sized T
-within-sized {T} h w = (let c = w .counts in sized T h (c .most-buffers) (c .most-pieces) (c .most-slips) (w .stock-is))
+within-sized {T} h w = (let c = w .counts in sized T h (c .most-buffers) (c .most-pieces) (c .most-slips) (w .stock-is) (w .serialled))
 
 -- the bytes of sound tables are a sound pool
 pub encode-sound : (T : Tables) (st : List ℕ) → SoundNow T → Within T st → Is (sound (lent (encode T) st))
@@ -171,11 +181,13 @@ sound-within m t =
       counts = omega (arith, h .counts);
       storage-fits = h .storage-long ∙ ap (storageLength (stockIn (m .pool))) (sym b);
       stock-is = ap (λ (n : ℕ). n ∷ []) (sym b);
+      serialled = record { small = serial-small (m .pool); fit = decode-serials (m .pool) ∙ sym s };
     }
 
 -- an operation that is done leaves the sizes
 pub rule-within : (o : Operation) (S : State) → SoundNow (S .tables) → Allowed (rule o S) (S .tables) → Within (S .tables) (S .storage)
     → Within (rule o S .after .tables) (rule o S .after .storage)
+unfolding serialAfter
 rule-within o S h a w =
     let z = rule-sizes o S in
     let b = z .counts-size in
@@ -185,6 +197,11 @@ rule-within o S h a w =
       counts = omega (arith, w .counts);
       storage-fits = rule-storage o S h (w .storage-fits) a ∙ w .storage-fits ∙ ap₂ storageLength (sym (z .stock-kept)) (sym b);
       stock-is = z .stock-kept ∙ w .stock-is ∙ ap (λ (n : ℕ). n ∷ []) (sym b);
+      serialled = record {
+        small = λ t. subst (λ n. n < 65536) (sym (rule-serials o S a (w .serialled .fit) t))
+            (if-either (λ (n : ℕ). n < 65536) (vacates o S t) _ _ (λ _. omega arith) (λ _. w .serialled .small t));
+        fit = ap length (z .serials-kept) ∙ aged-size (meaning o .changes S) (S .tables .serials) ∙ w .serialled .fit ∙ sym s;
+      };
     }
 
 -- The pool that a done open writes is sound.
@@ -201,6 +218,10 @@ open-sound B P S m t =
       counts = omega arith;
       storage-fits = f .1 ∙ ap (storageLength (B ∷ [])) (sym b);
       stock-is = ap (λ (n : ℕ). n ∷ []) (sym b);
+      serialled = record {
+        small = λ t. subst (λ n. n < 65536) (sym (getD-same {A = ℕ} S t 0)) (omega arith);
+        fit = length-replicate {A = ℕ} S 0 ∙ sym s;
+      };
     })
 
 -- ---- every call
@@ -267,6 +288,13 @@ slips-vacant o m e t =
     let S = stateIn m in
     ap (λ (x : State). isVacant (x .tables) t) (after-state o m e)
     ∙ reads-ok o S (sound-now m (d .was-sound)) (sound-within m (d .was-sound) .storage-fits) (allowed (rule o S) (S .tables) (d .allowed-code)) .vacancy t
+
+pub slips-serial : (o : Operation) (m : Lent) → step (Do o) m .code ≡ 0 → (t : ℕ) → serial (decode (next (Do o) m .pool)) t ≡ serialAfter o (stateIn m) t
+slips-serial o m e t =
+    let d = did o m e in
+    let S = stateIn m in
+    ap (λ (x : State). serial (x .tables) t) (after-state o m e)
+    ∙ rule-serials o S (allowed (rule o S) (S .tables) (d .allowed-code)) (sound-within m (d .was-sound) .serialled .fit) t
 
 -- ---- what is taken, in bytes
 

@@ -54,17 +54,17 @@ module _ (S : State) (h : SoundNow (S .tables)) (f : Fit (S .tables .stock) (buf
   still-stays (Append a b) q = absurd q
   still-stays (Drop s n) q = (
     if-T (eqb n 0) S _ (eq→eqb n 0 q),
-    (λ i. giving (nothing-back (S .tables) s n h q i) (length (drop-none (S .tables) true (chain (S .tables) s) n q i)) 0),
+    (λ i. giving (nothing-back (S .tables) (s .slip) n h q i) (length (drop-none (S .tables) true (chain (S .tables) (s .slip)) n q i)) 0),
   )
   still-stays (Keep s n) q =
-      let t = eq→eqb n (lengthOf (S .tables) s) (q ∙ reads-length S h f s) in
-      (if-T (eqb n (lengthOf (S .tables) s)) S _ t, ap (λ (k : ℕ). want 0 k 0) (if-T (eqb n (lengthOf (S .tables) s)) 0 _ t))
+      let t = eq→eqb n (lengthOf (S .tables) (s .slip)) (q ∙ reads-length S h f (s .slip)) in
+      (if-T (eqb n (lengthOf (S .tables) (s .slip))) S _ t, ap (λ (k : ℕ). want 0 k 0) (if-T (eqb n (lengthOf (S .tables) (s .slip))) 0 _ t))
   still-stays (Pullup s n) q =
-      let k = firstLength (spans (S .tables) s) in
+      let k = firstLength (spans (S .tables) (s .slip)) in
       let t = le→leb n k q in
       (if-T (leb n k) S _ t, if-T (leb n k) (want 0 0 0) _ t)
   still-stays (Pack s) q =
-      let k = length (chain (S .tables) s) in
+      let k = length (chain (S .tables) (s .slip)) in
       let t = le→leb k 1 q in
       (if-T (leb k 1) S _ t, if-T (leb k 1) (want 0 0 0) _ t)
   still-stays (Length s) q = (refl, refl)
@@ -99,34 +99,35 @@ module _ (S : State) (h : SoundNow (S .tables)) (f : Fit (S .tables .stock) (buf
   stays-still Audit a e = tt
   stays-still (Put input) a e = (let w = none-wanted _ _ _ _ h (takes (Put input) S h a) (ap (λ (X : State). X .tables) e) in omega arith)
   stays-still (Free s) a e =
-      let v = reads-ok (Free s) S h f a .vacancy s ∙ at-here s s true (isVacant (S .tables)) refl in
+      let v = reads-ok (Free s) S h f a .vacancy (s .slip) ∙ at-here (s .slip) (s .slip) true (isVacant (S .tables)) refl in
       let n = first-named (S .tables) s _ (a .early) in
-      T-not true (subst (λ b. Is (not b)) (held-false (S .tables) s (n .1) ∙ sym (ap (λ (X : State). isVacant (X .tables) s) e) ∙ v) tt) tt
+      T-not true (subst (λ b. Is (not b)) (held-false (S .tables) (s .slip) (n .1) ∙ sym (ap (λ (X : State). isVacant (X .tables) (s .slip)) e) ∙ v) tt) tt
   stays-still (Dup s) a e = (let w = none-wanted _ _ _ _ h (takes (Dup s) S h a) (ap (λ (X : State). X .tables) e) in omega arith)
   stays-still (Cut s off n) a e = (let w = none-wanted _ _ _ _ h (takes (Cut s off n) S h a) (ap (λ (X : State). X .tables) e) in omega arith)
   stays-still (Append x y) a e =
       let n = both-named (S .tables) x y (a .early) in
-      let v = reads-ok (Append x y) S h f a .vacancy y ∙ at-there x y _ (at y true (isVacant (S .tables))) (λ q. n .2 (sym q))
-      ∙ at-here y y true (isVacant (S .tables)) refl in
-      T-not true (subst (λ b. Is (not b)) (held-false (S .tables) y (n .1 .1) ∙ sym (ap (λ (X : State). isVacant (X .tables) y) e) ∙ v) tt) tt
+      let t = y .slip in
+      let v = reads-ok (Append x y) S h f a .vacancy t ∙ at-there (x .slip) t _ (at t true (isVacant (S .tables))) (λ q. n .2 (sym q))
+      ∙ at-here t t true (isVacant (S .tables)) refl in
+      T-not true (subst (λ b. Is (not b)) (held-false (S .tables) t (n .1 .1) ∙ sym (ap (λ (X : State). isVacant (X .tables) t) e) ∙ v) tt) tt
   stays-still (Drop s n) a e =
       let c = simp no-cause at (a .early) in
-      let r = sym (ap (λ (X : State). reads X s) e) ∙ reads-ok (Drop s n) S h f a .bytes s ∙ at-here s s _ (reads S) refl in
-      omega (arith, ap {B = ℕ} length r, length-drop n (reads S s), reads-length S h f s)
+      let r = sym (ap (λ (X : State). reads X (s .slip)) e) ∙ reads-ok (Drop s n) S h f a .bytes (s .slip) ∙ at-here (s .slip) (s .slip) _ (reads S) refl in
+      omega (arith, ap {B = ℕ} length r, length-drop n (reads S (s .slip)), reads-length S h f (s .slip))
   stays-still (Keep s n) a e =
       let c = simp no-cause at (a .early) in
-      let r = sym (ap (λ (X : State). reads X s) e) ∙ reads-ok (Keep s n) S h f a .bytes s ∙ at-here s s _ (reads S) refl in
-      omega (arith, ap {B = ℕ} length r, length-take n (reads S s), reads-length S h f s)
+      let r = sym (ap (λ (X : State). reads X (s .slip)) e) ∙ reads-ok (Keep s n) S h f a .bytes (s .slip) ∙ at-here (s .slip) (s .slip) _ (reads S) refl in
+      omega (arith, ap {B = ℕ} length r, length-take n (reads S (s .slip)), reads-length S h f (s .slip))
   stays-still (Pullup s n) a e =
       let w = none-wanted _ _ _ _ h (takes (Pullup s n) S h a) (ap (λ (X : State). X .tables) e) in
-      if-either (λ (x : Wants). x .buffers ≡ 0 → n ≤ firstLength (spans (S .tables) s)) (leb n (firstLength (spans (S .tables) s))) _ _
+      if-either (λ (x : Wants). x .buffers ≡ 0 → n ≤ firstLength (spans (S .tables) (s .slip))) (leb n (firstLength (spans (S .tables) (s .slip)))) _ _
       (λ t _. leb→le _ _ t) (λ _ z. absurd (omega arith)) (w .1)
   stays-still (Pack s) a e =
       let w = none-wanted _ _ _ _ h (takes (Pack s) S h a) (ap (λ (X : State). X .tables) e) in
-      let k = buffersFor (lengthOf (S .tables) s) in
-      if-either (λ (x : Wants). x .buffers ≡ 0 → length (chain (S .tables) s) ≤ 1) (leb (length (chain (S .tables) s)) 1) (want 0 0 0) (want 0 k k)
+      let k = buffersFor (lengthOf (S .tables) (s .slip)) in
+      if-either (λ (x : Wants). x .buffers ≡ 0 → length (chain (S .tables) (s .slip)) ≤ 1) (leb (length (chain (S .tables) (s .slip))) 1) (want 0 0 0) (want 0 k k)
       (λ t _. leb→le _ _ t)
-      (λ _ z. omega (arith, count-total _ _ (spans (S .tables) s) (spans-good (S .tables) s h), stretches-length (S .tables) (chain (S .tables) s))) (w .1)
+      (λ _ z. omega (arith, count-total _ _ (spans (S .tables) (s .slip)) (spans-good (S .tables) (s .slip) h), stretches-length (S .tables) (chain (S .tables) (s .slip)))) (w .1)
   stays-still (Length s) a e = tt
   stays-still (Read s off n out) a e = tt
   stays-still (Show s n scratch) a e = tt

@@ -12,7 +12,7 @@ use Rattle.rules.specs.Basics.{Is, places, passing, member}
 use Rattle.rules.specs.Tables.{Tables, slip, piece, bufferCount, headOf, slipTotal, pieceTotal, bufferTotal}
 use Rattle.rules.specs.Chain.{Stretch, chain, stretches, spans, cutOut}
 use Rattle.rules.specs.Sound.{inUse, lying}
-use Rattle.rules.specs.Room.{isVacant, isFree, isFreeWith, isUnheld, vacantSlips, freePieces, freeWith, freeBuffers, newSlip, newBuffers}
+use Rattle.rules.specs.Room.{isVacant, isFree, isFreeWith, isUnheld, readySlips, freePieces, freeWith, freeBuffers, newSlip, newBuffers}
 use Rattle.rules.specs.Build.{laid}
 use Rattle.rules.specs.Rule.{Rule, Wants, want, room}
 use Rattle.rules.specs.Recount.{reached}
@@ -20,7 +20,7 @@ use Rattle.rules.specs.Takes.{tookSlips, Took}
 use Rattle.rules.proofs.Logic.{if-either, and-0, and-1, or-cases, or-left, or-right, eq→eqb, not-zero, bit-pos, any-at}
 use Rattle.rules.proofs.Sums.{sumTo-pos}
 use Rattle.rules.proofs.Moves.{SoundBy, SoundNow, lies, buffer-pos}
-use Rattle.rules.proofs.Room.{AllIn, all-free, take-in, NoneOf, none-not, passing-all, passing-none, passing-back, took-are}
+use Rattle.rules.proofs.Room.{AllIn, all-free, take-in, NoneOf, none-not, passing-all, passing-none, passing-back, took-are, new-slip-ok}
 use Rattle.rules.proofs.Chain.{AllUsed, chain-used}
 use Rattle.rules.proofs.Meets.{Meets, stop, chain-meets, meets-one, Same, same-refl}
 use Rattle.rules.proofs.Hang.{Gives, gives-chain, gives-spans}
@@ -142,7 +142,7 @@ new-pass f n k = passing-all f 0 n (take k (places f 0 n)) (new-in f n k)
 
 -- new pieces and buffers are on the chain of t alone, and there in order
 pub took-with : (T T′ : Tables) (w : Wants) (t : ℕ) → SoundNow T′ → Roomy T w → ((u : ℕ) → u ≢ t → NoneOf (isFreeWith T (w .back)) (chain T′ u))
-    → ((u : ℕ) → u ≢ t → Old T T′ u) → tookSlips T T′ ≡ take (w .slips) (vacantSlips T)
+    → ((u : ℕ) → u ≢ t → Old T T′ u) → tookSlips T T′ ≡ take (w .slips) (readySlips T)
     → passing (isFreeWith T (w .back)) (chain T′ t) ≡ take (w .pieces) (freeWith T (w .back))
     → passing (isUnheld T) (buffersOf (spans T′ t)) ≡ take (w .buffers) (freeBuffers T) → Took T T′ w t
 took-with T T′ w t h r none old s p b = record {
@@ -163,12 +163,12 @@ took-with T T′ w t h r none old s p b = record {
 }
 
 -- where nothing is given back first
-pub took : (T T′ : Tables) (a k m t : ℕ) → SoundNow T′ → Roomy T (want a k m) → ((u : ℕ) → u ≢ t → Old T T′ u) → tookSlips T T′ ≡ take a (vacantSlips T)
+pub took : (T T′ : Tables) (a k m t : ℕ) → SoundNow T′ → Roomy T (want a k m) → ((u : ℕ) → u ≢ t → Old T T′ u) → tookSlips T T′ ≡ take a (readySlips T)
     → passing (isFree T) (chain T′ t) ≡ take k (freePieces T) → passing (isUnheld T) (buffersOf (spans T′ t)) ≡ take m (freeBuffers T) → Took T T′ (want a k m) t
 unfolding member
 took T T′ a k m t h r old s p b = took-with T T′ (want a k m) t h r (λ u n. old u n .pieces-old) old s p b
 
--- no slip is taken, or the lowest vacant one is
+-- no slip is taken, or the lowest that may be given is
 pub no-slips : (T T′ : Tables) → ((u : ℕ) → slip T u ≡ 0 → slip T′ u ≡ 0) → tookSlips T T′ ≡ []
 no-slips T T′ k =
     took-are (isVacant T) (isVacant T′) (slipTotal T) [] [] tt (passing-none (isVacant T) [] tt) (λ x m. absurd (List·Memᴰ·not-nil m))
@@ -178,11 +178,12 @@ first-one : (l : List ℕ) → 0 < length l → getD l 0 0 ∷ [] ≡ take 1 l
 first-one [] h = absurd (omega arith)
 first-one (x ∷ l) h = refl
 
-one-slip : (T T′ : Tables) → 0 < length (vacantSlips T) → ((u : ℕ) → u ≢ newSlip T → slip T′ u ≡ slip T u) → 0 < slip T′ (newSlip T) → tookSlips T T′ ≡ take 1 (vacantSlips T)
+one-slip : (T T′ : Tables) → 0 < length (readySlips T) → ((u : ℕ) → u ≢ newSlip T → slip T′ u ≡ slip T u) → 0 < slip T′ (newSlip T) → tookSlips T T′ ≡ take 1 (readySlips T)
 one-slip T T′ v k p =
     let t = newSlip T in
-    let e = first-one (vacantSlips T) v in
-    let a = subst (AllIn (isVacant T) 0 (slipTotal T)) (sym e) (new-in (isVacant T) (slipTotal T) 1) in
+    let e = first-one (readySlips T) v in
+    let (l, z₀) = new-slip-ok T v in
+    let a : AllIn (isVacant T) 0 (slipTotal T) (t ∷ []) = (omega arith, l, eq→eqb (slip T t) 0 z₀, tt) in
     took-are (isVacant T) (isVacant T′) (slipTotal T) (t ∷ []) (t ∷ []) a (passing-all (isVacant T) 0 (slipTotal T) (t ∷ []) a)
     (λ x m z. ⊎-elim (λ q. omega (arith, ap (slip T′) q, eqb→eq (slip T′ x) 0 z)) List·Memᴰ·not-nil (List·Memᴰ·cases-cons m))
     (λ x z n. elim (ℕ-discrete x t) [ yes q ↦ List·Memᴰ·head q | no q ↦ absurd (n (eq→eqb (slip T′ x) 0 (k x q ∙ eqb→eq (slip T x) 0 z))) ])
@@ -199,7 +200,7 @@ nothing-taken T t h = took-none T T t h (λ u. old-as T T u u h h refl (same-ref
 
 -- slip t comes to hold l, which covers xs
 module _ (T T′ : Tables) (t : ℕ) (l : List ℕ) (xs : List Stretch) (h : SoundNow T) (h′ : SoundNow T′) (g : Gives T T′ t l xs) where
-  took-gives : (a k m : ℕ) → Roomy T (want a k m) → tookSlips T T′ ≡ take a (vacantSlips T)
+  took-gives : (a k m : ℕ) → Roomy T (want a k m) → tookSlips T T′ ≡ take a (readySlips T)
       → passing (isFree T) l ≡ take k (freePieces T) → passing (isUnheld T) (buffersOf xs) ≡ take m (freeBuffers T) → Took T T′ (want a k m) t
   took-gives a k m r s p b =
       took T T′ a k m t h′ r (λ u n. old-as T T′ u u h h′ (g .entries u n) (g .others u n)) s
@@ -210,7 +211,7 @@ module _ (T T′ : Tables) (t : ℕ) (l : List ℕ) (xs : List Stretch) (h : Sou
       → Took T T′ (want 0 k m) t
   took-held v k m r = took-gives 0 k m r (no-slips T T′ (λ u z. g .entries u (λ e. omega (arith, ap (slip T) e)) ∙ z))
 
--- under the lowest vacant slip
+-- under the lowest slip that may be given
 pub took-new : (T T′ : Tables) (l : List ℕ) (xs : List Stretch) → SoundNow T → SoundNow T′ → Gives T T′ (newSlip T) l xs → (k m : ℕ) → Roomy T (want 1 k m)
     → passing (isFree T) l ≡ take k (freePieces T) → passing (isUnheld T) (buffersOf xs) ≡ take m (freeBuffers T) → Took T T′ (want 1 k m) (newSlip T)
 took-new T T′ l xs h h′ g k m r = took-gives T T′ (newSlip T) l xs h h′ g 1 k m r (one-slip T T′ (r .0) (g .entries) (g .held))

@@ -14,7 +14,7 @@ use Rattle.rules.specs.Rule.{Rule, Wants}
 use Rattle.rules.specs.Put.{putAfter}
 use Rattle.rules.specs.Dup.{dupAfter}
 use Rattle.rules.specs.Cut.{cutAfter}
-use Rattle.rules.specs.Append.{joined, appendAfter}
+use Rattle.rules.specs.Append.{joined, appended}
 use Rattle.rules.specs.Drop.{dropped, dropAfter}
 use Rattle.rules.specs.Keep.{kept, keptOwn, keptNotOwn, keptBy, keepAfter}
 use Rattle.rules.specs.Pullup.{pulled, pullupAfter, pullupWants}
@@ -73,40 +73,40 @@ abbrev pub Writes : State → Rule → Type 0
 Writes S r = (xs : List ℕ) × (r .after .storage ≡ stored (S .tables .stock) (S .storage) (newBuffers (S .tables) (r .wants .buffers)) xs)
 
 pub writes : (o : Operation) (S : State) → Writes S (rule o S)
-unfolding rule stored putAfter dupAfter cutAfter appendAfter dropAfter keepAfter pullupAfter pullupWants packAfter packWants
+unfolding rule stored putAfter dupAfter cutAfter appended dropAfter keepAfter pullupAfter pullupWants packAfter packWants
 writes Audit S = ([], refl)
 writes (Put input) S = (input, refl)
-writes (Free s) S = ([], turned-storage S s _)
+writes (Free s) S = ([], turned-storage S (s .slip) _)
 writes (Dup s) S = ([], refl)
 writes (Cut s off n) S = ([], refl)
 writes (Append a b) S = (
   [],
-  if-either (λ (X : State). X .storage ≡ S .storage) (eqb (headOf (S .tables) a) 0) _ _ (λ _. refl)
-      (λ _. if-either (λ (X : State). X .storage ≡ S .storage) (eqb (headOf (S .tables) b) 0) _ _ (λ _. refl) (λ _. joined-storage a b S)),
+  if-either (λ (X : State). X .storage ≡ S .storage) (eqb (headOf (S .tables) (a .slip)) 0) _ _ (λ _. refl)
+      (λ _. if-either (λ (X : State). X .storage ≡ S .storage) (eqb (headOf (S .tables) (b .slip)) 0) _ _ (λ _. refl) (λ _. joined-storage (a .slip) (b .slip) S)),
 )
 writes (Drop s n) S = (
   [],
-  let T = S .tables in if-either (λ (X : State). X .storage ≡ S .storage) (eqb n 0) _ _ (λ _. refl) (λ _. freed-storage S (dropped T s n) s),
+  let T = S .tables in if-either (λ (X : State). X .storage ≡ S .storage) (eqb n 0) _ _ (λ _. refl) (λ _. freed-storage S (dropped T (s .slip) n) (s .slip)),
 )
 writes (Keep s n) S = (
   [],
   let T = S .tables in
-      if-either (λ (X : State). X .storage ≡ S .storage) (eqb n (lengthOf T s)) _ _ (λ _. refl)
-      (λ _. kept-storage S s (keptOwn T s n) (kept T s n) (keptNotOwn T s n)),
+      if-either (λ (X : State). X .storage ≡ S .storage) (eqb n (lengthOf T (s .slip))) _ _ (λ _. refl)
+      (λ _. kept-storage S (s .slip) (keptOwn T (s .slip) n) (kept T (s .slip) n) (keptNotOwn T (s .slip) n)),
 )
 writes (Pullup s n) S = (
-  take n (reads S s),
+  take n (reads S (s .slip)),
   let T = S .tables in
-      if-both (λ (X : State) (w : Wants). X .storage ≡ stored (T .stock) (S .storage) (newBuffers T (w .buffers)) (take n (reads S s)))
-      (leb n (firstLength (spans T s))) _ _ _ _
-      (λ _. refl) (λ _. freed-storage _ (pulled T s n) s),
+      if-both (λ (X : State) (w : Wants). X .storage ≡ stored (T .stock) (S .storage) (newBuffers T (w .buffers)) (take n (reads S (s .slip))))
+      (leb n (firstLength (spans T (s .slip)))) _ _ _ _
+      (λ _. refl) (λ _. freed-storage _ (pulled T (s .slip) n) (s .slip)),
 )
 writes (Pack s) S = (
-  reads S s,
+  reads S (s .slip),
   let T = S .tables in
-      if-both (λ (X : State) (w : Wants). X .storage ≡ stored (T .stock) (S .storage) (newBuffers T (w .buffers)) (reads S s))
-      (leb (length (chain T s)) 1) _ _ _ _
-      (λ _. refl) (λ _. old-storage _ (plain T _) (freePieces T) s),
+      if-both (λ (X : State) (w : Wants). X .storage ≡ stored (T .stock) (S .storage) (newBuffers T (w .buffers)) (reads S (s .slip)))
+      (leb (length (chain T (s .slip))) 1) _ _ _ _
+      (λ _. refl) (λ _. old-storage _ (plain T _) (freePieces T) (s .slip)),
 )
 writes (Length s) S = ([], refl)
 writes (Read s off n out) S = ([], refl)

@@ -3,10 +3,10 @@ use mathlib.Core.Path.{_≡_}
 use mathlib.Core.Logic.{_≢_, _↔_}
 use mathlib.Core.Bool.{not}
 use mathlib.Core.List.{List, _∷_}
-use Prim.Native.Nat.{ℕ, _≤_, _<_}
+use Prim.Native.Nat.{ℕ, _+_, _*_, _≤_, _<_}
 use lib.ListN.{length}
 use Rattle.rules.specs.Basics.{Is}
-use Rattle.rules.specs.Tables.{Tables, blank, slip, piece, bufferCount, slipTotal, pieceTotal, bufferTotal}
+use Rattle.rules.specs.Tables.{Tables, blank, slip, serial, piece, bufferCount, slipTotal, pieceTotal, bufferTotal}
 use Rattle.rules.specs.Bytes.{decode}
 use Rattle.rules.specs.Chain.{State, Stretch, chain, spans, firstLength, positionOf, reads}
 use Rattle.rules.specs.Sound.{Lent}
@@ -15,26 +15,36 @@ use Rattle.rules.specs.Rule.{View}
 use Rattle.rules.specs.Step.{Operation, Audit, Put, Free, Dup, Cut, Append, Drop, Keep, Pullup, Pack, Length, Read, Show, WireList}
 use Rattle.rules.specs.Step.{Call, Open, Do, lentTo, Result, stateIn}
 
--- t is the lowest vacant slip
-abbrev pub LowestVacant : Tables → ℕ → Type 0
-LowestVacant T t = (t < slipTotal T) × Is (isVacant T t) × ((u : ℕ) → u < t → Is (not (isVacant T u)))
+-- slip t is vacant, and its serial is not the last
+abbrev pub Ready : Tables → ℕ → Type 0
+Ready T t = Is (isVacant T t) × (serial T t ≢ 65535)
+
+-- t is the lowest such slip
+pub record LowestReady (T : Tables) (t : ℕ) : Type 0 where
+  pub below : t < slipTotal T
+  pub ready : Ready T t
+  pub lowest : (u : ℕ) → u < t → Ready T u → ⊥
+
+-- n is the number of that slip + 65,536 times its serial
+abbrev pub NamesLowest : Tables → ℕ → Type 0
+NamesLowest T n = (t : ℕ) × LowestReady T t × (n ≡ t + 65536 * serial T t)
 
 -- n is the number of a done operation on S: a new slip, a count of bytes or of pieces, or 0
 abbrev pub Answered : Operation → State → ℕ → Type 0
 Answered Audit S n = n ≡ 0
-Answered (Put input) S n = LowestVacant (S .tables) n
+Answered (Put input) S n = NamesLowest (S .tables) n
 Answered (Free s) S n = n ≡ 0
-Answered (Dup s) S n = LowestVacant (S .tables) n
-Answered (Cut s off k) S n = LowestVacant (S .tables) n
+Answered (Dup s) S n = NamesLowest (S .tables) n
+Answered (Cut s off k) S n = NamesLowest (S .tables) n
 Answered (Append a b) S n = n ≡ 0
 Answered (Drop s k) S n = n ≡ 0
 Answered (Keep s k) S n = n ≡ 0
 Answered (Pullup s k) S n = n ≡ 0
 Answered (Pack s) S n = n ≡ 0
-Answered (Length s) S n = n ≡ length (reads S s)
+Answered (Length s) S n = n ≡ length (reads S (s .slip))
 Answered (Read s off k out) S n = n ≡ k
 Answered (Show s k scratch) S n = n ≡ k
-Answered (WireList s list) S n = n ≡ length (chain (S .tables) s)
+Answered (WireList s list) S n = n ≡ length (chain (S .tables) (s .slip))
 
 -- the number of a done call on m
 abbrev pub AnsweredBy : Call → Lent → ℕ → Type 0
@@ -80,7 +90,7 @@ Seen (Pullup s n) S v = Unseen v
 Seen (Pack s) S v = Unseen v
 Seen (Length s) S v = Unseen v
 Seen (Read s off n out) S v = Unseen v
-Seen (Show s n scratch) S v = Shown (S .tables .stock) (spans (S .tables) s) n v
+Seen (Show s n scratch) S v = Shown (S .tables .stock) (spans (S .tables) (s .slip)) n v
 Seen (WireList s list) S v = Unseen v
 
 abbrev pub SeenBy : Call → Lent → View → Type 0
@@ -92,12 +102,13 @@ pub record Outputs (c : Call) (m : Lent) (r : Result) : Type 0 where
   pub as-long : length (r .output) ≡ length (lentTo c)
   pub view-done : r .code ≡ 0 → SeenBy c m (r .view)
 
--- What a done open leaves: B, P and S as asked, nothing held, and storage as it was.
+-- What a done open leaves: B, P and S as asked, nothing held, every serial 0, and storage as it was.
 pub record Opened (B P S : ℕ) (m m′ : Lent) : Type 0 where
   pub slips : slipTotal (decode (m′ .pool)) ≡ S
   pub pieces : pieceTotal (decode (m′ .pool)) ≡ P
   pub buffers : bufferTotal (decode (m′ .pool)) ≡ B
   pub all-vacant : (t : ℕ) → slip (decode (m′ .pool)) t ≡ 0
+  pub all-first : (t : ℕ) → serial (decode (m′ .pool)) t ≡ 0
   pub all-blank : (d : ℕ) → piece (decode (m′ .pool)) d ≡ blank
   pub none-held : (b : ℕ) → bufferCount (decode (m′ .pool)) b ≡ 0
   pub storage : m′ .storage ≡ m .storage

@@ -56,7 +56,7 @@ member d [] = false
 member d (x ∷ xs) = eqb x d || member d xs
 
 -- t is one of the list
-abbrev pub Among : List ℕ → ℕ → Type 0
+abbrev pub Among : {A : Type 0} → List A → A → Type 0
 Among [] t = ⊥
 Among (s ∷ []) t = t ≡ s
 Among (s ∷ r ∷ ss) t = (t ≡ s) ⊎ Among (r ∷ ss) t

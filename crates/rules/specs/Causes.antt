@@ -1,6 +1,6 @@
 -- The table of codes of documents 01 and 02: when each is given.
 use mathlib.Core.Path.{_≡_}
-use mathlib.Core.Logic.{_⊎_, _↔_}
+use mathlib.Core.Logic.{_≢_, _⊎_, _↔_}
 use mathlib.Core.List.{List, [], _∷_}
 use Prim.Native.Nat.{ℕ, _+_, _≤_, _<_}
 use lib.ListN.{length, getD}
@@ -8,18 +8,18 @@ use Rattle.kinds.specs.declared.Refusal.{Refusal}
 use Rattle.kinds.specs.declared.Refusal.the-variants.{Counts, Torn, Slip, Same, Long, Range, Narrow, Slips, Pieces, Buffers, WireList}
 use Rattle.kinds.specs.Refusal.{refusalCode}
 use Rattle.rules.specs.Basics.{Is, Among}
-use Rattle.rules.specs.Tables.{Tables, slipTotal}
+use Rattle.rules.specs.Tables.{Tables, serial, slipTotal}
 use Rattle.rules.specs.Chain.{State, reads}
 use Rattle.rules.specs.Sound.{Lent, Sound}
 use Rattle.rules.specs.Room.{isVacant}
-use Rattle.rules.specs.Rule.{Meaning}
+use Rattle.rules.specs.Rule.{Name, slipsOf, Meaning}
 use Rattle.rules.specs.Step.{Call, Open, Do, meaning, stateIn, step}
 use Rattle.rules.specs.Recount.{leaves}
 use Rattle.rules.specs.Places.{CountsAt}
 
--- slip t is S or more, or vacant
-abbrev pub Missing : Tables → ℕ → Type 0
-Missing T t = (slipTotal T ≤ t) ⊎ Is (isVacant T t)
+-- the slip of x is S or more, or vacant, or its serial is another
+abbrev pub Missing : Tables → Name → Type 0
+Missing T x = (slipTotal T ≤ x .slip) ⊎ (Is (isVacant T (x .slip)) ⊎ (serial T (x .slip) ≢ x .serial))
 
 -- one slip is named twice
 abbrev pub Twice : List ℕ → Type 0
@@ -28,14 +28,14 @@ Twice (s ∷ ss) = Among ss s ⊎ Twice ss
 
 -- the bytes of the slip that is named first
 abbrev pub firstReads : Meaning → State → List ℕ
-firstReads o S = reads S (getD (o .names) 0 0)
+firstReads o S = reads S (getD (slipsOf (o .names)) 0 0)
 
 -- The table, row by row: the cause of each code for an operation of meaning o on a sound pool. For pieces, what the call gives back first is there too.
 abbrev pub Cause : Refusal → Meaning → State → Type 0
 Cause Counts o S = ⊥
 Cause Torn o S = ⊥
-Cause Slip o S = (t : ℕ) × Among (o .names) t × Missing (S .tables) t
-Cause Same o S = Twice (o .names)
+Cause Slip o S = (x : Name) × Among (o .names) x × Missing (S .tables) x
+Cause Same o S = Twice (slipsOf (o .names))
 Cause Long o S = 512 < o .asks S .atOnce
 Cause Range o S = length (firstReads o S) < o .asks S .upTo
 Cause Narrow o S = length (o .lent) < o .asks S .copies

@@ -6,7 +6,7 @@ use lib.ListN.{take, drop}
 use lib.Dec.{eqb, ltb, leb}
 use Rattle.kinds.specs.Sizes.{startOf}
 use Rattle.rules.specs.Basics.{if_then_else_, bit}
-use Rattle.rules.specs.Tables.{Piece, Tables, piece, headOf, pieceTotal}
+use Rattle.rules.specs.Tables.{Piece, Tables, piece, headOf, pieceTotal, aged}
 
 -- the link that k follows of next lead to from the link n
 unfoldable pub follow : Tables → ℕ → ℕ → ℕ
@@ -112,6 +112,10 @@ withTables S T = stateOf T (S .storage)
 
 abbrev pub withStorage : State → List ℕ → State
 withStorage S st = stateOf (S .tables) st
+
+-- the serial of slip s goes up
+abbrev pub aging : ℕ → State → State
+aging s S = withTables S (aged (S .tables) s)
 
 -- the bytes of the chain of slip s: its pieces' bytes in order
 abbrev pub reads : State → ℕ → List ℕ

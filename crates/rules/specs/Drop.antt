@@ -10,7 +10,7 @@ use Rattle.rules.specs.Tables.{Piece, Tables, piece, setPiece, withPlace
 use Rattle.rules.specs.Chain.{State, stretch, chain, lengthOf, reads, spans, overlaps, splits, ownOf, ownAt}
 use Rattle.rules.specs.Release.{shared}
 use Rattle.rules.specs.Build.{Plan, plain, underFreed}
-use Rattle.rules.specs.Rule.{Rule, _⇐_, unnamed, giving, alters, Meaning, means, reading, Asks, asking}
+use Rattle.rules.specs.Rule.{Rule, Name, _⇐_, unnamed, giving, alters, Meaning, means, reading, Asks, asking}
 
 -- a piece without its first n bytes
 abbrev pub shorter : Piece → ℕ → Piece
@@ -43,10 +43,11 @@ dropBack T s n = ownOf (dropped T s n .base) s
 unfoldable pub dropAfter : ℕ → ℕ → State → State
 dropAfter s n S = if eqb n 0 then S else underFreed S (dropped (S .tables) s n) s
 
-abbrev pub dropFirst : ℕ → ℕ → State → Rule
+abbrev pub dropFirst : Name → ℕ → State → Rule
 dropFirst s n S =
     let T = S .tables in
-    alters ((Slip ⇐ unnamed T s) ∷ (Range ⇐ ltb (lengthOf T s) n) ∷ []) (giving (dropBack T s n) (length (dropped T s n .more)) 0) 0 (dropAfter s n S)
+    alters ((Slip ⇐ unnamed T s) ∷ (Range ⇐ ltb (lengthOf T (s .slip)) n) ∷ [])
+    (giving (dropBack T (s .slip) n) (length (dropped T (s .slip) n .more)) 0) 0 (dropAfter (s .slip) n S)
 
 -- A piece where n falls inside a piece that is not own: that piece is the last that the n bytes overlap.
 abbrev pub dropPieces : Tables → ℕ → ℕ → ℕ
@@ -56,9 +57,9 @@ dropPieces T s n = let xs = spans T s in if leb (overlaps xs 0 0 n) (length (own
 abbrev pub frontOwn : Tables → ℕ → ℕ → List ℕ
 frontOwn T s n = let xs = spans T s in take (overlaps xs 0 0 n - splits xs 0 n) (ownOf T s)
 
-abbrev pub dropAsks : ℕ → ℕ → State → Asks
-dropAsks s n S = let T = S .tables in asking 0 n 0 (giving (frontOwn T s n) (dropPieces T s n) 0)
+abbrev pub dropAsks : Name → ℕ → State → Asks
+dropAsks s n S = let T = S .tables in asking 0 n 0 (giving (frontOwn T (s .slip) n) (dropPieces T (s .slip) n) 0)
 
 -- s reads its bytes but the first n
-abbrev pub dropCall : ℕ → ℕ → Meaning
-dropCall s n = means (s ∷ []) (dropFirst s n) (λ S. reading s (drop n (reads S s)) ∷ []) (dropAsks s n)
+abbrev pub dropCall : Name → ℕ → Meaning
+dropCall s n = means (s ∷ []) (dropFirst s n) (λ S. reading (s .slip) (drop n (reads S (s .slip))) ∷ []) (dropAsks s n)

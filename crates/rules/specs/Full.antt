@@ -9,6 +9,7 @@ use Rattle.kinds.specs.Refusal.{refusalCode}
 use Rattle.rules.specs.Bytes.{decode}
 use Rattle.rules.specs.Chain.{ownOf}
 use Rattle.rules.specs.Sound.{Lent}
+use Rattle.rules.specs.Rule.{Name}
 use Rattle.rules.specs.Step.{Call, Do, Drop, Pullup, step}
 use Rattle.rules.specs.Demand.{early, wanted, left}
 
@@ -21,25 +22,25 @@ abbrev pub WantsPieces : Call → Lent → Type 0
 WantsPieces c m = (early c m ≡ 0) × (0 < wanted c m .pieces)
 
 -- how many pieces of slip s are own: its head is where any is
-abbrev pub owned : ℕ → Lent → ℕ
-owned s m = length (ownOf (decode (m .pool)) s)
+abbrev pub owned : Name → Lent → ℕ
+owned s m = length (ownOf (decode (m .pool)) (s .slip))
 
 -- where the head of slip s is not own, nothing would be given back, and room is what is free
-abbrev pub NotOwn : Call → ℕ → Lent → Type 0
+abbrev pub NotOwn : Call → Name → Lent → Type 0
 NotOwn c s m = owned s m ≡ 0 → (wanted c m .back ≡ []) × (TooFew c m ↔ (left m .pieces < wanted c m .pieces))
 
 -- where it is own, drop is never 9
-pub record DropFull (s n : ℕ) (m : Lent) : Type 0 where
+pub record DropFull (s : Name) (n : ℕ) (m : Lent) : Type 0 where
   pub own : 0 < owned s m → TooFew (Do (Drop s n)) m → ⊥
   pub not-own : NotOwn (Do (Drop s n)) s m
 
 -- and pullup is 9 exactly when it wants two, nothing is free and one piece would be given back
-pub record PullupFull (s n : ℕ) (m : Lent) : Type 0 where
+pub record PullupFull (s : Name) (n : ℕ) (m : Lent) : Type 0 where
   pub own : 0 < owned s m
       → TooFew (Do (Pullup s n)) m ↔ ((wanted (Do (Pullup s n)) m .pieces ≡ 2) × (left m .pieces ≡ 0) × (length (wanted (Do (Pullup s n)) m .back) ≡ 1))
   pub not-own : NotOwn (Do (Pullup s n)) s m
 
 -- The claim about both calls on any bytes, proved in proofs/Full.antt.
-pub record FullOk (s n : ℕ) (m : Lent) : Type 0 where
+pub record FullOk (s : Name) (n : ℕ) (m : Lent) : Type 0 where
   pub drop : WantsPieces (Do (Drop s n)) m → DropFull s n m
   pub pullup : WantsPieces (Do (Pullup s n)) m → PullupFull s n m

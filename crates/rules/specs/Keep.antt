@@ -10,7 +10,7 @@ use Rattle.rules.specs.Tables.{Tables, piece, headOf, setPiece, withPlac
 use Rattle.rules.specs.Chain.{State, Stretch, spans, lengthOf, ownPieces, cutOut, reads, withTables, overlaps, ownOf}
 use Rattle.rules.specs.Room.{freePieces}
 use Rattle.rules.specs.Build.{built, builtLink, behindOwn}
-use Rattle.rules.specs.Rule.{Rule, _⇐_, unnamed, want, alters, Meaning, means, reading, Asks, asking}
+use Rattle.rules.specs.Rule.{Rule, Name, _⇐_, unnamed, want, alters, Meaning, means, reading, Asks, asking}
 
 -- the stretches that stay, the last one shortened
 abbrev pub kept : Tables → ℕ → ℕ → List Stretch
@@ -49,18 +49,18 @@ keepAfter s n S =
     let T = S .tables in
     if keepsAll T s n then S else keptBy S s (keptOwn T s n) (kept T s n) (keptNotOwn T s n)
 
-abbrev pub keep : ℕ → ℕ → State → Rule
+abbrev pub keep : Name → ℕ → State → Rule
 keep s n S =
     let T = S .tables in
-    alters ((Slip ⇐ unnamed T s) ∷ (Range ⇐ ltb (lengthOf T s) n) ∷ [])
-    (want 0 (if keepsAll T s n then 0 else length (keptNotOwn T s n)) 0) 0 (keepAfter s n S)
+    alters ((Slip ⇐ unnamed T s) ∷ (Range ⇐ ltb (lengthOf T (s .slip)) n) ∷ [])
+    (want 0 (if keepsAll T (s .slip) n then 0 else length (keptNotOwn T (s .slip) n)) 0) 0 (keepAfter (s .slip) n S)
 
 -- a piece for each piece that the n bytes overlap and that is not own, where they are not the whole
-abbrev pub keepAsks : ℕ → ℕ → State → Asks
+abbrev pub keepAsks : Name → ℕ → State → Asks
 keepAsks s n S =
     let T = S .tables in
-    asking 0 n 0 (want 0 (if eqb n (length (reads S s)) then 0 else overlaps (spans T s) 0 0 n - length (ownOf T s)) 0)
+    asking 0 n 0 (want 0 (if eqb n (length (reads S (s .slip))) then 0 else overlaps (spans T (s .slip)) 0 0 n - length (ownOf T (s .slip))) 0)
 
 -- s reads the first n of its bytes
-abbrev pub keepCall : ℕ → ℕ → Meaning
-keepCall s n = means (s ∷ []) (keep s n) (λ S. reading s (take n (reads S s)) ∷ []) (keepAsks s n)
+abbrev pub keepCall : Name → ℕ → Meaning
+keepCall s n = means (s ∷ []) (keep s n) (λ S. reading (s .slip) (take n (reads S (s .slip))) ∷ []) (keepAsks s n)

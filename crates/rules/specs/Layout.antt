@@ -8,7 +8,7 @@ abbrev pub mark : List ℕ
 mark = 83 ∷ 76 ∷ 80 ∷ []
 
 abbrev pub version : ℕ
-version = 1
+version = 2
 
 -- The header: mark (3 bytes), then version, B, P and S (2 bytes each), at these bytes.
 abbrev pub versionAt : ℕ
@@ -26,9 +26,9 @@ slipsAt = 9
 abbrev pub headerLength : ℕ
 headerLength = 11
 
--- the bytes of a slip's entry, of a piece's, and of a buffer's count
+-- the bytes of a slip's entry (its state, then its serial), of a piece's, and of a buffer's count
 abbrev pub slipWidth : ℕ
-slipWidth = 2
+slipWidth = 4
 
 abbrev pub pieceWidth : ℕ
 pieceWidth = 10
@@ -39,6 +39,9 @@ countWidth = 2
 -- where the entries stand: first the slips', then the pieces', then the counts
 abbrev pub slipAt : ℕ → ℕ
 slipAt s = headerLength + slipWidth * s
+
+abbrev pub serialAt : ℕ → ℕ
+serialAt s = slipAt s + 2
 
 abbrev pub pieceAt : ℕ → ℕ → ℕ
 pieceAt S d = slipAt S + pieceWidth * d

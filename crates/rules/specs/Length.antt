@@ -3,11 +3,11 @@ use mathlib.Core.List.{[], _∷_}
 use Prim.Native.Nat.{ℕ}
 use Rattle.kinds.specs.declared.Refusal.the-variants.{Slip}
 use Rattle.rules.specs.Chain.{State, lengthOf}
-use Rattle.rules.specs.Rule.{Rule, _⇐_, unnamed, answers, Meaning, looks, asksNothing}
+use Rattle.rules.specs.Rule.{Rule, Name, _⇐_, unnamed, answers, Meaning, looks, asksNothing}
 
-abbrev pub chainLength : ℕ → State → Rule
-chainLength s S = answers ((Slip ⇐ unnamed (S .tables) s) ∷ []) (lengthOf (S .tables) s) S
+abbrev pub chainLength : Name → State → Rule
+chainLength s S = answers ((Slip ⇐ unnamed (S .tables) s) ∷ []) (lengthOf (S .tables) (s .slip)) S
 
 -- it changes nothing, and is lent nothing
-abbrev pub lengthCall : ℕ → Meaning
+abbrev pub lengthCall : Name → Meaning
 lengthCall s = looks (s ∷ []) [] (chainLength s) asksNothing

@@ -37,6 +37,7 @@ pub mod After
 pub mod Takes
 pub mod Answers
 pub mod Lists
+pub mod Serials
 pub mod Still
 pub mod Fills
 pub mod Morning

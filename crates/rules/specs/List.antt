@@ -5,7 +5,7 @@ use lib.ListN.{length}
 use lib.Dec.{ltb}
 use Rattle.kinds.specs.declared.Refusal.the-variants.{Slip, Narrow}
 use Rattle.rules.specs.Chain.{State, Stretch, spans, positionOf, chain}
-use Rattle.rules.specs.Rule.{Rule, _⇐_, unnamed, want, noView, Meaning, looks, Asks, asking}
+use Rattle.rules.specs.Rule.{Rule, Name, _⇐_, unnamed, want, noView, Meaning, looks, Asks, asking}
 use Rattle.rules.specs.Read.{copied}
 
 -- the records of stretches, two numbers each: the position in storage, then the length (a scatter list)
@@ -13,9 +13,9 @@ unfoldable pub records : List ℕ → List Stretch → List ℕ
 records Z [] = []
 records Z (x ∷ xs) = positionOf Z x ∷ x .len ∷ records Z xs
 
-abbrev pub wireList : ℕ → List ℕ → State → Rule
+abbrev pub wireList : Name → List ℕ → State → Rule
 wireList s list S =
-    let xs = spans (S .tables) s in
+    let xs = spans (S .tables) (s .slip) in
     record {
       judged = (Slip ⇐ unnamed (S .tables) s) ∷ (Narrow ⇐ ltb (length list) (length (records (S .tables .stock) xs))) ∷ [];
       wants = want 0 0 0;
@@ -26,9 +26,9 @@ wireList s list S =
     }
 
 -- two numbers for each piece, copied
-abbrev pub listAsks : ℕ → State → Asks
-listAsks s S = asking 0 0 (2 * length (chain (S .tables) s)) (want 0 0 0)
+abbrev pub listAsks : Name → State → Asks
+listAsks s S = asking 0 0 (2 * length (chain (S .tables) (s .slip))) (want 0 0 0)
 
 -- it changes nothing, and is lent the list
-abbrev pub listCall : ℕ → List ℕ → Meaning
+abbrev pub listCall : Name → List ℕ → Meaning
 listCall s list = looks (s ∷ []) list (wireList s list) (listAsks s)

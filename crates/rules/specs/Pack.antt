@@ -10,7 +10,7 @@ use Rattle.rules.specs.Tables.{Tables}
 use Rattle.rules.specs.Chain.{State, chain, lengthOf, reads, withStorage}
 use Rattle.rules.specs.Room.{freePieces, newBuffers}
 use Rattle.rules.specs.Build.{plain, underOld, buffersFor, laid, stored}
-use Rattle.rules.specs.Rule.{Rule, _⇐_, unnamed, Wants, want, alters, Meaning, means, reading, Asks, asksNew}
+use Rattle.rules.specs.Rule.{Rule, Name, _⇐_, unnamed, Wants, want, alters, Meaning, means, reading, Asks, asksNew}
 
 -- a chain of at most one piece: nothing changes
 abbrev pub inOne : Tables → ℕ → Bool
@@ -26,15 +26,15 @@ packAfter s S =
 unfoldable pub packWants : Tables → ℕ → Wants
 packWants T s = if inOne T s then want 0 0 0 else want 0 (buffersFor (lengthOf T s)) (buffersFor (lengthOf T s))
 
-abbrev pub pack : ℕ → State → Rule
-pack s S = alters ((Slip ⇐ unnamed (S .tables) s) ∷ []) (packWants (S .tables) s) 0 (packAfter s S)
+abbrev pub pack : Name → State → Rule
+pack s S = alters ((Slip ⇐ unnamed (S .tables) s) ∷ []) (packWants (S .tables) (s .slip)) 0 (packAfter (s .slip) S)
 
 -- a piece and a buffer for each 512 bytes begun, where the chain has more than one piece
-abbrev pub packAsks : ℕ → State → Asks
+abbrev pub packAsks : Name → State → Asks
 packAsks s S =
-    let k = buffersFor (length (reads S s)) in
-    asksNew (if leb (length (chain (S .tables) s)) 1 then want 0 0 0 else want 0 k k)
+    let k = buffersFor (length (reads S (s .slip))) in
+    asksNew (if leb (length (chain (S .tables) (s .slip))) 1 then want 0 0 0 else want 0 k k)
 
 -- s reads as before
-abbrev pub packCall : ℕ → Meaning
-packCall s = means (s ∷ []) (pack s) (λ S. reading s (reads S s) ∷ []) (packAsks s)
+abbrev pub packCall : Name → Meaning
+packCall s = means (s ∷ []) (pack s) (λ S. reading (s .slip) (reads S (s .slip)) ∷ []) (packAsks s)

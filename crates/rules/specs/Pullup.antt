@@ -11,7 +11,7 @@ use Rattle.rules.specs.Tables.{Tables}
 use Rattle.rules.specs.Chain.{State, spans, firstLength, lengthOf, reads, withStorage}
 use Rattle.rules.specs.Room.{newBuffers}
 use Rattle.rules.specs.Build.{Plan, underFreed, laid, stored}
-use Rattle.rules.specs.Rule.{Rule, _⇐_, unnamed, Wants, want, giving, alters, Meaning, means, reading, Asks, asking}
+use Rattle.rules.specs.Rule.{Rule, Name, _⇐_, unnamed, Wants, want, giving, alters, Meaning, means, reading, Asks, asking}
 use Rattle.rules.specs.Drop.{dropped, dropBack, dropPieces, frontOwn}
 
 -- n bytes on a new buffer, before what drop of n leaves
@@ -34,17 +34,18 @@ pullupAfter s n S =
 unfoldable pub pullupWants : Tables → ℕ → ℕ → Wants
 pullupWants T s n = if inFirst T s n then want 0 0 0 else giving (dropBack T s n) (suc (length (dropped T s n .more))) 1
 
-abbrev pub pullup : ℕ → ℕ → State → Rule
+abbrev pub pullup : Name → ℕ → State → Rule
 pullup s n S =
     let T = S .tables in
-    alters ((Slip ⇐ unnamed T s) ∷ (Long ⇐ ltb bufferSize n) ∷ (Range ⇐ ltb (lengthOf T s) n) ∷ []) (pullupWants T s n) 0 (pullupAfter s n S)
+    alters ((Slip ⇐ unnamed T s) ∷ (Long ⇐ ltb bufferSize n) ∷ (Range ⇐ ltb (lengthOf T (s .slip)) n) ∷ [])
+    (pullupWants T (s .slip) n) 0 (pullupAfter (s .slip) n S)
 
 -- n bytes at once; where the first piece does not have them, a piece and a buffer, and what drop of n asks and gives back first
-abbrev pub pullupAsks : ℕ → ℕ → State → Asks
+abbrev pub pullupAsks : Name → ℕ → State → Asks
 pullupAsks s n S =
     let T = S .tables in
-    asking n n 0 (if leb n (firstLength (spans T s)) then want 0 0 0 else giving (frontOwn T s n) (1 + dropPieces T s n) 1)
+    asking n n 0 (if leb n (firstLength (spans T (s .slip))) then want 0 0 0 else giving (frontOwn T (s .slip) n) (1 + dropPieces T (s .slip) n) 1)
 
 -- s reads as before
-abbrev pub pullupCall : ℕ → ℕ → Meaning
-pullupCall s n = means (s ∷ []) (pullup s n) (λ S. reading s (reads S s) ∷ []) (pullupAsks s n)
+abbrev pub pullupCall : Name → ℕ → Meaning
+pullupCall s n = means (s ∷ []) (pullup s n) (λ S. reading (s .slip) (reads S (s .slip)) ∷ []) (pullupAsks s n)

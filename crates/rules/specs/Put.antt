@@ -2,6 +2,7 @@
 use mathlib.Core.List.{List, [], _∷_}
 use Prim.Native.Nat.{ℕ}
 use lib.ListN.{length}
+use Rattle.rules.specs.Tables.{nameOf}
 use Rattle.rules.specs.Chain.{State, stateOf}
 use Rattle.rules.specs.Room.{freePieces, newSlip, newBuffers}
 use Rattle.rules.specs.Build.{plain, underNew, buffersFor, laid, stored}
@@ -16,7 +17,7 @@ putAfter input S =
 abbrev pub put : List ℕ → State → Rule
 put input S =
     let k = buffersFor (length input) in
-    alters [] (want 1 k k) (newSlip (S .tables)) (putAfter input S)
+    alters [] (want 1 k k) (nameOf (S .tables) (newSlip (S .tables))) (putAfter input S)
 
 -- a new slip, and a piece and a buffer for each 512 bytes begun
 abbrev pub putAsks : List ℕ → State → Asks

@@ -5,7 +5,7 @@ use mathlib.Core.Bool.{Bool, not, _&&_}
 use Prim.Native.Nat.{ℕ, suc, _+_, _<_}
 use lib.Dec.{eqb}
 use Rattle.rules.specs.Basics.{Is, bit, sumTo, anyTo, table, member}
-use Rattle.rules.specs.Tables.{Tables, blank, isBlank, piece, bufferCount, headOf, slipTotal, pieceTotal, bufferTotal, withCount, withBoth}
+use Rattle.rules.specs.Tables.{Tables, blank, isBlank, piece, bufferCount, headOf, serial, slipTotal, pieceTotal, bufferTotal, withCount, withBoth}
 use Rattle.rules.specs.Chain.{follow, chain}
 use Rattle.rules.specs.Sound.{leads, heads}
 use Rattle.rules.specs.Room.{isVacant}
@@ -36,10 +36,10 @@ countedBy T f g = withBoth T (table (pieceTotal T) (λ d. withCount (piece T d) 
 unfoldable pub recounted : Tables → Tables
 recounted T = countedBy T (references T) (holders T)
 
--- what the recount leaves: slips vacant, pieces not reached, buffers without references
+-- what the recount leaves: slips vacant below the last serial, pieces not reached, buffers without references
 unfoldable pub leaves : Tables → Spare
 leaves T =
-    spare (sumTo (slipTotal T) (λ s. bit (isVacant T s)))
+    spare (sumTo (slipTotal T) (λ s. bit (isVacant T s && not (eqb (serial T s) 65535))))
     (sumTo (pieceTotal T) (λ d. bit (not (reached T d))))
     (sumTo (bufferTotal T) (λ b. bit (eqb (holders T b) 0)))
 

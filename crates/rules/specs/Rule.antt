@@ -3,14 +3,15 @@ use mathlib.Core.Bool.{Bool, true, false, not, _&&_}
 use mathlib.Core.List.{List, [], _∷_, _++_}
 use Prim.Native.Nat.{ℕ, _+_}
 use lib.ListN.{length}
-use lib.Dec.{ltb}
+use lib.Dec.{ltb, eqb}
 use Rattle.kinds.specs.declared.Refusal.{Refusal}
 use Rattle.kinds.specs.declared.Refusal.the-variants.{Slips, Pieces, Buffers}
 use Rattle.kinds.specs.Refusal.{refusalCode}
+use Rattle.kinds.specs.Serial.{slipIn, serialIn}
 use Rattle.rules.specs.Basics.{if_then_else_}
-use Rattle.rules.specs.Tables.{Tables, slipTotal}
+use Rattle.rules.specs.Tables.{Tables, serial, slipTotal}
 use Rattle.rules.specs.Chain.{State}
-use Rattle.rules.specs.Room.{isVacant, vacantSlips, freePieces, freeBuffers}
+use Rattle.rules.specs.Room.{isVacant, readySlips, freePieces, freeBuffers}
 
 -- A refusal, and whether its cause is there.
 pub record Judged : Type 0 where
@@ -26,9 +27,26 @@ unfoldable pub firstCode : List Judged → ℕ
 firstCode [] = 0
 firstCode (j ∷ js) = if j .applies then refusalCode (j .refusal) else firstCode js
 
--- slip s is S or more, or vacant
-abbrev pub unnamed : Tables → ℕ → Bool
-unnamed T s = not (ltb s (slipTotal T) && not (isVacant T s))
+-- What a caller gives for a slip: its number and its serial (a handle and its generation).
+pub record Name : Type 0 where
+  pub slip : ℕ
+  pub serial : ℕ
+
+abbrev pub name : ℕ → ℕ → Name
+name s k = record { slip = s; serial = k }
+
+-- the name that a number answers, which is the slip's number + 65,536 times its serial
+abbrev pub answered : ℕ → Name
+answered n = name (slipIn n) (serialIn n)
+
+-- the slips of names
+abbrev pub slipsOf : List Name → List ℕ
+slipsOf [] = []
+slipsOf (x ∷ xs) = x .slip ∷ slipsOf xs
+
+-- the slip of x is S or more, or vacant, or its serial is another
+abbrev pub unnamed : Tables → Name → Bool
+unnamed T x = not (ltb (x .slip) (slipTotal T) && (not (isVacant T (x .slip)) && eqb (serial T (x .slip)) (x .serial)))
 
 -- How many new slips, pieces and buffers a call wants, and the pieces that it gives back first.
 pub record Wants : Type 0 where
@@ -45,7 +63,7 @@ want s p b = record { slips = s; pieces = p; back = []; buffers = b }
 abbrev pub giving : List ℕ → ℕ → ℕ → Wants
 giving ds p b = record { slips = 0; pieces = p; back = ds; buffers = b }
 
--- How many slips are vacant, and how many pieces and buffers free.
+-- How many slips may be given, and how many pieces and buffers are free.
 pub record Spare : Type 0 where
   pub slips : ℕ
   pub pieces : ℕ
@@ -74,7 +92,7 @@ asksNew w = asking 0 0 0 w
 
 -- the room at entry
 abbrev pub room : Tables → Spare
-room T = spare (length (vacantSlips T)) (length (freePieces T)) (length (freeBuffers T))
+room T = spare (length (readySlips T)) (length (freePieces T)) (length (freeBuffers T))
 
 -- Where show's view starts: in the scratch (1) or in storage (0), and at which byte.
 pub record View : Type 0 where
@@ -128,19 +146,19 @@ reading s xs = record { slip = s; bytes = xs; vacated = false }
 abbrev pub vacating : ℕ → Change
 vacating s = record { slip = s; bytes = []; vacated = true }
 
--- The meaning of a call: its rule; the output, scratch or list that it is lent; the slips that it
--- names; what changes for callers, the slip that gets what is new first; and what it asks.
+-- The meaning of a call: its rule; the output, scratch or list that it is lent; the names that it
+-- gives; what changes for callers, the slip that gets what is new first; and what it asks.
 pub record Meaning : Type 0 where
   pub rule : State → Rule
   pub lent : List ℕ
-  pub names : List ℕ
+  pub names : List Name
   pub changes : State → List Change
   pub asks : State → Asks
 
 -- a call that names slips, is lent no output, and changes slips
-abbrev pub means : List ℕ → (State → Rule) → (State → List Change) → (State → Asks) → Meaning
+abbrev pub means : List Name → (State → Rule) → (State → List Change) → (State → Asks) → Meaning
 means ns r cs a = record { rule = r; lent = []; names = ns; changes = cs; asks = a }
 
 -- a call that names slips, is lent an output, and changes none
-abbrev pub looks : List ℕ → List ℕ → (State → Rule) → (State → Asks) → Meaning
+abbrev pub looks : List Name → List ℕ → (State → Rule) → (State → Asks) → Meaning
 looks ns out r a = record { rule = r; lent = out; names = ns; changes = λ S. []; asks = a }

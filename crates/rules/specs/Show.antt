@@ -8,7 +8,7 @@ use Rattle.kinds.specs.declared.Refusal.the-variants.{Slip, Long, Range, Narrow
 use Rattle.kinds.specs.Limits.{bufferSize}
 use Rattle.rules.specs.Basics.{if_then_else_}
 use Rattle.rules.specs.Chain.{State, Stretch, spans, firstLength, lengthOf, positionOf, reads}
-use Rattle.rules.specs.Rule.{Rule, _⇐_, unnamed, want, View, noView, Meaning, looks, Asks, asking}
+use Rattle.rules.specs.Rule.{Rule, Name, _⇐_, unnamed, want, View, noView, Meaning, looks, Asks, asking}
 use Rattle.rules.specs.Read.{copied}
 
 -- the first piece does not have the n bytes
@@ -23,23 +23,23 @@ viewOf Z (x ∷ xs) n =
     else if scattered (x ∷ xs) n then record { inScratch = 1; start = 0 }
     else record { inScratch = 0; start = positionOf Z x }
 
-abbrev pub show : ℕ → ℕ → List ℕ → State → Rule
+abbrev pub show : Name → ℕ → List ℕ → State → Rule
 show s n scratch S =
     let T = S .tables in
     record {
-      judged = (Slip ⇐ unnamed T s) ∷ (Long ⇐ ltb bufferSize n) ∷ (Range ⇐ ltb (lengthOf T s) n)
-          ∷ (Narrow ⇐ (scattered (spans T s) n && ltb (length scratch) n)) ∷ [];
+      judged = (Slip ⇐ unnamed T s) ∷ (Long ⇐ ltb bufferSize n) ∷ (Range ⇐ ltb (lengthOf T (s .slip)) n)
+          ∷ (Narrow ⇐ (scattered (spans T (s .slip)) n && ltb (length scratch) n)) ∷ [];
       wants = want 0 0 0;
       after = S;
       number = n;
-      output = if scattered (spans T s) n then copied (take n (reads S s)) scratch else scratch;
-      view = viewOf (T .stock) (spans T s) n;
+      output = if scattered (spans T (s .slip)) n then copied (take n (reads S (s .slip))) scratch else scratch;
+      view = viewOf (T .stock) (spans T (s .slip)) n;
     }
 
 -- n bytes at once, copied where the first piece does not have them
-abbrev pub showAsks : ℕ → ℕ → State → Asks
-showAsks s n S = asking n n (if ltb (firstLength (spans (S .tables) s)) n then n else 0) (want 0 0 0)
+abbrev pub showAsks : Name → ℕ → State → Asks
+showAsks s n S = asking n n (if ltb (firstLength (spans (S .tables) (s .slip))) n then n else 0) (want 0 0 0)
 
 -- it changes nothing, and is lent the scratch
-abbrev pub showCall : ℕ → ℕ → List ℕ → Meaning
+abbrev pub showCall : Name → ℕ → List ℕ → Meaning
 showCall s n scratch = looks (s ∷ []) scratch (show s n scratch) (showAsks s n)

@@ -9,7 +9,7 @@ use Rattle.rules.specs.Tables.{freshTables}
 use Rattle.rules.specs.Bytes.{decode, encode}
 use Rattle.rules.specs.Chain.{State, stateOf}
 use Rattle.rules.specs.Sound.{Lent, sound, lent}
-use Rattle.rules.specs.Rule.{Rule, View, noView, codeIn, Meaning}
+use Rattle.rules.specs.Rule.{Rule, View, noView, codeIn, Name, Meaning}
 use Rattle.rules.specs.Open.{openable}
 use Rattle.rules.specs.Audit.{auditCall}
 use Rattle.rules.specs.Put.{putCall}
@@ -30,18 +30,18 @@ use Rattle.rules.specs.List.{listCall}
 pub data Operation : Type 0 where
   Audit : Operation
   Put : List ℕ → Operation
-  Free : ℕ → Operation
-  Dup : ℕ → Operation
-  Cut : ℕ → ℕ → ℕ → Operation
-  Append : ℕ → ℕ → Operation
-  Drop : ℕ → ℕ → Operation
-  Keep : ℕ → ℕ → Operation
-  Pullup : ℕ → ℕ → Operation
-  Pack : ℕ → Operation
-  Length : ℕ → Operation
-  Read : ℕ → ℕ → ℕ → List ℕ → Operation
-  Show : ℕ → ℕ → List ℕ → Operation
-  WireList : ℕ → List ℕ → Operation
+  Free : Name → Operation
+  Dup : Name → Operation
+  Cut : Name → ℕ → ℕ → Operation
+  Append : Name → Name → Operation
+  Drop : Name → ℕ → Operation
+  Keep : Name → ℕ → Operation
+  Pullup : Name → ℕ → Operation
+  Pack : Name → Operation
+  Length : Name → Operation
+  Read : Name → ℕ → ℕ → List ℕ → Operation
+  Show : Name → ℕ → List ℕ → Operation
+  WireList : Name → List ℕ → Operation
 
 -- A call opens the pool anew with counts B, P and S, or does an operation.
 pub data Call : Type 0 where

@@ -7,8 +7,8 @@ use lib.ListN.{length, take}
 use Rattle.rules.specs.Basics.{places, passing}
 use Rattle.rules.specs.Tables.{Tables, slipTotal, pieceTotal, bufferTotal}
 use Rattle.rules.specs.Chain.{State, Stretch, chain, spans}
-use Rattle.rules.specs.Room.{isVacant, isFree, isFreeWith, isUnheld, vacantSlips, freeWith, freeBuffers}
-use Rattle.rules.specs.Rule.{Wants, room, Change}
+use Rattle.rules.specs.Room.{isVacant, isFree, isFreeWith, isUnheld, readySlips, freeWith, freeBuffers}
+use Rattle.rules.specs.Rule.{Wants, room, Change, Name, slipsOf}
 use Rattle.rules.specs.Step.{Operation, meaning, rule}
 
 -- the slip whose chain gets what is new: that of the first change, or else the first named
@@ -18,7 +18,7 @@ firstSlip [] (s ∷ ns) = s
 firstSlip [] [] = 0
 
 abbrev pub target : Operation → State → ℕ
-target o S = firstSlip (meaning o .changes S) (meaning o .names)
+target o S = firstSlip (meaning o .changes S) (slipsOf (meaning o .names))
 
 -- those free in T and no longer in T′; of pieces, those free or given back first
 abbrev pub tookSlips : Tables → Tables → List ℕ
@@ -32,7 +32,7 @@ tookBuffers T T′ = places (λ b. isUnheld T b && not (isUnheld T′ b)) 0 (buf
 
 -- the claim about an operation from T to T′ that wants w and leaves its new pieces under slip t
 pub record Took (T T′ : Tables) (w : Wants) (t : ℕ) : Type 0 where
-  pub slips : tookSlips T T′ ≡ take (w .slips) (vacantSlips T)
+  pub slips : tookSlips T T′ ≡ take (w .slips) (readySlips T)
   pub pieces : tookPieces T T′ (w .back) ≡ take (w .pieces) (freeWith T (w .back))
   pub buffers : tookBuffers T T′ ≡ take (w .buffers) (freeBuffers T)
   -- there is room for what is wanted

@@ -2,12 +2,13 @@
 use calls_look::Shown;
 use gather::Gathered;
 use kinds::Answer;
+use kinds::Serial;
 use kinds::SlipNumber;
 use list::Stretch;
 ghost use mathlib.Core.Path.{_≡_};
 ghost use mathlib.Core.List.{[]};
 ghost use Rattle.rules.specs.Sound.{lent};
-ghost use Rattle.rules.specs.Rule.{noView};
+ghost use Rattle.rules.specs.Rule.{name, noView};
 ghost use Rattle.rules.specs.Gather.{gather};
 ghost use Rattle.rules.specs.Step.{Audit, Put, Free, Dup, Cut, Append, Drop, Keep, Pullup, Pack, Length, Read, Show, WireList, Open, Do, step};
 ghost use Rattle.gather.specs.Sum.{gatheredOf};
@@ -49,19 +50,20 @@ pub extern "C" fn slp_put(pool: &mut [u8], storage: &mut [u8], input: &[u8]) -> 
 
 // free: a slip gives up its chain.
 #[no_mangle]
-pub extern "C" fn slp_free(pool: &mut [u8], storage: &[u8], slip: u16) -> Answer
+pub extern "C" fn slp_free(pool: &mut [u8], storage: &[u8], slip: u16, serial: u16) -> Answer
     ensures { λ r. ⌜ resultOf r (now (pool .exit)) (now (storage .entry)) [] noView
-        ≡ step (Do (Free slip)) (lent (now (pool .entry)) (now (storage .entry))) ⌝ }
+        ≡ step (Do (Free (name slip serial))) (lent (now (pool .entry)) (now (storage .entry))) ⌝ }
 {
-    calls_change::free(pool, storage, SlipNumber(slip))
+    calls_change::free(pool, storage, SlipNumber(slip), Serial(serial))
 }
 
 // dup: a new slip on the same chain.
 #[no_mangle]
-pub extern "C" fn slp_dup(pool: &mut [u8], storage: &[u8], slip: u16) -> Answer
-    ensures { λ r. ⌜ resultOf r (now (pool .exit)) (now (storage .entry)) [] noView ≡ step (Do (Dup slip)) (lent (now (pool .entry)) (now (storage .entry))) ⌝ }
+pub extern "C" fn slp_dup(pool: &mut [u8], storage: &[u8], slip: u16, serial: u16) -> Answer
+    ensures { λ r. ⌜ resultOf r (now (pool .exit)) (now (storage .entry)) [] noView
+        ≡ step (Do (Dup (name slip serial))) (lent (now (pool .entry)) (now (storage .entry))) ⌝ }
 {
-    calls_new::dup(pool, storage, SlipNumber(slip))
+    calls_new::dup(pool, storage, SlipNumber(slip), Serial(serial))
 }
 
 // cut: a new slip on a range of a chain.
@@ -70,66 +72,107 @@ pub extern "C" fn slp_cut(
     pool: &mut [u8],
     storage: &[u8],
     slip: u16,
+    serial: u16,
     offset: u32,
     length: u32,
 ) -> Answer
     ensures { λ r. ⌜ resultOf r (now (pool .exit)) (now (storage .entry)) [] noView
-        ≡ step (Do (Cut slip offset length)) (lent (now (pool .entry)) (now (storage .entry))) ⌝ }
+        ≡ step (Do (Cut (name slip serial) offset length)) (lent (now (pool .entry)) (now (storage .entry))) ⌝ }
 {
-    calls_new::cut(pool, storage, SlipNumber(slip), offset, length)
+    calls_new::cut(
+        pool,
+        storage,
+        SlipNumber(slip),
+        Serial(serial),
+        offset,
+        length,
+    )
 }
 
 // append: one chain behind another.
 #[no_mangle]
-pub extern "C" fn slp_append(pool: &mut [u8], storage: &[u8], a: u16, b: u16) -> Answer
+pub extern "C" fn slp_append(
+    pool: &mut [u8],
+    storage: &[u8],
+    a: u16,
+    a_serial: u16,
+    b: u16,
+    b_serial: u16,
+) -> Answer
     ensures { λ r. ⌜ resultOf r (now (pool .exit)) (now (storage .entry)) [] noView
-        ≡ step (Do (Append a b)) (lent (now (pool .entry)) (now (storage .entry))) ⌝ }
+        ≡ step (Do (Append (name a «a_serial») (name b «b_serial»))) (lent (now (pool .entry)) (now (storage .entry))) ⌝ }
 {
-    calls_change::append(pool, storage, SlipNumber(a), SlipNumber(b))
+    calls_change::append(
+        pool,
+        storage,
+        SlipNumber(a),
+        Serial(a_serial),
+        SlipNumber(b),
+        Serial(b_serial),
+    )
 }
 
 // drop: the first bytes of a chain go.
 #[no_mangle]
-pub extern "C" fn slp_drop(pool: &mut [u8], storage: &[u8], slip: u16, n: u32) -> Answer
+pub extern "C" fn slp_drop(
+    pool: &mut [u8],
+    storage: &[u8],
+    slip: u16,
+    serial: u16,
+    n: u32,
+) -> Answer
     ensures { λ r. ⌜ resultOf r (now (pool .exit)) (now (storage .entry)) [] noView
-        ≡ step (Do (Drop slip n)) (lent (now (pool .entry)) (now (storage .entry))) ⌝ }
+        ≡ step (Do (Drop (name slip serial) n)) (lent (now (pool .entry)) (now (storage .entry))) ⌝ }
 {
-    calls_change::drop(pool, storage, SlipNumber(slip), n)
+    calls_change::drop(pool, storage, SlipNumber(slip), Serial(serial), n)
 }
 
 // keep: the first bytes of a chain stay.
 #[no_mangle]
-pub extern "C" fn slp_keep(pool: &mut [u8], storage: &[u8], slip: u16, n: u32) -> Answer
+pub extern "C" fn slp_keep(
+    pool: &mut [u8],
+    storage: &[u8],
+    slip: u16,
+    serial: u16,
+    n: u32,
+) -> Answer
     ensures { λ r. ⌜ resultOf r (now (pool .exit)) (now (storage .entry)) [] noView
-        ≡ step (Do (Keep slip n)) (lent (now (pool .entry)) (now (storage .entry))) ⌝ }
+        ≡ step (Do (Keep (name slip serial) n)) (lent (now (pool .entry)) (now (storage .entry))) ⌝ }
 {
-    calls_change::keep(pool, storage, SlipNumber(slip), n)
+    calls_change::keep(pool, storage, SlipNumber(slip), Serial(serial), n)
 }
 
 // pullup: the first bytes of a chain in one piece.
 #[no_mangle]
-pub extern "C" fn slp_pullup(pool: &mut [u8], storage: &mut [u8], slip: u16, n: u32) -> Answer
+pub extern "C" fn slp_pullup(
+    pool: &mut [u8],
+    storage: &mut [u8],
+    slip: u16,
+    serial: u16,
+    n: u32,
+) -> Answer
     ensures { λ r. ⌜ resultOf r (now (pool .exit)) (now (storage .exit)) [] noView
-        ≡ step (Do (Pullup slip n)) (lent (now (pool .entry)) (now (storage .entry))) ⌝ }
+        ≡ step (Do (Pullup (name slip serial) n)) (lent (now (pool .entry)) (now (storage .entry))) ⌝ }
 {
-    calls_store::pullup(pool, storage, SlipNumber(slip), n)
+    calls_store::pullup(pool, storage, SlipNumber(slip), Serial(serial), n)
 }
 
 // pack: a chain's bytes put afresh under the same slip.
 #[no_mangle]
-pub extern "C" fn slp_pack(pool: &mut [u8], storage: &mut [u8], slip: u16) -> Answer
-    ensures { λ r. ⌜ resultOf r (now (pool .exit)) (now (storage .exit)) [] noView ≡ step (Do (Pack slip)) (lent (now (pool .entry)) (now (storage .entry))) ⌝ }
+pub extern "C" fn slp_pack(pool: &mut [u8], storage: &mut [u8], slip: u16, serial: u16) -> Answer
+    ensures { λ r. ⌜ resultOf r (now (pool .exit)) (now (storage .exit)) [] noView
+        ≡ step (Do (Pack (name slip serial))) (lent (now (pool .entry)) (now (storage .entry))) ⌝ }
 {
-    calls_store::pack(pool, storage, SlipNumber(slip))
+    calls_store::pack(pool, storage, SlipNumber(slip), Serial(serial))
 }
 
 // length: the byte count of a chain.
 #[no_mangle]
-pub extern "C" fn slp_length(pool: &[u8], storage: &[u8], slip: u16) -> Answer
+pub extern "C" fn slp_length(pool: &[u8], storage: &[u8], slip: u16, serial: u16) -> Answer
     ensures { λ r. ⌜ resultOf r (now (pool .entry)) (now (storage .entry)) [] noView
-        ≡ step (Do (Length slip)) (lent (now (pool .entry)) (now (storage .entry))) ⌝ }
+        ≡ step (Do (Length (name slip serial))) (lent (now (pool .entry)) (now (storage .entry))) ⌝ }
 {
-    calls_look::length(pool, storage, SlipNumber(slip))
+    calls_look::length(pool, storage, SlipNumber(slip), Serial(serial))
 }
 
 // read: copies bytes of a chain to the front of a lent output.
@@ -138,14 +181,23 @@ pub extern "C" fn slp_read(
     pool: &[u8],
     storage: &[u8],
     slip: u16,
+    serial: u16,
     offset: u32,
     length: u32,
     output: &mut [u8],
 ) -> Answer
     ensures { λ r. ⌜ resultOf r (now (pool .entry)) (now (storage .entry)) (now (output .exit)) noView
-        ≡ step (Do (Read slip offset length (now (output .entry)))) (lent (now (pool .entry)) (now (storage .entry))) ⌝ }
+        ≡ step (Do (Read (name slip serial) offset length (now (output .entry)))) (lent (now (pool .entry)) (now (storage .entry))) ⌝ }
 {
-    calls_look::read(pool, storage, SlipNumber(slip), offset, length, output)
+    calls_look::read(
+        pool,
+        storage,
+        SlipNumber(slip),
+        Serial(serial),
+        offset,
+        length,
+        output,
+    )
 }
 
 // show: the first bytes of a chain in one stretch, of storage or of a lent scratch.
@@ -154,22 +206,29 @@ pub extern "C" fn slp_show(
     pool: &[u8],
     storage: &[u8],
     slip: u16,
+    serial: u16,
     n: u32,
     scratch: &mut [u8],
 ) -> Shown
     ensures { λ r. ⌜ shownOf r (now (pool .entry)) (now (storage .entry)) (now (scratch .exit))
-        ≡ step (Do (Show slip n (now (scratch .entry)))) (lent (now (pool .entry)) (now (storage .entry))) ⌝ }
+        ≡ step (Do (Show (name slip serial) n (now (scratch .entry)))) (lent (now (pool .entry)) (now (storage .entry))) ⌝ }
 {
-    calls_look::show(pool, storage, SlipNumber(slip), n, scratch)
+    calls_look::show(pool, storage, SlipNumber(slip), Serial(serial), n, scratch)
 }
 
 // list: where the pieces of a chain lie in storage, two numbers each, to the front of a lent list.
 #[no_mangle]
-pub extern "C" fn slp_list(pool: &[u8], storage: &[u8], slip: u16, list: &mut [u32]) -> Answer
+pub extern "C" fn slp_list(
+    pool: &[u8],
+    storage: &[u8],
+    slip: u16,
+    serial: u16,
+    list: &mut [u32],
+) -> Answer
     ensures { λ r. ⌜ resultOf r (now (pool .entry)) (now (storage .entry)) (now (list .exit)) noView
-        ≡ step (Do (WireList slip (now (list .entry)))) (lent (now (pool .entry)) (now (storage .entry))) ⌝ }
+        ≡ step (Do (WireList (name slip serial) (now (list .entry)))) (lent (now (pool .entry)) (now (storage .entry))) ⌝ }
 {
-    calls_look::list(pool, storage, SlipNumber(slip), list)
+    calls_look::list(pool, storage, SlipNumber(slip), Serial(serial), list)
 }
 
 // gather: the bytes that the records of a list name, copied out of storage to the front of a lent output, with no pool.
@@ -186,12 +245,13 @@ pub extern "C" fn slp_stretches(
     pool: &[u8],
     storage: &[u8],
     slip: u16,
+    serial: u16,
     list: &mut [Stretch],
 ) -> Answer
     ensures { λ r. ⌜ resultOf r (now (pool .entry)) (now (storage .entry)) (numbers (now (list .exit))) noView
-        ≡ step (Do (WireList slip (numbers (now (list .entry))))) (lent (now (pool .entry)) (now (storage .entry))) ⌝ }
+        ≡ step (Do (WireList (name slip serial) (numbers (now (list .entry))))) (lent (now (pool .entry)) (now (storage .entry))) ⌝ }
 {
-    let b = calls_look::begin(pool, storage, SlipNumber(slip), list.len());
+    let b = calls_look::begin(pool, storage, SlipNumber(slip), Serial(serial), list.len());
     let shape = b.shape;
     let mut at = b.link;
     let mut k = 0;

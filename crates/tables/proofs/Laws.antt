@@ -1,9 +1,10 @@
 -- Where the entries of a pool stand: what a load gives, and what a store leaves.
-use Prim.Native.Nat.{ℕ, zero, suc, _+_, _-_, _*_, _<_, _≤_}
+use Prim.Native.Nat.{ℕ, zero, suc, _+_, _-_, _*_, _%_, _<_, _≤_}
 use mathlib.Core.Path.{_≡_, refl, sym, ap, ap₂, _∙_}
 use mathlib.Core.Logic.{_≢_}
 use mathlib.Core.Bool.{Bool, true, false}
 use mathlib.Core.List.{List, [], _∷_, _++_}
+use native.Mathlib.Nat.{mod-eq-of-lt}
 use native.Mathlib.Omega.{arith}
 use lib.Dec.{eqb}
 use lib.ListN.{getD, set, length-set}
@@ -12,10 +13,9 @@ use borrow.Author.Tests.{eqb-true, eqb-false}
 use Rattle.word.specs.Word.{get16, set16}
 use Rattle.word.proofs.Laws.{Apart, length-set16, get16-same, get16-other}
 use Rattle.rules.specs.Basics.{table, Is}
-use Rattle.rules.specs.Layout.{slipAt, pieceAt, countAt, versionAt, buffersAt, piecesAt, slipsAt, headerLength, storageLength}
-use Rattle.rules.specs.Tables.{Piece, Tables, blank, slip, piece, bufferCount, slipTotal, pieceTotal, bufferTotal, setSlip, setPiece, setCount, withPieces}
-use Rattle.rules.specs.Bytes.{buffersIn, piecesIn, slipsIn, pieceIn, decode, encode}
-use Rattle.rules.specs.Sound.{marked}
+use Rattle.rules.specs.Layout.{slipAt, serialAt, pieceAt, countAt, versionAt, buffersAt, piecesAt, slipsAt, headerLength, storageLength}
+use Rattle.rules.specs.Tables.{Piece, Tables, blank, slip, serial, piece, bufferCount, slipTotal, pieceTotal, bufferTotal, setSlip, setSerial, setPiece, setCount, withPieces}
+use Rattle.rules.specs.Bytes.{buffersIn, piecesIn, slipsIn, serialOf, pieceIn, decode, encode}
 use Rattle.rules.specs.Sound.{marked}
 use Rattle.rules.proofs.Bytes.{AllBytes, getD-table, table-same, table-set, decode-slips, decode-pieces, decode-counts, encode-decode}
 use Rattle.layout.specs.declared.Shape.{Shape}
@@ -84,6 +84,10 @@ module _ (p : List ℕ) where
   unfolding decode
   slip-at s h = getD-table (slipsIn p) _ s 0 h
 
+  pub serial-at : (s : ℕ) → s < slipsIn p → serial (decode p) s ≡ serialOf p s
+  unfolding decode
+  serial-at s h = getD-table (slipsIn p) _ s 0 h
+
   pub piece-at : (d : ℕ) → d < piecesIn p → piece (decode p) d ≡ pieceIn p (pieceAt (slipsIn p) d)
   unfolding decode
   piece-at d h = getD-table (piecesIn p) _ d blank h
@@ -100,6 +104,12 @@ module _ (p : List ℕ) where
 module _ {p : List ℕ} {h : Shape} {a r : ℕ} (is : Shaped p h) (got : r ≡ get16 p a) where
   pub load-slip : (s : ℕ) → s < h .slips → a ≡ slipAt s → r ≡ slip (decode p) s
   load-slip s b e = got ∙ ap (get16 p) e ∙ sym (slip-at p s (omega arith))
+
+  -- a serial that was loaded fits 16 bits
+  pub load-serial : (s : ℕ) → s < h .slips → r < 65536 → a ≡ serialAt s → r ≡ serial (decode p) s
+  load-serial s b small e =
+      let g : r ≡ get16 p (serialAt s) = got ∙ ap (get16 p) e in
+      g ∙ sym (mod-eq-of-lt (omega arith)) ∙ sym (serial-at p s (omega arith))
 
   pub load-field : (d k : ℕ) → d < h .pieces → k < 5 → a ≡ pieceAt (h .slips) d + 2 * k → r ≡ field k (piece (decode p) d)
   load-field d k b five e =
@@ -164,6 +174,7 @@ module _ {p q : List ℕ} {h : Shape} (T : Tables) (d : ℕ) (x : Piece) (in-ran
 abbrev tablesOf : ℕ → ℕ → ℕ → List ℕ → Tables
 tablesOf B P S p = record {
   slips = table S (λ s. get16 p (slipAt s));
+  serials = table S (serialOf p);
   pieces = table P (λ d. pieceIn p (pieceAt S d));
   counts = table B (λ b. get16 p (countAt P S b));
   stock = B ∷ [];
@@ -201,6 +212,9 @@ module _ (p : List ℕ) (a v B P S : ℕ) where
   slips-kept : slipAt S ≤ a → table S (λ s. get16 (set16 p a v) (slipAt s)) ≡ table S (λ s. get16 p (slipAt s))
   slips-kept h = table-same S _ _ (λ s b. get16-other p a v (slipAt s) (omega arith))
 
+  serials-kept : ((s : ℕ) → s < S → Apart (serialAt s) a) → table S (serialOf (set16 p a v)) ≡ table S (serialOf p)
+  serials-kept h = table-same S _ _ (λ s b. ap (λ n. n % 65536) (get16-other p a v (serialAt s) (h s b)))
+
   pieces-kept : ((d k : ℕ) → d < P → k < 5 → Apart (pieceAt S d + 2 * k) a) → table P (λ d. pieceIn (set16 p a v) (pieceAt S d)) ≡ table P (λ d. pieceIn p (pieceAt S d))
   pieces-kept h = table-same P _ _ (λ d b. piece-kept p a v (pieceAt S d) (λ k five. h d k b five))
 
@@ -220,6 +234,27 @@ module _ (p : List ℕ) (v : ℕ) {h : Shape} (is : Shaped p h) (small : v < 655
         shaped = shaped-kept p a v (omega arith) is;
         is = decode-kept p a v (omega arith) ∙ (λ i. record {
           slips = table-set S (λ t. get16 p (slipAt t)) (λ t. get16 (set16 p a v) (slipAt t)) s v (get16-same p a v (omega arith) small) (λ t z m. get16-other p a v (slipAt t) (omega arith)) i;
+          serials = serials-kept p a v B P S (λ t z. omega arith) i;
+          pieces = pieces-kept p a v B P S (λ d k y z. omega arith) i;
+          counts = counts-kept p a v B P S (omega arith) i;
+          stock = B ∷ [];
+        });
+      }
+
+  set-serial : (s : ℕ) → s < slipsIn p → Holds (set16 p (serialAt s) v) h (setSerial (decode p) s v)
+  unfolding decode
+  set-serial s b =
+      let l = is .fits .long in
+      let S : ℕ = slipsIn p in
+      let P : ℕ = piecesIn p in
+      let B : ℕ = buffersIn p in
+      let a : ℕ = serialAt s in
+      let here : serialOf (set16 p a v) s ≡ v = ap (λ n. n % 65536) (get16-same p a v (omega arith) small) ∙ mod-eq-of-lt small in
+      record {
+        shaped = shaped-kept p a v (omega arith) is;
+        is = decode-kept p a v (omega arith) ∙ (λ i. record {
+          slips = table-same S (λ t. get16 (set16 p a v) (slipAt t)) (λ t. get16 p (slipAt t)) (λ t z. get16-other p a v (slipAt t) (omega arith)) i;
+          serials = table-set S (serialOf p) (serialOf (set16 p a v)) s v here (λ t z m. ap (λ n. n % 65536) (get16-other p a v (serialAt t) (omega arith))) i;
           pieces = pieces-kept p a v B P S (λ d k y z. omega arith) i;
           counts = counts-kept p a v B P S (omega arith) i;
           stock = B ∷ [];
@@ -243,6 +278,7 @@ module _ (p : List ℕ) (v : ℕ) {h : Shape} (is : Shaped p h) (small : v < 655
         shaped = shaped-kept p a v (omega arith) is;
         is = decode-kept p a v (omega arith) ∙ (λ i. record {
           slips = slips-kept p a v B P S (omega arith) i;
+          serials = serials-kept p a v B P S (λ t z. omega arith) i;
           pieces = table-set P (λ e. pieceIn p (pieceAt S e)) (λ e. pieceIn q (pieceAt S e)) d _ here (λ e y m. piece-kept p a v (pieceAt S e) (λ j z. omega arith)) i;
           counts = counts-kept p a v B P S (omega arith) i;
           stock = B ∷ [];
@@ -261,6 +297,7 @@ module _ (p : List ℕ) (v : ℕ) {h : Shape} (is : Shaped p h) (small : v < 655
         shaped = shaped-kept p a v (omega arith) is;
         is = decode-kept p a v (omega arith) ∙ (λ i. record {
           slips = slips-kept p a v B P S (omega arith) i;
+          serials = serials-kept p a v B P S (λ t z. omega arith) i;
           pieces = pieces-kept p a v B P S (λ d k y z. omega arith) i;
           counts = table-set B (λ t. get16 p (countAt P S t)) (λ t. get16 (set16 p a v) (countAt P S t)) b v (get16-same p a v (omega arith) small) (λ t z m. get16-other p a v (countAt P S t) (omega arith)) i;
           stock = B ∷ [];
@@ -271,6 +308,9 @@ module _ (p : List ℕ) (v : ℕ) {h : Shape} (is : Shaped p h) (small : v < 655
 module _ {p q : List ℕ} {h : Shape} {a v : ℕ} (is : Shaped p h) (small : v < 65536) (put : q ≡ set16 p a v) where
   pub store-slip : (s : ℕ) → s < h .slips → a ≡ slipAt s → Holds q h (setSlip (decode p) s v)
   store-slip s b e = rw (put, e) (set-slip p v is small s (omega arith))
+
+  pub store-serial : (s : ℕ) → s < h .slips → a ≡ serialAt s → Holds q h (setSerial (decode p) s v)
+  store-serial s b e = rw (put, e) (set-serial p v is small s (omega arith))
 
   pub store-field : (d k : ℕ) → d < h .pieces → k < 5 → a ≡ pieceAt (h .slips) d + 2 * k → Holds q h (setPiece (decode p) d (withField k v (piece (decode p) d)))
   store-field d k b five e =

@@ -1,6 +1,7 @@
 // The pool's tables in lent bytes: every entry is loaded and stored here and nowhere else.
 use kinds::BufferNumber;
 use kinds::PieceNumber;
+use kinds::Serial;
 use kinds::SlipNumber;
 use kinds::SlipState;
 use layout::Shape;
@@ -9,7 +10,7 @@ ghost use Prim.Native.Nat.{pred, _<_, _≤_};
 ghost use mathlib.Core.List.{_∷_, _++_};
 ghost use lib.ListN.{length};
 ghost use Rattle.kinds.specs.SlipState.{stateOf};
-ghost use Rattle.rules.specs.Tables.{blank, slip, piece, bufferCount, setSlip, setPiece, withCount, withNext, withPlace, setCount};
+ghost use Rattle.rules.specs.Tables.{blank, slip, serial, piece, bufferCount, setSlip, setSerial, aged, setPiece, withCount, withNext, withPlace, setCount};
 ghost use Rattle.rules.specs.Bytes.{decode};
 ghost use Rattle.tables.specs.Entry.{pieceOf};
 ghost use Rattle.tables.specs.Shape.{Shaped, Becomes, withBase};
@@ -37,6 +38,14 @@ pub fn slip_state(pool: &[u8], shape: Shape, s: SlipNumber) -> SlipState
     ensures { λ r. ⌜ r ≡ stateOf (slip (decode (now (pool .entry))) (s .0)) ⌝ }
 {
     kinds::state_of(slip(pool, shape, s))
+}
+
+// The serial of slip `s`: a handle's generation.
+pub fn serial(pool: &[u8], shape: Shape, s: SlipNumber) -> Serial
+    requires { ⌜ Shaped (now pool) shape × (s .0 < shape .slips) ⌝ }
+    ensures { λ r. ⌜ r ≡ record { 0 = serial (decode (now (pool .entry))) (s .0) } ⌝ }
+{
+    Serial(word::get16(pool, layout::slip_at(s) + 2))
 }
 
 // The link that a slip's entry holds.
@@ -117,6 +126,23 @@ pub fn set_slip(pool: &mut [u8], shape: Shape, s: SlipNumber, v: u16)
     ensures { λ _. ⌜ Becomes (now (pool .entry)) (now (pool .exit)) shape (λ T. setSlip T (s .0) v) ⌝ }
 {
     word::set16(pool, layout::slip_at(s), v);
+}
+
+// Sets the serial of slip `s`: a generation store.
+fn set_serial(pool: &mut [u8], shape: Shape, s: SlipNumber, k: Serial)
+    requires { ⌜ Shaped (now pool) shape × (s .0 < shape .slips) ⌝ }
+    ensures { λ _. ⌜ Becomes (now (pool .entry)) (now (pool .exit)) shape (λ T. setSerial T (s .0) (k .0)) ⌝ }
+{
+    word::set16(pool, layout::slip_at(s) + 2, k.0);
+}
+
+// Moves the serial of slip `s` up by 1, never past the last: a new generation.
+pub fn age(pool: &mut [u8], shape: Shape, s: SlipNumber)
+    requires { ⌜ Shaped (now pool) shape × (s .0 < shape .slips) ⌝ }
+    ensures { λ _. ⌜ Becomes (now (pool .entry)) (now (pool .exit)) shape (λ T. aged T (s .0)) ⌝ }
+{
+    let k = serial(pool, shape, s);
+    set_serial(pool, shape, s, k.older());
 }
 
 // Sets the count of piece `d`: its reference count.

@@ -6,6 +6,7 @@ use native.Mathlib.Numerals.{add-one}
 use lib.ListN.{length, take, getD}
 use lib.Seq.{take-suc}
 use Rattle.rules.specs.Sound.{lent}
+use Rattle.rules.specs.Rule.{Name}
 use Rattle.rules.specs.Step.{Show, Do, step}
 use Rattle.calls_look.specs.declared.Shown.{Shown}
 use Rattle.calls_look.specs.Shown.{viewIn, shownOf, bytesShown}
@@ -34,7 +35,7 @@ bytes-next s i h =
     ∙ ap bytesText one
 
 -- the row of an answer x of show s, n, whose bytes are seen
-module _ {x : Shown} {sc bytes : List ℕ} (p st before : List ℕ) (s n : ℕ) where
+module _ {x : Shown} {sc bytes : List ℕ} (p st before : List ℕ) (s : Name) (n : ℕ) where
   pub shown-row : shownOf x p st sc ≡ step (Do (Show s n before)) (lent p st) → bytes ≡ bytesShown s n before (lent p st)
       → answerText Number (record { code = x .code; number = x .number }) ++ placeText (viewIn x) ++ bytesText bytes ++ ascii "\n\n"
       ≡ shownText s n before (lent p st)

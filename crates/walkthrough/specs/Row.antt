@@ -5,7 +5,7 @@ use lib.Dec.{eqb}
 use Rattle.kinds.specs.declared.Answer.{Answer}
 use Rattle.rules.specs.Basics.{if_then_else_}
 use Rattle.rules.specs.Sound.{Lent}
-use Rattle.rules.specs.Rule.{View}
+use Rattle.rules.specs.Rule.{Name, View}
 use Rattle.rules.specs.Step.{Show, Do, step}
 use Rattle.calls_look.specs.Shown.{bytesShown}
 use Rattle.page.specs.Page.{ascii}
@@ -28,7 +28,7 @@ bytesText [] = []
 bytesText (b ∷ bs) = tagged " " b ++ bytesText bs
 
 -- Behind show s, n: its answer, the place, the bytes that the caller sees there, a blank line.
-abbrev pub shownText : ℕ → ℕ → List ℕ → Lent → List ℕ
+abbrev pub shownText : Name → ℕ → List ℕ → Lent → List ℕ
 shownText s n scratch m =
     let r = step (Do (Show s n scratch)) m in
     answerText Number (record { code = r .code; number = r .number }) ++ placeText (r .view) ++ bytesText (bytesShown s n scratch m) ++ ascii "\n\n"

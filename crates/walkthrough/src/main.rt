@@ -1,4 +1,5 @@
 // One morning at a relay: document 01's ten marked rows, each with its call, its answer and the tables after it, and two shows, each with the bytes seen.
+// Every slip is named at its first serial.
 use calls_look::Shown;
 use kinds::Answer;
 use kinds::SlipNumber;
@@ -9,6 +10,7 @@ ghost use mathlib.Core.Path.{_≡_};
 ghost use lib.ListN.{length};
 ghost use Rattle.rules.specs.Morning.{byteRun};
 ghost use Rattle.rules.specs.Sound.{lent};
+ghost use Rattle.rules.specs.Rule.{name};
 ghost use Rattle.page.specs.Page.{page, Wrote};
 ghost use Rattle.calls_look.specs.Shown.{viewIn};
 ghost use Rattle.walkthrough.specs.Row.{rowText, placeText, bytesText, shownText};
@@ -57,20 +59,20 @@ fn put_bytes(out: &mut [u8], c: Cursor, bytes: &[u8]) -> Cursor
     at
 }
 
-// Shows the first `n` bytes of a slip and writes what stands behind the call: its answer, and the bytes seen.
+// Shows the first `n` bytes of a slip at its first serial and writes what stands behind the call: its answer, and the bytes seen.
 fn put_shown<'a>(
     out: &mut [u8],
     c: Cursor,
     pool: &[u8],
     storage: &'a [u8],
-    slip: u16,
+    slip: SlipNumber,
     n: u32,
     scratch: &'a mut [u8],
 ) -> Cursor
     ensures { λ r. ⌜ Wrote (page (now (out .entry)) c) (page (now (out .exit)) r)
-        (shownText slip n (now (scratch .entry)) (lent (now (pool .entry)) (now (storage .entry)))) ⌝ }
+        (shownText (name (slip .0) 0) n (now (scratch .entry)) (lent (now (pool .entry)) (now (storage .entry)))) ⌝ }
 {
-    let shown = slp::slp_show(pool, storage, slip, n, scratch);
+    let shown = slp::slp_show(pool, storage, slip.0, 0, n, scratch);
     let a = Answer {
         code: shown.code,
         number: shown.number,
@@ -112,10 +114,10 @@ fn show_three(name: &[u8], l: u32, m: u32, n: u32, kind: Reply, a: Answer, pool:
 }
 
 // Prints the first `n` bytes of a slip, of storage or, where they are scattered, copied to a scratch: a show.
-fn show_bytes(pool: &[u8], storage: &[u8], slip: u16, n: u32) {
+fn show_bytes(pool: &[u8], storage: &[u8], slip: SlipNumber, n: u32) {
     let mut scratch = [0u8; 512];
     let mut out = [0u8; 1024];
-    let first = page::put_tagged(&mut out, page::start(), b"show ", slip as u32);
+    let first = page::put_tagged(&mut out, page::start(), b"show ", slip.0 as u32);
     let c = page::put_tagged(&mut out, first, b" ", n);
     let end = put_shown(&mut out, c, pool, storage, slip, n, &mut scratch);
     io::write_all(STDOUT_FILENO, page::written(&out, end));
@@ -137,47 +139,47 @@ fn put(pool: &mut [u8], storage: &mut [u8]) {
 
 // Rows 2 and 3, a cut and a dup that share buffers and pieces: no byte is copied.
 fn share(pool: &mut [u8], storage: &[u8]) {
-    let cut = slp::slp_cut(pool, storage, 0, 500, 50);
+    let cut = slp::slp_cut(pool, storage, 0, 0, 500, 50);
     show_three(b"cut ", 0, 500, 50, Reply::Slip, cut, pool);
-    let dup = slp::slp_dup(pool, storage, 0);
+    let dup = slp::slp_dup(pool, storage, 0, 0);
     show_one(b"dup ", 0, Reply::Slip, dup, pool);
 }
 
 // Rows 4 and 10, a slip gives up its chain: a release.
 fn free(pool: &mut [u8], storage: &[u8], slip: SlipNumber) {
-    let a = slp::slp_free(pool, storage, slip.0);
+    let a = slp::slp_free(pool, storage, slip.0, 0);
     show_one(b"free ", slip.0 as u32, Reply::Done, a, pool);
 }
 
 // Rows 5 to 7, a chain shortened at its front, joined, and shortened at its end: no byte is copied.
 fn trim(pool: &mut [u8], storage: &[u8]) {
-    let drop = slp::slp_drop(pool, storage, 2, 520);
+    let drop = slp::slp_drop(pool, storage, 2, 0, 520);
     show_two(b"drop ", 2, 520, drop, pool);
-    let append = slp::slp_append(pool, storage, 1, 2);
+    let append = slp::slp_append(pool, storage, 1, 0, 2, 0);
     show_two(b"append ", 1, 2, append, pool);
-    let keep = slp::slp_keep(pool, storage, 1, 40);
+    let keep = slp::slp_keep(pool, storage, 1, 0, 40);
     show_two(b"keep ", 1, 40, keep, pool);
-    show_bytes(pool, storage, 1, 20);
 }
 
 // Rows 8 and 9, a chain's bytes brought together in a fresh buffer: a gather.
 fn gather(pool: &mut [u8], storage: &mut [u8]) {
-    let pullup = slp::slp_pullup(pool, storage, 1, 20);
+    let pullup = slp::slp_pullup(pool, storage, 1, 0, 20);
     show_two(b"pullup ", 1, 20, pullup, pool);
-    show_bytes(pool, storage, 1, 20);
-    let pack = slp::slp_pack(pool, storage, 1);
+    show_bytes(pool, storage, SlipNumber(1), 20);
+    let pack = slp::slp_pack(pool, storage, 1, 0);
     show_one(b"pack ", 1, Reply::Done, pack, pool);
 }
 
 // The morning, on a pool and storage of its own.
 fn main() {
-    let mut pool = [0u8; 87];
+    let mut pool = [0u8; 95];
     let mut storage = [0u8; 2048];
     open(&mut pool, &storage);
     put(&mut pool, &mut storage);
     share(&mut pool, &storage);
     free(&mut pool, &storage, SlipNumber(0));
     trim(&mut pool, &storage);
+    show_bytes(&pool, &storage, SlipNumber(1), 20);
     gather(&mut pool, &mut storage);
     free(&mut pool, &storage, SlipNumber(1));
 }

@@ -7,7 +7,7 @@
 use std::mem::MaybeUninit;
 use std::ptr;
 
-use fulcrumnest::{Answer, Gathered, Refusal, Shape, Shown, Stretch};
+use fulcrumnest::{Answer, Gathered, Refusal, Shape, Shown, Slip, Stretch};
 
 /// Bytes of one buffer.
 const SIZE: usize = 512;
@@ -22,6 +22,16 @@ const SLIPS: u16 = Refusal::Slips.code();
 const PIECES: u16 = Refusal::Pieces.code();
 const BUFFERS: u16 = Refusal::Buffers.code();
 const LIST: u16 = Refusal::List.code();
+
+/// The version of the header.
+const VERSION: usize = 2;
+
+/// The bytes of a slip, and where its serial stands behind its state.
+const ENTRY: usize = 4;
+const SERIAL: usize = 2;
+
+/// The last serial, at which a vacant slip is spent.
+const LAST: usize = 65_535;
 
 /// Where a piece's numbers stand behind its count.
 const BUFFER: usize = 2;
@@ -52,6 +62,20 @@ unsafe fn get16(pool: &[u8], at: usize) -> usize {
 unsafe fn put16(pool: &mut [u8], at: usize, v: usize) {
     debug_assert!(at + 2 <= pool.len());
     *pool.as_mut_ptr().add(at).cast::<[u8; 2]>() = (v as u16).to_le_bytes();
+}
+
+/// The 32-bit number at byte `at`, which lies inside the pool: of a slip its state and 65,536 times its serial.
+#[inline(always)]
+unsafe fn get32(pool: &[u8], at: usize) -> u32 {
+    debug_assert!(at + 4 <= pool.len());
+    u32::from_le_bytes(*pool.as_ptr().add(at).cast::<[u8; 4]>())
+}
+
+/// Writes the 32-bit number at byte `at`, which lies inside the pool.
+#[inline(always)]
+unsafe fn put32(pool: &mut [u8], at: usize, v: u32) {
+    debug_assert!(at + 4 <= pool.len());
+    *pool.as_mut_ptr().add(at).cast::<[u8; 4]>() = v.to_le_bytes();
 }
 
 /// Whether at least `wanted` entries from `first` on, which is free, start with 0.
@@ -95,15 +119,15 @@ impl Tables {
             buffers,
             pieces,
             slips,
-            first_piece: 11 + 2 * slips,
-            first_count: 11 + 2 * slips + 10 * pieces,
+            first_piece: 11 + ENTRY * slips,
+            first_count: 11 + ENTRY * slips + 10 * pieces,
         }
     }
 
     /// The byte of slip `s`.
     #[inline(always)]
     fn slip(self, s: usize) -> usize {
-        11 + 2 * s
+        11 + ENTRY * s
     }
 
     /// The byte of piece `d`.
@@ -118,25 +142,42 @@ impl Tables {
         self.first_count + 2 * b
     }
 
-    /// The link that slip `s` holds, if it is held.
-    unsafe fn held(self, pool: &[u8], s: u16) -> Option<usize> {
-        if s as usize >= self.slips {
+    /// The link that a slip holds, if it is held at the serial given.
+    unsafe fn held(self, pool: &[u8], slip: Slip) -> Option<usize> {
+        let s = slip.number as usize;
+        if s >= self.slips {
             return None;
         }
-        get16(pool, self.slip(s as usize)).checked_sub(1)
+        // Another serial leaves more than a state, a vacant slip less than a link.
+        let state = get32(pool, self.slip(s)) ^ ((slip.serial as u32) << 16);
+        let link = state.wrapping_sub(1) as usize;
+        (link < LAST).then_some(link)
     }
 
-    /// The lowest vacant slip.
+    /// The lowest vacant slip that is not spent.
     #[inline(always)]
     unsafe fn vacant(self, pool: &[u8]) -> Option<usize> {
-        let mut s = 0;
-        while s < self.slips {
-            if get16(pool, self.slip(s)) == 0 {
-                return Some(s);
+        let mut at = self.slip(0);
+        while at < self.first_piece {
+            if get16(pool, at) == 0 && get16(pool, at + SERIAL) != LAST {
+                return Some((at - self.slip(0)) / ENTRY);
             }
-            s += 1;
+            at += ENTRY;
         }
         None
+    }
+
+    /// The vacant slip `s` takes a state; answers its number and serial.
+    unsafe fn give(self, pool: &mut [u8], s: usize, state: usize) -> Answer {
+        let at = self.slip(s);
+        put16(pool, at, state);
+        done(s + (get16(pool, at + SERIAL) << 16))
+    }
+
+    /// A held slip is vacant at the next serial, never past the last.
+    unsafe fn vacate(self, pool: &mut [u8], slip: Slip) {
+        let serial = slip.serial.saturating_add(1);
+        put32(pool, self.slip(slip.number as usize), (serial as u32) << 16);
     }
 
     /// The lowest free piece from `from` on.
@@ -389,7 +430,7 @@ unsafe fn cleared(counters: &mut [MaybeUninit<u16>]) -> &mut [u16] {
 
 /// The code of audit: header, slips, pieces, counts, then the walk with colours.
 unsafe fn audited(pool: &[u8], storage: usize) -> u16 {
-    if pool.len() < 11 || &pool[..3] != b"SLP" || get16(pool, 3) != 1 {
+    if pool.len() < 11 || &pool[..3] != b"SLP" || get16(pool, 3) != VERSION {
         return TORN;
     }
     let t = Tables::of(pool);
@@ -481,8 +522,7 @@ pub unsafe fn put(pool: &mut [u8], storage: &mut [u8], data: &[u8]) -> Answer {
         return refused(SLIPS);
     };
     if data.is_empty() {
-        put16(pool, t.slip(slip), 1);
-        return done(slip);
+        return t.give(pool, slip, 1);
     }
     let wanted = data.len().div_ceil(SIZE);
     let Some(first) = t.room_for_pieces(pool, wanted) else {
@@ -508,21 +548,20 @@ pub unsafe fn put(pool: &mut [u8], storage: &mut [u8], data: &[u8]) -> Answer {
         piece = next;
         buffer = t.free_buffer(pool, buffer + 1).unwrap_unchecked();
     }
-    put16(pool, t.slip(slip), first + 2);
-    done(slip)
+    t.give(pool, slip, first + 2)
 }
 
-/// free: the slip gives up its chain.
+/// free: the slip gives up its chain, and its serial is the next.
 ///
 /// # Safety
 /// As for put.
 #[inline(never)]
-pub unsafe fn free(pool: &mut [u8], _storage: &mut [u8], slip: u16) -> Answer {
+pub unsafe fn free(pool: &mut [u8], _storage: &mut [u8], slip: Slip) -> Answer {
     let t = Tables::of(pool);
     let Some(head) = t.held(pool, slip) else {
         return refused(SLIP);
     };
-    put16(pool, t.slip(slip as usize), 0);
+    t.vacate(pool, slip);
     t.release(pool, head);
     done(0)
 }
@@ -532,7 +571,7 @@ pub unsafe fn free(pool: &mut [u8], _storage: &mut [u8], slip: u16) -> Answer {
 /// # Safety
 /// As for put.
 #[inline(never)]
-pub unsafe fn dup(pool: &mut [u8], _storage: &[u8], slip: u16) -> Answer {
+pub unsafe fn dup(pool: &mut [u8], _storage: &[u8], slip: Slip) -> Answer {
     let t = Tables::of(pool);
     let Some(head) = t.held(pool, slip) else {
         return refused(SLIP);
@@ -541,8 +580,7 @@ pub unsafe fn dup(pool: &mut [u8], _storage: &[u8], slip: u16) -> Answer {
         return refused(SLIPS);
     };
     if head == 0 {
-        put16(pool, t.slip(new), 1);
-        return done(new);
+        return t.give(pool, new, 1);
     }
     let Some(piece) = t.free_piece(pool, 0) else {
         return refused(PIECES);
@@ -552,8 +590,7 @@ pub unsafe fn dup(pool: &mut [u8], _storage: &[u8], slip: u16) -> Answer {
     let (length, next) = (get16(pool, at + LENGTH), get16(pool, at + NEXT));
     t.share(pool, next);
     t.take(pool, piece, buffer, offset, length, next);
-    put16(pool, t.slip(new), piece + 2);
-    done(new)
+    t.give(pool, new, piece + 2)
 }
 
 /// cut: a new slip on new pieces for a range, on the same buffers.
@@ -561,7 +598,13 @@ pub unsafe fn dup(pool: &mut [u8], _storage: &[u8], slip: u16) -> Answer {
 /// # Safety
 /// As for put.
 #[inline(never)]
-pub unsafe fn cut(pool: &mut [u8], _storage: &[u8], slip: u16, offset: u32, length: u32) -> Answer {
+pub unsafe fn cut(
+    pool: &mut [u8],
+    _storage: &[u8],
+    slip: Slip,
+    offset: u32,
+    length: u32,
+) -> Answer {
     let t = Tables::of(pool);
     let n = length as usize;
     let Some(head) = t.held(pool, slip) else {
@@ -577,37 +620,35 @@ pub unsafe fn cut(pool: &mut [u8], _storage: &[u8], slip: u16, offset: u32, leng
         return refused(SLIPS);
     };
     if n == 0 {
-        put16(pool, t.slip(new), 1);
-        return done(new);
+        return t.give(pool, new, 1);
     }
     let Some(free) = t.room_for_pieces(pool, pieces) else {
         return refused(PIECES);
     };
     let first = t.copy_pieces(pool, free, from, n, pieces, 0);
-    put16(pool, t.slip(new), first + 1);
-    done(new)
+    t.give(pool, new, first + 1)
 }
 
-/// append: slip `a` reads as a then b, and `b` is vacant.
+/// append: slip `a` reads as a then b, and `b` is vacant at the next serial.
 ///
 /// # Safety
 /// As for put.
 #[inline(never)]
-pub unsafe fn append(pool: &mut [u8], _storage: &mut [u8], a: u16, b: u16) -> Answer {
+pub unsafe fn append(pool: &mut [u8], _storage: &mut [u8], a: Slip, b: Slip) -> Answer {
     let t = Tables::of(pool);
     let (Some(head), Some(tail)) = (t.held(pool, a), t.held(pool, b)) else {
         return refused(SLIP);
     };
-    if a == b {
+    if a.number == b.number {
         return refused(SAME);
     }
     if head == 0 || tail == 0 {
-        put16(pool, t.slip(b as usize), 0);
-        put16(pool, t.slip(a as usize), head + tail + 1);
+        t.vacate(pool, b);
+        put16(pool, t.slip(a.number as usize), head + tail + 1);
         return done(0);
     }
     // The own pieces stay: where the first one that is not hangs, its link, and how many there are from it on.
-    let mut hook = t.slip(a as usize);
+    let mut hook = t.slip(a.number as usize);
     let mut link = head;
     while link != 0 && get16(pool, t.piece(link - 1)) == 1 {
         hook = t.piece(link - 1) + NEXT;
@@ -629,7 +670,7 @@ pub unsafe fn append(pool: &mut [u8], _storage: &mut [u8], a: u16, b: u16) -> An
     // A slip's entry is its link and 1.
     let entry = usize::from(link == head);
     put16(pool, hook, rest + entry);
-    put16(pool, t.slip(b as usize), 0);
+    t.vacate(pool, b);
     t.release(pool, link);
     done(0)
 }
@@ -639,7 +680,7 @@ pub unsafe fn append(pool: &mut [u8], _storage: &mut [u8], a: u16, b: u16) -> An
 /// # Safety
 /// As for put.
 #[inline(never)]
-pub unsafe fn drop(pool: &mut [u8], _storage: &mut [u8], slip: u16, n: u32) -> Answer {
+pub unsafe fn drop(pool: &mut [u8], _storage: &mut [u8], slip: Slip, n: u32) -> Answer {
     let t = Tables::of(pool);
     let Some(head) = t.held(pool, slip) else {
         return refused(SLIP);
@@ -650,7 +691,7 @@ pub unsafe fn drop(pool: &mut [u8], _storage: &mut [u8], slip: u16, n: u32) -> A
     if n == 0 {
         return done(0);
     }
-    let entry = t.slip(slip as usize);
+    let entry = t.slip(slip.number as usize);
     if !from.wants_piece() {
         let rest = t.hold(pool, from);
         put16(pool, entry, rest + 1);
@@ -681,18 +722,18 @@ pub unsafe fn drop(pool: &mut [u8], _storage: &mut [u8], slip: u16, n: u32) -> A
 /// # Safety
 /// As for put.
 #[inline(never)]
-pub unsafe fn keep(pool: &mut [u8], _storage: &mut [u8], slip: u16, n: u32) -> Answer {
+pub unsafe fn keep(pool: &mut [u8], _storage: &mut [u8], slip: Slip, n: u32) -> Answer {
     let t = Tables::of(pool);
     let Some(head) = t.held(pool, slip) else {
         return refused(SLIP);
     };
     if n == 0 {
-        put16(pool, t.slip(slip as usize), 1);
+        put16(pool, t.slip(slip.number as usize), 1);
         t.release(pool, head);
         return done(0);
     }
     // The walk ends at the last piece kept; `others` counts from the first piece not own, which hangs on `hook`.
-    let mut hook = t.slip(slip as usize);
+    let mut hook = t.slip(slip.number as usize);
     let (mut first_other, mut others, mut bytes) = (head, 0, 0);
     let (mut link, mut left) = (head, n as usize);
     loop {
@@ -740,7 +781,7 @@ pub unsafe fn keep(pool: &mut [u8], _storage: &mut [u8], slip: u16, n: u32) -> A
 /// # Safety
 /// As for put.
 #[inline(never)]
-pub unsafe fn pullup(pool: &mut [u8], storage: &mut [u8], slip: u16, n: u32) -> Answer {
+pub unsafe fn pullup(pool: &mut [u8], storage: &mut [u8], slip: Slip, n: u32) -> Answer {
     let t = Tables::of(pool);
     let n = n as usize;
     let Some(head) = t.held(pool, slip) else {
@@ -794,7 +835,7 @@ pub unsafe fn pullup(pool: &mut [u8], storage: &mut [u8], slip: u16, n: u32) -> 
     }
     let rest = if two { t.renew(pool, from, free) } else { held };
     t.take(pool, front, buffer, 0, n, rest);
-    put16(pool, t.slip(slip as usize), front + 2);
+    put16(pool, t.slip(slip.number as usize), front + 2);
     done(0)
 }
 
@@ -803,7 +844,7 @@ pub unsafe fn pullup(pool: &mut [u8], storage: &mut [u8], slip: u16, n: u32) -> 
 /// # Safety
 /// As for put.
 #[inline(never)]
-pub unsafe fn pack(pool: &mut [u8], storage: &mut [u8], slip: u16) -> Answer {
+pub unsafe fn pack(pool: &mut [u8], storage: &mut [u8], slip: Slip) -> Answer {
     let t = Tables::of(pool);
     let Some(head) = t.held(pool, slip) else {
         return refused(SLIP);
@@ -836,7 +877,7 @@ pub unsafe fn pack(pool: &mut [u8], storage: &mut [u8], slip: u16) -> Answer {
         piece = next;
         buffer = t.free_buffer(pool, buffer + 1).unwrap_unchecked();
     }
-    put16(pool, t.slip(slip as usize), first + 2);
+    put16(pool, t.slip(slip.number as usize), first + 2);
     t.release(pool, head);
     done(0)
 }
@@ -846,7 +887,7 @@ pub unsafe fn pack(pool: &mut [u8], storage: &mut [u8], slip: u16) -> Answer {
 /// # Safety
 /// As for put.
 #[inline(never)]
-pub unsafe fn length(pool: &[u8], _storage: &[u8], slip: u16) -> Answer {
+pub unsafe fn length(pool: &[u8], _storage: &[u8], slip: Slip) -> Answer {
     let t = Tables::of(pool);
     match t.held(pool, slip) {
         Some(head) => done(t.length(pool, head)),
@@ -862,7 +903,7 @@ pub unsafe fn length(pool: &[u8], _storage: &[u8], slip: u16) -> Answer {
 pub unsafe fn read(
     pool: &[u8],
     storage: &[u8],
-    slip: u16,
+    slip: Slip,
     offset: u32,
     length: u32,
     output: &mut [u8],
@@ -890,7 +931,7 @@ pub unsafe fn read(
 /// # Safety
 /// As for put.
 #[inline(never)]
-pub unsafe fn show(pool: &[u8], storage: &[u8], slip: u16, n: u32, scratch: &mut [u8]) -> Shown {
+pub unsafe fn show(pool: &[u8], storage: &[u8], slip: Slip, n: u32, scratch: &mut [u8]) -> Shown {
     let shown = |code: u16, number: usize, in_scratch: bool, start: usize| Shown {
         code,
         number: number as u32,
@@ -931,7 +972,7 @@ pub unsafe fn show(pool: &[u8], storage: &[u8], slip: u16, n: u32, scratch: &mut
 #[inline(always)]
 unsafe fn write_records(
     pool: &[u8],
-    slip: u16,
+    slip: Slip,
     room: usize,
     mut write: impl FnMut(usize, u32, u32),
 ) -> Answer {
@@ -962,7 +1003,7 @@ unsafe fn write_records(
 /// # Safety
 /// As for put.
 #[inline(never)]
-pub unsafe fn list(pool: &[u8], _storage: &[u8], slip: u16, list: &mut [u32]) -> Answer {
+pub unsafe fn list(pool: &[u8], _storage: &[u8], slip: Slip, list: &mut [u32]) -> Answer {
     let to = list.as_mut_ptr();
     write_records(pool, slip, list.len() / 2, |i, position, length| {
         *to.add(2 * i) = position;
@@ -975,7 +1016,7 @@ pub unsafe fn list(pool: &[u8], _storage: &[u8], slip: u16, list: &mut [u32]) ->
 /// # Safety
 /// As for put.
 #[inline(never)]
-pub unsafe fn stretches(pool: &[u8], _storage: &[u8], slip: u16, list: &mut [Stretch]) -> Answer {
+pub unsafe fn stretches(pool: &[u8], _storage: &[u8], slip: Slip, list: &mut [Stretch]) -> Answer {
     let to = list.as_mut_ptr();
     write_records(pool, slip, list.len(), |i, position, length| {
         *to.add(i) = Stretch { position, length };

@@ -1,6 +1,6 @@
 //! Pools damaged in every way, from a sound one.
 
-use super::model::{pool_length, Piece, Slip, Tables, MOST};
+use super::model::{pool_length, Piece, Slip, Tables, LAST, MOST, VERSION};
 use super::random::Random;
 
 /// What a damaged pool is handed to: a word on the damage, the pool, the storage.
@@ -225,6 +225,23 @@ pub fn tables_damaged(random: &mut Random, pool: &[u8], storage: &[u8], visit: V
     }
 }
 
+/// Other serials, each of a held slip or of a vacant one: no damage, since any serial is good.
+pub fn serials_moved(random: &mut Random, pool: &[u8], storage: &[u8], visit: Visit) {
+    let tables = Tables::parse(pool, storage).expect("a sound pool");
+    for s in 0..tables.slips.len() {
+        let any = random.below(LAST);
+        for serial in [0, 1, 255, 256, LAST - 1, LAST, any] {
+            let mut other = tables.clone();
+            other.serials[s] = serial;
+            let what = format!("slip {s} has serial {serial}");
+            visit(&what, &other.bytes(), storage);
+        }
+    }
+    let mut all = tables;
+    all.serials.fill(LAST);
+    visit("every slip has the last serial", &all.bytes(), storage);
+}
+
 fn piece(count: u64, buffer: usize, next: Option<usize>) -> Piece {
     Piece {
         count,
@@ -315,7 +332,7 @@ pub fn random_bytes(random: &mut Random, pool: &[u8], storage: &[u8], visit: Vis
 pub fn counts_shifted(pool: &[u8], storage: &[u8], visit: Visit) {
     let tables = Tables::parse(pool, storage).expect("a sound pool to damage");
     let (p, s) = (tables.pieces.len() as u64, tables.slips.len() as u64);
-    for (pieces, slips) in [(p.wrapping_sub(1), s + 5), (p + 1, s.wrapping_sub(5))] {
+    for (pieces, slips) in [(p.wrapping_sub(2), s + 5), (p + 2, s.wrapping_sub(5))] {
         let mut damaged = pool.to_vec();
         set(&mut damaged, 7, pieces);
         set(&mut damaged, 9, slips);
@@ -328,9 +345,9 @@ pub fn counts_shifted(pool: &[u8], storage: &[u8], visit: Visit) {
 pub fn borders(pool: &[u8], storage: &[u8], visit: Visit) {
     let word = |at: usize| u16::from_le_bytes([pool[at], pool[at + 1]]) as u64;
     let [b, p, s] = [5, 7, 9].map(word);
-    let piece = (11 + 2 * s + 10 * (p - 1)) as usize;
-    let slip = (11 + 2 * (s - 1)) as usize;
-    let places = [5, 7, 9, slip].into_iter();
+    let piece = (11 + 4 * s + 10 * (p - 1)) as usize;
+    let slip = (11 + 4 * (s - 1)) as usize;
+    let places = [5, 7, 9, slip, slip + 2].into_iter();
     let places = places.chain((piece..piece + 10).step_by(2));
     for at in places.chain([pool.len() - 2]) {
         let around = [word(at).wrapping_sub(1), word(at) + 1];
@@ -370,7 +387,7 @@ pub fn counts_out_of_range(visit: Visit) {
     ] {
         let mut pool = vec![0; pool_length(b, p, s) as usize];
         pool[..3].copy_from_slice(b"SLP");
-        for (at, word) in [(3, 1), (5, b), (7, p), (9, s)] {
+        for (at, word) in [(3, VERSION), (5, b), (7, p), (9, s)] {
             set(&mut pool, at, word);
         }
         let storage = vec![7; 512 * b as usize];
@@ -378,10 +395,11 @@ pub fn counts_out_of_range(visit: Visit) {
     }
 }
 
-/// Every kind of damage that starts from a sound pool.
+/// Every kind of damage that starts from a sound pool, and other serials, which are none.
 pub fn every_damage(random: &mut Random, pool: &[u8], storage: &[u8], visit: Visit) {
     fields_off_by_one(pool, storage, visit);
     tables_damaged(random, pool, storage, visit);
+    serials_moved(random, pool, storage, visit);
     lengths_wrong(random, pool, storage, visit);
     random_bytes(random, pool, storage, visit);
     counts_shifted(pool, storage, visit);

@@ -1,7 +1,7 @@
 //! A pool and its storage under one engine, with calls that assert their answers.
 
 use super::compare::differences;
-use super::model::{self, pool_length, Call, Outcome, NO_VIEW};
+use super::model::{self, pool_length, Call, Name, Outcome, Slip, NO_VIEW, VERSION};
 
 /// What does one call on any bytes: the model or the library.
 pub type Engine = fn(&[u8], &[u8], &Call) -> Outcome;
@@ -85,48 +85,54 @@ impl Desk {
         assert_eq!(outcome.list, list, "{brief}");
     }
 
-    pub fn put(&mut self, n: usize, slip: u64) {
-        self.done(put(n), slip);
+    /// The call is done and answers the name of the slip that it gives.
+    fn gives(&mut self, call: Call, slip: impl Into<Name>) {
+        self.done(call, slip.into().answer());
     }
 
-    pub fn free(&mut self, slip: u16) {
+    pub fn put(&mut self, n: usize, slip: impl Into<Name>) {
+        self.gives(put(n), slip);
+    }
+
+    pub fn free(&mut self, slip: impl Into<Name>) {
         self.done(free(slip), 0);
     }
 
-    pub fn dup(&mut self, slip: u16, new: u64) {
-        self.done(dup(slip), new);
+    pub fn dup(&mut self, slip: impl Into<Name>, new: impl Into<Name>) {
+        self.gives(dup(slip), new);
     }
 
-    pub fn cut(&mut self, slip: u16, offset: u32, length: u32, new: u64) {
-        self.done(cut(slip, offset, length), new);
+    pub fn cut(&mut self, slip: impl Into<Name>, offset: u32, length: u32, new: impl Into<Name>) {
+        self.gives(cut(slip, offset, length), new);
     }
 
-    pub fn append(&mut self, a: u16, b: u16) {
+    pub fn append(&mut self, a: impl Into<Name>, b: impl Into<Name>) {
         self.done(append(a, b), 0);
     }
 
-    pub fn drop(&mut self, slip: u16, n: u32) {
+    pub fn drop(&mut self, slip: impl Into<Name>, n: u32) {
         self.done(drop(slip, n), 0);
     }
 
-    pub fn keep(&mut self, slip: u16, n: u32) {
+    pub fn keep(&mut self, slip: impl Into<Name>, n: u32) {
         self.done(keep(slip, n), 0);
     }
 
-    pub fn pullup(&mut self, slip: u16, n: u32) {
+    pub fn pullup(&mut self, slip: impl Into<Name>, n: u32) {
         self.done(pullup(slip, n), 0);
     }
 
-    pub fn pack(&mut self, slip: u16) {
+    pub fn pack(&mut self, slip: impl Into<Name>) {
         self.done(pack(slip), 0);
     }
 
-    pub fn length(&mut self, slip: u16, n: u64) {
-        self.done_unchanged(Call::Length { slip }, n);
+    pub fn length(&mut self, slip: impl Into<Name>, n: u64) {
+        self.done_unchanged(length(slip), n);
     }
 
     /// The chain reads as these bytes, and output past them is unchanged.
-    pub fn reads(&mut self, slip: u16, bytes: &[u8]) {
+    pub fn reads(&mut self, slip: impl Into<Name>, bytes: &[u8]) {
+        let slip = slip.into();
         self.length(slip, bytes.len() as u64);
         let mut output = vec![0x99; bytes.len() + 3];
         let call = Call::Read {
@@ -142,7 +148,8 @@ impl Desk {
 
     /// The slip's wire list is these numbers, in numbers and in records, and what is lent past them
     /// is unchanged.
-    pub fn lists(&mut self, slip: u16, numbers: &[u32]) {
+    pub fn lists(&mut self, slip: impl Into<Name>, numbers: &[u32]) {
+        let slip = slip.into();
         let records = numbers.len() / 2;
         for call in [list(slip, numbers.len() + 3), stretches(slip, records + 2)] {
             let brief = call.brief();
@@ -153,19 +160,25 @@ impl Desk {
         }
     }
 
-    /// The pool is exactly these tables: slips, pieces as (count, buffer, offset, length, next),
-    /// buffer counts, each as its stored word.
-    pub fn tables(&self, slips: &[u16], pieces: &[[u16; 5]], buffers: &[u16]) {
+    /// The pool is exactly these tables: slips and their serials, pieces as (count, buffer, offset,
+    /// length, next), buffer counts, each as its stored word.
+    pub fn tables(&self, slips: &[u16], serials: &[u16], pieces: &[[u16; 5]], buffers: &[u16]) {
+        assert_eq!(slips.len(), serials.len());
         let mut pool = b"SLP".to_vec();
         let header = [
-            1,
+            VERSION as u16,
             buffers.len() as u16,
             pieces.len() as u16,
             slips.len() as u16,
         ];
         let words = header
             .iter()
-            .chain(slips)
+            .chain(
+                slips
+                    .iter()
+                    .zip(serials)
+                    .flat_map(|(state, serial)| [state, serial]),
+            )
             .chain(pieces.iter().flatten())
             .chain(buffers);
         for word in words {
@@ -189,9 +202,35 @@ impl Desk {
         assert!(text.is_empty(), "{text}");
     }
 
+    /// The tables as the model parses them.
+    fn parsed(&self) -> model::Tables {
+        model::Tables::parse(&self.pool, &self.storage).expect("a header that fits")
+    }
+
+    /// Each slip's serial is this.
+    pub fn serials(&self, serials: &[u64]) {
+        assert_eq!(self.parsed().serials, serials);
+    }
+
+    /// Sets each slip's serial by hand.
+    pub fn set_serials(&mut self, serials: &[u16]) {
+        assert_eq!(serials.len(), self.parsed().slips.len());
+        for (slip, serial) in serials.iter().enumerate() {
+            self.set(11 + 4 * slip + 2, *serial);
+        }
+    }
+
+    /// The vacant slips by number, spent or not.
+    pub fn vacant_slips(&self) -> Vec<usize> {
+        let slips = self.parsed().slips;
+        (0..slips.len())
+            .filter(|i| slips[*i] == Slip::Vacant)
+            .collect()
+    }
+
     /// The free pieces by number.
     pub fn free_pieces(&self) -> Vec<usize> {
-        let tables = model::Tables::parse(&self.pool, &self.storage).expect("sound");
+        let tables = self.parsed();
         (0..tables.pieces.len())
             .filter(|d| tables.pieces[*d].count == 0)
             .collect()
@@ -208,46 +247,56 @@ pub fn put(n: usize) -> Call {
     Call::Put { data: data(n) }
 }
 
-pub fn free(slip: u16) -> Call {
-    Call::Free { slip }
+pub fn free(slip: impl Into<Name>) -> Call {
+    Call::Free { slip: slip.into() }
 }
 
-pub fn dup(slip: u16) -> Call {
-    Call::Dup { slip }
+pub fn dup(slip: impl Into<Name>) -> Call {
+    Call::Dup { slip: slip.into() }
 }
 
-pub fn append(a: u16, b: u16) -> Call {
-    Call::Append { a, b }
+pub fn append(a: impl Into<Name>, b: impl Into<Name>) -> Call {
+    Call::Append {
+        a: a.into(),
+        b: b.into(),
+    }
 }
 
-pub fn drop(slip: u16, n: u32) -> Call {
+pub fn drop(slip: impl Into<Name>, n: u32) -> Call {
+    let slip = slip.into();
     Call::Drop { slip, n }
 }
 
-pub fn keep(slip: u16, n: u32) -> Call {
+pub fn keep(slip: impl Into<Name>, n: u32) -> Call {
+    let slip = slip.into();
     Call::Keep { slip, n }
 }
 
-pub fn pullup(slip: u16, n: u32) -> Call {
+pub fn pullup(slip: impl Into<Name>, n: u32) -> Call {
+    let slip = slip.into();
     Call::Pullup { slip, n }
 }
 
-pub fn pack(slip: u16) -> Call {
-    Call::Pack { slip }
+pub fn pack(slip: impl Into<Name>) -> Call {
+    Call::Pack { slip: slip.into() }
 }
 
-pub fn cut(slip: u16, offset: u32, length: u32) -> Call {
+pub fn length(slip: impl Into<Name>) -> Call {
+    Call::Length { slip: slip.into() }
+}
+
+pub fn cut(slip: impl Into<Name>, offset: u32, length: u32) -> Call {
     Call::Cut {
-        slip,
+        slip: slip.into(),
         offset,
         length,
     }
 }
 
 /// A read into so many lent bytes.
-pub fn read(slip: u16, offset: u32, length: u32, output: usize) -> Call {
+pub fn read(slip: impl Into<Name>, offset: u32, length: u32, output: usize) -> Call {
     Call::Read {
-        slip,
+        slip: slip.into(),
         offset,
         length,
         output: vec![0x99; output],
@@ -255,9 +304,9 @@ pub fn read(slip: u16, offset: u32, length: u32, output: usize) -> Call {
 }
 
 /// A show with so many lent bytes.
-pub fn show(slip: u16, n: u32, scratch: usize) -> Call {
+pub fn show(slip: impl Into<Name>, n: u32, scratch: usize) -> Call {
     Call::Show {
-        slip,
+        slip: slip.into(),
         n,
         scratch: vec![0x99; scratch],
     }
@@ -267,17 +316,17 @@ pub fn show(slip: u16, n: u32, scratch: usize) -> Call {
 pub const OLD: u32 = 0x9999_9999;
 
 /// A list into so many lent numbers.
-pub fn list(slip: u16, numbers: usize) -> Call {
+pub fn list(slip: impl Into<Name>, numbers: usize) -> Call {
     Call::List {
-        slip,
+        slip: slip.into(),
         list: vec![OLD; numbers],
     }
 }
 
 /// The same into so many lent records.
-pub fn stretches(slip: u16, records: usize) -> Call {
+pub fn stretches(slip: impl Into<Name>, records: usize) -> Call {
     Call::Stretches {
-        slip,
+        slip: slip.into(),
         list: vec![[OLD; 2]; records],
     }
 }

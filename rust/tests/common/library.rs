@@ -3,9 +3,9 @@
 use std::mem::align_of;
 use std::sync::atomic::{AtomicUsize, Ordering};
 
-use fulcrumnest::{calls, Answer, Shown, Stretch};
+use fulcrumnest::{calls, Answer, Shown, Slip, Stretch};
 
-use super::model::{Call, Outcome, View, NO_VIEW};
+use super::model::{Call, Name, Outcome, View, NO_VIEW};
 
 /// Lent bytes or numbers between guards, at every alignment that their type allows in turn.
 struct Lent<T> {
@@ -108,6 +108,11 @@ pub fn step(pool: &[u8], storage: &[u8], call: &Call) -> Outcome {
     }
 }
 
+/// The slip that the model names.
+pub fn slip_of(name: Name) -> Slip {
+    Slip::new(name.number, name.serial)
+}
+
 /// Code, number and view of a call.
 fn answer(all: All<'_>, call: &Call) -> (u16, u64, View) {
     let answer = match call {
@@ -116,17 +121,30 @@ fn answer(all: All<'_>, call: &Call) -> (u16, u64, View) {
             offset,
             length,
             ..
-        } => calls::read(all.pool, all.storage, *slip, *offset, *length, all.lent),
+        } => calls::read(
+            all.pool,
+            all.storage,
+            slip_of(*slip),
+            *offset,
+            *length,
+            all.lent,
+        ),
         Call::Show { slip, n, .. } => {
-            return shown(calls::show(all.pool, all.storage, *slip, *n, all.lent))
+            return shown(calls::show(
+                all.pool,
+                all.storage,
+                slip_of(*slip),
+                *n,
+                all.lent,
+            ))
         }
-        Call::List { slip, .. } => calls::list(all.pool, all.storage, *slip, all.list),
+        Call::List { slip, .. } => calls::list(all.pool, all.storage, slip_of(*slip), all.list),
         Call::Gather { .. } => {
             let gathered = calls::gather(all.storage, all.list, all.lent);
             return (gathered.code, gathered.number, NO_VIEW);
         }
         Call::Stretches { slip, .. } => {
-            calls::stretches(all.pool, all.storage, *slip, records(all.list))
+            calls::stretches(all.pool, all.storage, slip_of(*slip), records(all.list))
         }
         _ => plain(all.pool, all.storage, call),
     };
@@ -143,19 +161,19 @@ fn plain(pool: &mut [u8], storage: &mut [u8], call: &Call) -> Answer {
         } => calls::open(pool, storage, *buffers, *pieces, *slips),
         Call::Audit => calls::audit(pool, storage),
         Call::Put { data } => calls::put(pool, storage, data),
-        Call::Free { slip } => calls::free(pool, storage, *slip),
-        Call::Dup { slip } => calls::dup(pool, storage, *slip),
+        Call::Free { slip } => calls::free(pool, storage, slip_of(*slip)),
+        Call::Dup { slip } => calls::dup(pool, storage, slip_of(*slip)),
         Call::Cut {
             slip,
             offset,
             length,
-        } => calls::cut(pool, storage, *slip, *offset, *length),
-        Call::Append { a, b } => calls::append(pool, storage, *a, *b),
-        Call::Drop { slip, n } => calls::drop(pool, storage, *slip, *n),
-        Call::Keep { slip, n } => calls::keep(pool, storage, *slip, *n),
-        Call::Pullup { slip, n } => calls::pullup(pool, storage, *slip, *n),
-        Call::Pack { slip } => calls::pack(pool, storage, *slip),
-        Call::Length { slip } => calls::length(pool, storage, *slip),
+        } => calls::cut(pool, storage, slip_of(*slip), *offset, *length),
+        Call::Append { a, b } => calls::append(pool, storage, slip_of(*a), slip_of(*b)),
+        Call::Drop { slip, n } => calls::drop(pool, storage, slip_of(*slip), *n),
+        Call::Keep { slip, n } => calls::keep(pool, storage, slip_of(*slip), *n),
+        Call::Pullup { slip, n } => calls::pullup(pool, storage, slip_of(*slip), *n),
+        Call::Pack { slip } => calls::pack(pool, storage, slip_of(*slip)),
+        Call::Length { slip } => calls::length(pool, storage, slip_of(*slip)),
         Call::Read { .. } | Call::Show { .. } | Call::List { .. } => unreachable!("made above"),
         Call::Gather { .. } | Call::Stretches { .. } => unreachable!("made above"),
     }

@@ -1,15 +1,19 @@
-//! The model: document 01's rules and the wire list of document 02, done plainly on tables parsed
-//! from the lent bytes.
+//! The model: document 01's rules with the wire list, the serials and the room of drop and pullup
+//! of document 02, done plainly on tables parsed from the lent bytes.
 //!
 //! A chain is a list of piece numbers, "own" is a length of its front, each call first plans the
 //! pieces that it wants and only then builds them. Nothing here is meant to be fast.
 
-use std::mem;
+use std::{fmt, mem};
 
 /// Bytes of one buffer.
 pub const SIZE: u64 = 512;
 /// The most buffers, pieces and slips of a pool.
 pub const MOST: (u64, u64, u64) = (1_024, 2_048, 256);
+/// The version in the header.
+pub const VERSION: u64 = 2;
+/// The last serial: a vacant slip that has it is spent.
+pub const LAST: u64 = 65_535;
 
 pub const DONE: u16 = 0;
 pub const COUNTS: u16 = 1;
@@ -24,6 +28,44 @@ pub const PIECES: u16 = 9;
 pub const BUFFERS: u16 = 10;
 pub const LIST: u16 = 11;
 
+/// A slip as a caller names it.
+#[derive(Clone, Copy, Debug, PartialEq, Eq)]
+pub struct Name {
+    pub number: u16,
+    pub serial: u16,
+}
+
+impl Name {
+    pub const fn new(number: u16, serial: u16) -> Name {
+        Name { number, serial }
+    }
+
+    /// The number that is answered for the slip: its own and 65,536 times its serial.
+    pub const fn answer(self) -> u64 {
+        self.number as u64 + 65_536 * self.serial as u64
+    }
+}
+
+/// A slip that was not vacated since the opening, by its number alone.
+impl From<u16> for Name {
+    fn from(number: u16) -> Name {
+        Name::new(number, 0)
+    }
+}
+
+/// Number and serial.
+impl From<(u16, u16)> for Name {
+    fn from((number, serial): (u16, u16)) -> Name {
+        Name::new(number, serial)
+    }
+}
+
+impl fmt::Display for Name {
+    fn fmt(&self, f: &mut fmt::Formatter<'_>) -> fmt::Result {
+        write!(f, "{}.{}", self.number, self.serial)
+    }
+}
+
 /// One call with all that it is lent besides pool and storage.
 #[derive(Clone, Debug, PartialEq, Eq)]
 pub enum Call {
@@ -37,51 +79,51 @@ pub enum Call {
         data: Vec<u8>,
     },
     Free {
-        slip: u16,
+        slip: Name,
     },
     Dup {
-        slip: u16,
+        slip: Name,
     },
     Cut {
-        slip: u16,
+        slip: Name,
         offset: u32,
         length: u32,
     },
     Append {
-        a: u16,
-        b: u16,
+        a: Name,
+        b: Name,
     },
     Drop {
-        slip: u16,
+        slip: Name,
         n: u32,
     },
     Keep {
-        slip: u16,
+        slip: Name,
         n: u32,
     },
     Pullup {
-        slip: u16,
+        slip: Name,
         n: u32,
     },
     Pack {
-        slip: u16,
+        slip: Name,
     },
     Length {
-        slip: u16,
+        slip: Name,
     },
     Read {
-        slip: u16,
+        slip: Name,
         offset: u32,
         length: u32,
         output: Vec<u8>,
     },
     Show {
-        slip: u16,
+        slip: Name,
         n: u32,
         scratch: Vec<u8>,
     },
     List {
-        slip: u16,
+        slip: Name,
         list: Vec<u32>,
     },
     /// No call on a pool: it is lent storage, which may be any bytes, and no pool.
@@ -90,7 +132,7 @@ pub enum Call {
         output: Vec<u8>,
     },
     Stretches {
-        slip: u16,
+        slip: Name,
         list: Vec<[u32; 2]>,
     },
 }
@@ -102,6 +144,26 @@ impl Call {
             Call::Read { output, .. } | Call::Gather { output, .. } => output,
             Call::Show { scratch, .. } => scratch,
             _ => &[],
+        }
+    }
+
+    /// The slips that the call names, in order.
+    pub fn names(&self) -> Vec<Name> {
+        match self {
+            Call::Free { slip }
+            | Call::Dup { slip }
+            | Call::Cut { slip, .. }
+            | Call::Drop { slip, .. }
+            | Call::Keep { slip, .. }
+            | Call::Pullup { slip, .. }
+            | Call::Pack { slip }
+            | Call::Length { slip }
+            | Call::Read { slip, .. }
+            | Call::Show { slip, .. }
+            | Call::List { slip, .. }
+            | Call::Stretches { slip, .. } => vec![*slip],
+            Call::Append { a, b } => vec![*a, *b],
+            Call::Open { .. } | Call::Audit | Call::Put { .. } | Call::Gather { .. } => Vec::new(),
         }
     }
 
@@ -207,10 +269,12 @@ pub const ZERO: Piece = Piece {
     next: None,
 };
 
-/// The pool's tables: any words of slips, pieces and buffer counts, sound or not.
+/// The pool's tables: any words of slips, serials, pieces and buffer counts, sound or not.
 #[derive(Clone, Debug, PartialEq, Eq)]
 pub struct Tables {
     pub slips: Vec<Slip>,
+    /// For each slip its serial.
+    pub serials: Vec<u64>,
     pub pieces: Vec<Piece>,
     pub buffers: Vec<u64>,
 }
@@ -222,7 +286,7 @@ fn word(bytes: &[u8], at: usize) -> u64 {
 
 /// The pool's exact length.
 pub fn pool_length(buffers: u64, pieces: u64, slips: u64) -> u64 {
-    11 + 2 * slips + 10 * pieces + 2 * buffers
+    11 + 4 * slips + 10 * pieces + 2 * buffers
 }
 
 /// Whether the three counts lie in their ranges.
@@ -242,6 +306,7 @@ impl Tables {
     pub fn fresh(buffers: usize, pieces: usize, slips: usize) -> Tables {
         Tables {
             slips: vec![Slip::Vacant; slips],
+            serials: vec![0; slips],
             pieces: vec![ZERO; pieces],
             buffers: vec![0; buffers],
         }
@@ -249,7 +314,7 @@ impl Tables {
 
     /// The tables, if mark, version, counts and both lengths fit.
     pub fn parse(pool: &[u8], storage: &[u8]) -> Option<Tables> {
-        if pool.len() < 11 || &pool[..3] != b"SLP" || word(pool, 3) != 1 {
+        if pool.len() < 11 || &pool[..3] != b"SLP" || word(pool, 3) != VERSION {
             return None;
         }
         let (b, p, s) = (word(pool, 5), word(pool, 7), word(pool, 9));
@@ -257,13 +322,14 @@ impl Tables {
             return None;
         }
         let (b, p, s) = (b as usize, p as usize, s as usize);
-        let slip = |i: usize| match word(pool, 11 + 2 * i) {
+        let slip = |i: usize| match word(pool, 11 + 4 * i) {
             0 => Slip::Vacant,
             1 => Slip::Empty,
             more => Slip::Heads(more as usize - 2),
         };
+        let serial = |i: usize| word(pool, 11 + 4 * i + 2);
         let piece = |d: usize| {
-            let field = |k: usize| word(pool, 11 + 2 * s + 10 * d + 2 * k);
+            let field = |k: usize| word(pool, 11 + 4 * s + 10 * d + 2 * k);
             Piece {
                 count: field(0),
                 buffer: field(1) as usize,
@@ -272,9 +338,10 @@ impl Tables {
                 next: field(4).checked_sub(1).map(|d| d as usize),
             }
         };
-        let count = |k: usize| word(pool, 11 + 2 * s + 10 * p + 2 * k);
+        let count = |k: usize| word(pool, 11 + 4 * s + 10 * p + 2 * k);
         Some(Tables {
             slips: (0..s).map(slip).collect(),
+            serials: (0..s).map(serial).collect(),
             pieces: (0..p).map(piece).collect(),
             buffers: (0..b).map(count).collect(),
         })
@@ -283,17 +350,18 @@ impl Tables {
     /// The pool's bytes.
     pub fn bytes(&self) -> Vec<u8> {
         let mut words = vec![
-            1,
+            VERSION,
             self.buffers.len() as u64,
             self.pieces.len() as u64,
             self.slips.len() as u64,
         ];
-        for slip in &self.slips {
+        for (slip, serial) in self.slips.iter().zip(&self.serials) {
             words.push(match slip {
                 Slip::Vacant => 0,
                 Slip::Empty => 1,
                 Slip::Heads(d) => 2 + *d as u64,
             });
+            words.push(*serial);
         }
         for piece in &self.pieces {
             words.push(piece.count);
@@ -313,16 +381,28 @@ impl Tables {
         bytes
     }
 
-    /// The slip's state if it is held, so neither S or more nor vacant.
-    pub fn held(&self, slip: u16) -> Option<Slip> {
-        match self.slips.get(slip as usize) {
+    /// The state of the slip of this number if it is held, whatever its serial.
+    pub fn state(&self, number: u16) -> Option<Slip> {
+        match self.slips.get(number as usize) {
             None | Some(Slip::Vacant) => None,
             Some(state) => Some(*state),
         }
     }
 
-    pub fn vacate(&mut self, slip: u16) {
-        self.slips[slip as usize] = Slip::Vacant;
+    /// The named slip's state: its number is below S, it is held, and its serial is the one given.
+    pub fn held(&self, name: Name) -> Option<Slip> {
+        let state = self.state(name.number)?;
+        (self.serials[name.number as usize] == name.serial as u64).then_some(state)
+    }
+
+    /// What the slip of a number below S is called now.
+    pub fn name(&self, number: u16) -> Name {
+        Name::new(number, self.serials[number as usize] as u16)
+    }
+
+    /// Whether a slip is vacant at the last serial, and so is not given again.
+    pub fn is_spent(&self, slip: usize) -> bool {
+        self.slips[slip] == Slip::Vacant && self.serials[slip] == LAST
     }
 
     /// The chain's piece numbers in order; the pool must be sound.
@@ -565,7 +645,7 @@ pub trait Rules {
             Call::Pullup { slip, n } => self.pullup(t, storage, *slip, *n as u64),
             Call::Pack { slip } => self.pack(t, storage, *slip),
             Call::Length { slip } => {
-                let chain = t.chain(t.held(*slip).ok_or(SLIP)?);
+                let chain = t.chain(self.named(&t, *slip)?);
                 Ok(Done::nothing(t.length(&chain)))
             }
             Call::Read {
@@ -663,7 +743,7 @@ pub trait Rules {
     fn room(&self, t: &Tables) -> Room {
         Room {
             slips: (0..t.slips.len())
-                .filter(|i| t.slips[*i] == Slip::Vacant)
+                .filter(|i| t.slips[*i] == Slip::Vacant && !self.is_spent(t, *i))
                 .collect(),
             pieces: (0..t.pieces.len())
                 .filter(|d| t.pieces[*d].count == 0)
@@ -681,7 +761,33 @@ pub trait Rules {
         refuse_if(buffers > room.buffers.len() as u64, BUFFERS)
     }
 
+    /// Whether a vacant slip is not given again.
+    fn is_spent(&self, t: &Tables, slip: usize) -> bool {
+        t.is_spent(slip)
+    }
+
     // What the operations are made of.
+
+    /// The named slip's state, or code 3.
+    fn named(&self, t: &Tables, name: Name) -> Result<Slip, u16> {
+        t.held(name).ok_or(SLIP)
+    }
+
+    /// The number that is answered for a slip just given.
+    fn answer(&self, t: &Tables, slip: usize) -> u64 {
+        t.name(slip as u16).answer()
+    }
+
+    /// The slip is vacant, and its serial is older.
+    fn vacate(&self, t: &mut Tables, slip: usize) {
+        t.slips[slip] = Slip::Vacant;
+        t.serials[slip] = self.older(t.serials[slip]);
+    }
+
+    /// The serial of a slip once it is vacated: 1 more, never past the last.
+    fn older(&self, serial: u64) -> u64 {
+        (serial + 1).min(LAST)
+    }
 
     /// How many pieces at the chain's front are own: they and all before them have count 1.
     fn own(&self, t: &Tables, chain: &[usize]) -> usize {
@@ -789,7 +895,7 @@ pub trait Rules {
         let slip = room.slips[0];
         let head = self.build(&mut t, &room, places, then);
         self.refer(&mut t, Holder::Slip(slip), head);
-        Ok(Done::changed(slip as u64, t))
+        Ok(Done::changed(self.answer(&t, slip), t))
     }
 
     /// Behind the own pieces come new ones for these places, then `then`; the old reference goes.
@@ -814,7 +920,7 @@ pub trait Rules {
 
     // The operations.
 
-    /// Writes the fresh pool; storage is unchanged, old bytes are never looked at.
+    /// Writes the fresh pool, every serial 0; storage is unchanged, old bytes are never looked at.
     fn open(&self, pool: &[u8], storage: &[u8], buffers: u16, pieces: u16, slips: u16) -> Judged {
         let (b, p, s) = (buffers as u64, pieces as u64, slips as u64);
         refuse_if(!counts_fit(b, p, s), COUNTS)?;
@@ -830,29 +936,29 @@ pub trait Rules {
         self.ask(&room, 1, wanted, wanted)?;
         let slip = room.slips[0];
         Ok(Done {
-            number: slip as u64,
+            number: self.answer(&t, slip),
             ..self.put_under(t, &room, slip, data)
         })
     }
 
     /// Releases the head; the slip is vacant.
-    fn free(&self, mut t: Tables, slip: u16) -> Judged {
-        t.held(slip).ok_or(SLIP)?;
-        self.refer(&mut t, Holder::Slip(slip as usize), None);
-        t.vacate(slip);
+    fn free(&self, mut t: Tables, slip: Name) -> Judged {
+        self.named(&t, slip)?;
+        self.refer(&mut t, Holder::Slip(slip.number as usize), None);
+        self.vacate(&mut t, slip.number as usize);
         Ok(Done::changed(0, t))
     }
 
     /// A new slip on one new piece equal to the head, sharing its next and buffer.
-    fn dup(&self, t: Tables, slip: u16) -> Judged {
-        let chain = t.chain(t.held(slip).ok_or(SLIP)?);
+    fn dup(&self, t: Tables, slip: Name) -> Judged {
+        let chain = t.chain(self.named(&t, slip)?);
         let head: Vec<Place> = t.places(&chain).into_iter().take(1).collect();
         self.new_chain(t, &head, chain.get(1).copied())
     }
 
     /// A new slip on one new piece for each piece that overlaps the range, on the same buffers.
-    fn cut(&self, t: Tables, slip: u16, offset: u32, length: u32) -> Judged {
-        let chain = t.chain(t.held(slip).ok_or(SLIP)?);
+    fn cut(&self, t: Tables, slip: Name, offset: u32, length: u32) -> Judged {
+        let chain = t.chain(self.named(&t, slip)?);
         let (from, to) = (offset as u64, self.end(offset, length));
         refuse_if(to > t.length(&chain), RANGE)?;
         let mut places = Vec::new();
@@ -880,10 +986,11 @@ pub trait Rules {
     }
 
     /// a reads as a then b; b is vacant. If either is empty, no piece is needed.
-    fn append(&self, mut t: Tables, a: u16, b: u16) -> Judged {
-        let state_a = t.held(a).ok_or(SLIP)?;
-        let state_b = t.held(b).ok_or(SLIP)?;
-        refuse_if(a == b, SAME)?;
+    fn append(&self, mut t: Tables, a: Name, b: Name) -> Judged {
+        let state_a = self.named(&t, a)?;
+        let state_b = self.named(&t, b)?;
+        refuse_if(a.number == b.number, SAME)?;
+        let (a, b) = (a.number, b.number);
         match (state_a, state_b.head()) {
             // a takes b's head, or stays empty with it.
             (Slip::Empty, _) => t.slips[a as usize] = state_b,
@@ -898,23 +1005,23 @@ pub trait Rules {
                 self.refer(&mut t, Holder::Slip(b as usize), None);
             }
         }
-        t.vacate(b);
+        self.vacate(&mut t, b as usize);
         Ok(Done::changed(0, t))
     }
 
     /// The first n bytes go: 0 changes nothing, the whole length leaves the slip empty.
-    fn drop(&self, mut t: Tables, slip: u16, n: u64) -> Judged {
-        let chain = t.chain(t.held(slip).ok_or(SLIP)?);
+    fn drop(&self, mut t: Tables, slip: Name, n: u64) -> Judged {
+        let chain = t.chain(self.named(&t, slip)?);
         refuse_if(n > t.length(&chain), RANGE)?;
         if n == 0 {
             return Ok(Done::nothing(0));
         }
         let left = self.left_by_drop(&t, &chain, n);
         self.shorten_front(&mut t, left.shortened);
-        let room = self.give_back_front(&mut t, slip, &left);
+        let room = self.give_back_front(&mut t, slip.number, &left);
         self.ask(&room, 0, left.places.len() as u64, 0)?;
         let head = self.build(&mut t, &room, &left.places, left.then);
-        self.refer(&mut t, Holder::Slip(slip as usize), head);
+        self.refer(&mut t, Holder::Slip(slip.number as usize), head);
         Ok(Done::changed(0, t))
     }
 
@@ -968,15 +1075,15 @@ pub trait Rules {
     }
 
     /// The first n bytes stay: the whole length changes nothing, 0 empties.
-    fn keep(&self, mut t: Tables, slip: u16, n: u64) -> Judged {
-        let chain = t.chain(t.held(slip).ok_or(SLIP)?);
+    fn keep(&self, mut t: Tables, slip: Name, n: u64) -> Judged {
+        let chain = t.chain(self.named(&t, slip)?);
         let whole = t.length(&chain);
         refuse_if(n > whole, RANGE)?;
         if n == whole {
             return Ok(Done::nothing(0));
         }
         if n == 0 {
-            self.refer(&mut t, Holder::Slip(slip as usize), None);
+            self.refer(&mut t, Holder::Slip(slip.number as usize), None);
             return Ok(Done::changed(0, t));
         }
         // The last piece kept holds byte n - 1.
@@ -992,20 +1099,20 @@ pub trait Rules {
             let own = self.own(&t, &chain);
             let mut places = t.places(&chain[own..=last]);
             places.last_mut().expect("the last one kept").length = kept;
-            self.replace(&mut t, slip, &chain[..own], &places, None)?;
+            self.replace(&mut t, slip.number, &chain[..own], &places, None)?;
         }
         Ok(Done::changed(0, t))
     }
 
     /// If the first piece has n bytes or n is 0, nothing changes.
-    fn pullup(&self, t: Tables, storage: &[u8], slip: u16, n: u64) -> Judged {
-        let chain = t.chain(t.held(slip).ok_or(SLIP)?);
+    fn pullup(&self, t: Tables, storage: &[u8], slip: Name, n: u64) -> Judged {
+        let chain = t.chain(self.named(&t, slip)?);
         refuse_if(self.is_long(n), LONG)?;
         refuse_if(n > t.length(&chain), RANGE)?;
         if n == 0 || n <= t.first_length(&chain) {
             return Ok(Done::nothing(0));
         }
-        self.pull(t, storage, slip, n)
+        self.pull(t, storage, slip.number, n)
     }
 
     /// Code 5: more than one buffer takes.
@@ -1037,8 +1144,8 @@ pub trait Rules {
     }
 
     /// A chain of at most one piece stays; otherwise its bytes are put afresh under the same slip.
-    fn pack(&self, t: Tables, storage: &[u8], slip: u16) -> Judged {
-        let chain = t.chain(t.held(slip).ok_or(SLIP)?);
+    fn pack(&self, t: Tables, storage: &[u8], slip: Name) -> Judged {
+        let chain = t.chain(self.named(&t, slip)?);
         if chain.len() <= 1 {
             return Ok(Done::nothing(0));
         }
@@ -1046,7 +1153,7 @@ pub trait Rules {
         let room = self.room(&t);
         let wanted = self.portions(&bytes).len() as u64;
         self.ask(&room, 0, wanted, wanted)?;
-        Ok(self.put_under(t, &room, slip as usize, &bytes))
+        Ok(self.put_under(t, &room, slip.number as usize, &bytes))
     }
 
     /// The asked bytes to the front of the output; answers their count.
@@ -1054,12 +1161,12 @@ pub trait Rules {
         &self,
         t: Tables,
         storage: &[u8],
-        slip: u16,
+        slip: Name,
         offset: u32,
         length: u32,
         output: usize,
     ) -> Judged {
-        let chain = t.chain(t.held(slip).ok_or(SLIP)?);
+        let chain = t.chain(self.named(&t, slip)?);
         refuse_if(self.end(offset, length) > t.length(&chain), RANGE)?;
         refuse_if((output as u64) < length as u64, NARROW)?;
         let bytes = t.read(storage, &chain).into_iter();
@@ -1070,8 +1177,8 @@ pub trait Rules {
     }
 
     /// The first n bytes in one stretch: in storage if the first piece has them, else in scratch.
-    fn show(&self, t: Tables, storage: &[u8], slip: u16, n: u64, scratch: usize) -> Judged {
-        let chain = t.chain(t.held(slip).ok_or(SLIP)?);
+    fn show(&self, t: Tables, storage: &[u8], slip: Name, n: u64, scratch: usize) -> Judged {
+        let chain = t.chain(self.named(&t, slip)?);
         refuse_if(self.is_long(n), LONG)?;
         refuse_if(n > t.length(&chain), RANGE)?;
         if n == 0 {
@@ -1101,8 +1208,8 @@ pub trait Rules {
     // The wire list and its reader.
 
     /// The records of the slip's chain, where so many numbers take all of them.
-    fn list(&self, t: Tables, slip: u16, numbers: usize) -> Judged {
-        let chain = t.chain(t.held(slip).ok_or(SLIP)?);
+    fn list(&self, t: Tables, slip: Name, numbers: usize) -> Judged {
+        let chain = t.chain(self.named(&t, slip)?);
         let records = self.records(&t, &chain);
         refuse_if(records.len() > numbers / 2, NARROW)?;
         Ok(Done {
@@ -1112,7 +1219,7 @@ pub trait Rules {
     }
 
     /// stretches: as list, each record taking the place of two numbers.
-    fn list_in_records(&self, t: Tables, slip: u16, records: usize) -> Judged {
+    fn list_in_records(&self, t: Tables, slip: Name, records: usize) -> Judged {
         self.list(t, slip, 2 * records)
     }
 

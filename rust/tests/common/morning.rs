@@ -6,7 +6,7 @@ use super::desk::{
     append, cut, data, drop, dup, free, gather, keep, pack, pullup, put, read, show, Desk, Engine,
     UNTOUCHED,
 };
-use super::model::{Call, BUFFERS, DONE, LONG, NARROW, PIECES, RANGE, SAME, SLIP};
+use super::model::{Call, Name, BUFFERS, DONE, LONG, NARROW, PIECES, RANGE, SAME, SLIP};
 
 use Buffer::{Data, Old, Tens};
 
@@ -17,8 +17,10 @@ pub type Asked = fn() -> Call;
 pub struct Row {
     pub call: Asked,
     pub number: u64,
-    /// Each slip's stored word.
+    /// Each slip's stored state.
     pub slips: &'static [u16],
+    /// Each slip's serial.
+    pub serials: &'static [u16],
     /// Each piece's stored words: count, buffer, offset, length, next.
     pub pieces: &'static [[u16; 5]],
     /// Each buffer's count.
@@ -38,14 +40,24 @@ pub enum Buffer {
 
 /// A held slip: its length, the stretches of the data (start, end) that it reads as, its wire list.
 pub struct Chain {
-    pub slip: u16,
+    pub slip: Name,
     pub length: u64,
     pub stretches: &'static [(usize, usize)],
     pub list: &'static [u32],
 }
 
+/// The chain of a slip that was never vacated.
 const fn chain(
-    slip: u16,
+    number: u16,
+    length: u64,
+    stretches: &'static [(usize, usize)],
+    list: &'static [u32],
+) -> Chain {
+    chain_at(Name::new(number, 0), length, stretches, list)
+}
+
+const fn chain_at(
+    slip: Name,
     length: u64,
     stretches: &'static [(usize, usize)],
     list: &'static [u32],
@@ -58,6 +70,10 @@ const fn chain(
     }
 }
 
+/// Slips 1 and 2, vacated once and given again.
+const ONE: Name = Name::new(1, 1);
+const TWO: Name = Name::new(2, 1);
+
 /// An entry of zeros: a free piece.
 pub const Z: [u16; 5] = [0; 5];
 
@@ -67,6 +83,7 @@ pub const MORNING: &[Row] = &[
         call: || put(600),
         number: 0,
         slips: &[2, 0, 0, 0],
+        serials: &[0; 4],
         pieces: &[[1, 0, 0, 512, 2], [1, 1, 0, 88, 0], Z, Z, Z, Z],
         counts: &[1, 1, 0, 0],
         buffers: &[Data(0, 512), Data(512, 600), Old, Old],
@@ -76,6 +93,7 @@ pub const MORNING: &[Row] = &[
         call: || cut(0, 500, 50),
         number: 1,
         slips: &[2, 4, 0, 0],
+        serials: &[0; 4],
         pieces: &[
             [1, 0, 0, 512, 2],
             [1, 1, 0, 88, 0],
@@ -95,6 +113,7 @@ pub const MORNING: &[Row] = &[
         call: || dup(0),
         number: 2,
         slips: &[2, 4, 6, 0],
+        serials: &[0; 4],
         pieces: &[
             [1, 0, 0, 512, 2],
             [2, 1, 0, 88, 0],
@@ -115,6 +134,7 @@ pub const MORNING: &[Row] = &[
         call: || free(0),
         number: 0,
         slips: &[0, 4, 6, 0],
+        serials: &[1, 0, 0, 0],
         pieces: &[
             Z,
             [1, 1, 0, 88, 0],
@@ -134,6 +154,7 @@ pub const MORNING: &[Row] = &[
         call: || drop(2, 520),
         number: 0,
         slips: &[0, 4, 3, 0],
+        serials: &[1, 0, 0, 0],
         pieces: &[
             Z,
             [1, 1, 8, 80, 0],
@@ -153,6 +174,7 @@ pub const MORNING: &[Row] = &[
         call: || append(1, 2),
         number: 0,
         slips: &[0, 4, 0, 0],
+        serials: &[1, 0, 1, 0],
         pieces: &[
             Z,
             [1, 1, 8, 80, 0],
@@ -174,6 +196,7 @@ pub const MORNING: &[Row] = &[
         call: || keep(1, 40),
         number: 0,
         slips: &[0, 4, 0, 0],
+        serials: &[1, 0, 1, 0],
         pieces: &[Z, Z, [1, 0, 500, 12, 4], [1, 1, 0, 28, 0], Z, Z],
         counts: &[1, 1, 0, 0],
         buffers: &[Data(0, 512), Data(512, 600), Old, Old],
@@ -183,6 +206,7 @@ pub const MORNING: &[Row] = &[
         call: || pullup(1, 20),
         number: 0,
         slips: &[0, 2, 0, 0],
+        serials: &[1, 0, 1, 0],
         pieces: &[[1, 2, 0, 20, 4], Z, Z, [1, 1, 8, 20, 0], Z, Z],
         counts: &[0, 1, 1, 0],
         buffers: &[Data(0, 512), Data(512, 600), Data(500, 520), Old],
@@ -192,6 +216,7 @@ pub const MORNING: &[Row] = &[
         call: || pack(1),
         number: 0,
         slips: &[0, 3, 0, 0],
+        serials: &[1, 0, 1, 0],
         pieces: &[Z, [1, 0, 0, 40, 0], Z, Z, Z, Z],
         counts: &[1, 0, 0, 0],
         buffers: &[Data(500, 540), Data(512, 600), Data(500, 520), Old],
@@ -201,6 +226,7 @@ pub const MORNING: &[Row] = &[
         call: || free(1),
         number: 0,
         slips: &[0; 4],
+        serials: &[1, 1, 1, 0],
         pieces: &[Z; 6],
         counts: &[0; 4],
         buffers: &[Data(500, 540), Data(512, 600), Data(500, 520), Old],
@@ -243,6 +269,7 @@ pub const EDGES: &[Edge] = &[
             call: || put(512),
             number: 0,
             slips: &[2, 0, 0, 0],
+            serials: &[0; 4],
             pieces: &[[1, 0, 0, 512, 0], Z, Z, Z, Z, Z],
             counts: &[1, 0, 0, 0],
             buffers: &[Data(0, 512), Old, Old, Old],
@@ -256,6 +283,7 @@ pub const EDGES: &[Edge] = &[
             call: || put(513),
             number: 0,
             slips: &[2, 0, 0, 0],
+            serials: &[0; 4],
             pieces: &[[1, 0, 0, 512, 2], [1, 1, 0, 1, 0], Z, Z, Z, Z],
             counts: &[1, 1, 0, 0],
             buffers: &[Data(0, 512), Data(512, 513), Old, Old],
@@ -269,6 +297,7 @@ pub const EDGES: &[Edge] = &[
             call: || put(2_048),
             number: 0,
             slips: &[2, 0, 0, 0],
+            serials: &[0; 4],
             pieces: &[
                 [1, 0, 0, 512, 2],
                 [1, 1, 0, 512, 3],
@@ -304,6 +333,7 @@ pub const EDGES: &[Edge] = &[
             call: || cut(0, 600, 0),
             number: 1,
             slips: &[2, 1, 0, 0],
+            serials: &[0; 4],
             pieces: &[[1, 0, 0, 512, 2], [1, 1, 0, 88, 0], Z, Z, Z, Z],
             counts: &[1, 1, 0, 0],
             buffers: &[Data(0, 512), Data(512, 600), Old, Old],
@@ -371,6 +401,7 @@ pub const FULL: &[Full] = &[
             call: || pullup(1, 20),
             number: 0,
             slips: &[2, 4, 6, 0],
+            serials: &[0; 4],
             pieces: &[
                 [1, 0, 0, 512, 2],
                 [1, 1, 0, 88, 0],
@@ -394,16 +425,17 @@ pub const FULL: &[Full] = &[
             (|| put(600), 0),
             (|| put(10), 1),
             (|| append(0, 1), 0),
-            (|| dup(0), 1),
-            (|| drop(1, 512), 0),
+            (|| dup(0), ONE.answer()),
+            (|| drop(ONE, 512), 0),
             (|| cut(0, 0, 600), 2),
-            (|| dup(1), 3),
+            (|| dup(ONE), 3),
         ],
         code: PIECES,
         row: Row {
-            call: || pullup(1, 98),
+            call: || pullup(ONE, 98),
             number: 0,
             slips: &[2, 3, 5, 7],
+            serials: &[0, 1, 0, 0],
             pieces: &[
                 [1, 0, 0, 512, 2],
                 [2, 1, 0, 88, 3],
@@ -416,7 +448,7 @@ pub const FULL: &[Full] = &[
             buffers: &[Data(0, 512), Data(512, 600), Data(0, 10), Old],
             chains: &[
                 chain(0, 610, &[(0, 600), (0, 10)], &[0, 512, 512, 88, 1_024, 10]),
-                chain(1, 98, &[(512, 600), (0, 10)], &[512, 88, 1_024, 10]),
+                chain_at(ONE, 98, &[(512, 600), (0, 10)], &[512, 88, 1_024, 10]),
                 chain(2, 600, &[(0, 600)], &[0, 512, 512, 88]),
                 chain(3, 98, &[(512, 600), (0, 10)], &[512, 88, 1_024, 10]),
             ],
@@ -435,6 +467,7 @@ pub const FULL: &[Full] = &[
             call: || drop(0, 520),
             number: 0,
             slips: &[2, 4, 5, 7],
+            serials: &[0; 4],
             pieces: &[
                 [1, 1, 8, 80, 0],
                 [1, 1, 0, 88, 0],
@@ -467,6 +500,7 @@ pub const FULL: &[Full] = &[
             call: || drop(1, 8),
             number: 0,
             slips: &[2, 3, 4, 6],
+            serials: &[0; 4],
             pieces: &[
                 [1, 0, 0, 512, 2],
                 [2, 1, 0, 88, 0],
@@ -498,6 +532,7 @@ pub const FULL: &[Full] = &[
             call: || pullup(1, 20),
             number: 0,
             slips: &[2, 4, 6, 7],
+            serials: &[0; 4],
             pieces: &[
                 [1, 0, 0, 512, 2],
                 [2, 1, 0, 88, 0],
@@ -524,6 +559,7 @@ pub const FULL: &[Full] = &[
             call: || pullup(1, 20),
             number: 0,
             slips: &[2, 4, 6, 0],
+            serials: &[0; 4],
             pieces: &[
                 [1, 0, 0, 512, 2],
                 [1, 1, 0, 88, 0],
@@ -549,15 +585,16 @@ pub const FULL: &[Full] = &[
             (|| put(10), 2),
             (|| append(1, 2), 0),
             (|| append(0, 1), 0),
-            (|| dup(0), 1),
-            (|| drop(1, 20), 0),
-            (|| cut(0, 0, 30), 2),
+            (|| dup(0), ONE.answer()),
+            (|| drop(ONE, 20), 0),
+            (|| cut(0, 0, 30), TWO.answer()),
         ],
         code: DONE,
         row: Row {
             call: || pullup(0, 25),
             number: 0,
             slips: &[2, 4, 5, 0],
+            serials: &[0, 1, 1, 0],
             pieces: &[
                 [1, 3, 0, 25, 2],
                 [1, 2, 5, 5, 0],
@@ -570,9 +607,9 @@ pub const FULL: &[Full] = &[
             buffers: &[Data(0, 10), Data(0, 10), Data(0, 10), Tens(25)],
             chains: &[
                 chain(0, 30, &[(0, 10), (0, 10), (0, 10)], &[1_536, 25, 1_029, 5]),
-                chain(1, 10, &[(0, 10)], &[1_024, 10]),
-                chain(
-                    2,
+                chain_at(ONE, 10, &[(0, 10)], &[1_024, 10]),
+                chain_at(
+                    TWO,
                     30,
                     &[(0, 10), (0, 10), (0, 10)],
                     &[0, 10, 512, 10, 1_024, 10],
@@ -586,14 +623,15 @@ pub const FULL: &[Full] = &[
             (|| put(10), 0),
             (|| put(10), 1),
             (|| append(0, 1), 0),
-            (|| put(1_024), 1),
-            (|| cut(1, 0, 1_024), 2),
+            (|| put(1_024), ONE.answer()),
+            (|| cut(ONE, 0, 1_024), 2),
         ],
         code: BUFFERS,
         row: Row {
             call: || pullup(0, 15),
             number: 0,
             slips: &[2, 4, 6, 0],
+            serials: &[0, 1, 0, 0],
             pieces: &[
                 [1, 0, 0, 10, 2],
                 [1, 1, 0, 10, 0],
@@ -606,7 +644,7 @@ pub const FULL: &[Full] = &[
             buffers: &[Data(0, 10), Data(0, 10), Data(0, 512), Data(512, 1_024)],
             chains: &[
                 chain(0, 20, &[(0, 10), (0, 10)], &[0, 10, 512, 10]),
-                chain(1, 1_024, &[(0, 1_024)], &[1_024, 512, 1_536, 512]),
+                chain_at(ONE, 1_024, &[(0, 1_024)], &[1_024, 512, 1_536, 512]),
                 chain(2, 1_024, &[(0, 1_024)], &[1_024, 512, 1_536, 512]),
             ],
         },
@@ -652,7 +690,7 @@ impl Row {
 
     /// Asserts all that holds after the call but for the lists.
     fn holds(&self, desk: &mut Desk) {
-        desk.tables(self.slips, self.pieces, self.counts);
+        desk.tables(self.slips, self.serials, self.pieces, self.counts);
         let buffers: Vec<u8> = self.buffers.iter().flat_map(Buffer::bytes).collect();
         desk.stores(&buffers);
         for chain in self.chains {

@@ -3,8 +3,9 @@
 use std::collections::HashSet;
 
 use super::model::{
-    pairs, pool_length, refuse_if, Call, Done, Holder, Judged, Left, Outcome, Piece, Place, Room,
-    Rules, Slip, Tables, BUFFERS, DONE, LIST, NARROW, PIECES, RANGE, SAME, SIZE, SLIP, TRUE, ZERO,
+    pairs, pool_length, refuse_if, Call, Done, Holder, Judged, Left, Name, Outcome, Piece, Place,
+    Room, Rules, Slip, Tables, BUFFERS, DONE, LAST, LIST, NARROW, PIECES, RANGE, SAME, SIZE, SLIP,
+    TRUE, ZERO,
 };
 
 macro_rules! named {
@@ -82,6 +83,38 @@ pub const MUTATIONS: &[(&str, &dyn Rules)] = named![
     GatherShortStorage,
     GatherCopiesFirst,
     GatherClearsRest,
+    SerialUnseen,
+    SerialUnseenInB,
+    SerialUnseenInLooks,
+    SerialLowByte,
+    SerialAtLeast,
+    SerialBeforeRange,
+    EntryBehindSlips,
+    VacantBySerial,
+    SerialWraps,
+    SerialStopsEarly,
+    SerialReset,
+    SerialAtGiving,
+    FreeKeepsSerial,
+    AppendKeepsSerial,
+    AppendEmptyKeepsSerial,
+    AppendMovesA,
+    EmptyingMovesSerial,
+    PackMovesSerial,
+    RefusedFreeCounted,
+    RefusedAppendCounted,
+    AnswerWithoutSerial,
+    AnswerNextSerial,
+    AnswerSerialLow,
+    SpentGiven,
+    SpentGivenLast,
+    SpentEarly,
+    SpentHeldRefused,
+    OpenKeepsSerials,
+    OpenFirstVersion,
+    AuditVacantSerial,
+    AuditHeldLast,
+    SameBeforeSerial,
 ];
 
 /// Release frees the whole chain past a piece that another slip still reaches.
@@ -195,17 +228,17 @@ impl Rules for HighestBuffer {
 struct PackRoomGivenBack;
 
 impl Rules for PackRoomGivenBack {
-    fn pack(&self, mut t: Tables, storage: &[u8], slip: u16) -> Judged {
+    fn pack(&self, mut t: Tables, storage: &[u8], slip: Name) -> Judged {
         let chain = t.chain(t.held(slip).ok_or(SLIP)?);
         if chain.len() <= 1 {
             return TRUE.pack(t, storage, slip);
         }
         let bytes = t.read(storage, &chain);
-        TRUE.refer(&mut t, Holder::Slip(slip as usize), None);
+        TRUE.refer(&mut t, Holder::Slip(slip.number as usize), None);
         let room = TRUE.room(&t);
         let wanted = TRUE.portions(&bytes).len() as u64;
         TRUE.ask(&room, 0, wanted, wanted)?;
-        Ok(TRUE.put_under(t, &room, slip as usize, &bytes))
+        Ok(TRUE.put_under(t, &room, slip.number as usize, &bytes))
     }
 }
 
@@ -213,7 +246,7 @@ impl Rules for PackRoomGivenBack {
 struct KeepBorderInPlace;
 
 impl Rules for KeepBorderInPlace {
-    fn keep(&self, mut t: Tables, slip: u16, n: u64) -> Judged {
+    fn keep(&self, mut t: Tables, slip: Name, n: u64) -> Judged {
         let chain = t.chain(t.held(slip).ok_or(SLIP)?);
         let last = t.spans(&chain).iter().position(|(_, end)| *end == n);
         match last {
@@ -247,10 +280,10 @@ impl Rules for DropBorderTakesPiece {
 struct PullupOfWholeFirst;
 
 impl Rules for PullupOfWholeFirst {
-    fn pullup(&self, t: Tables, storage: &[u8], slip: u16, n: u64) -> Judged {
+    fn pullup(&self, t: Tables, storage: &[u8], slip: Name, n: u64) -> Judged {
         let chain = t.chain(t.held(slip).ok_or(SLIP)?);
         if n > 0 && n == t.first_length(&chain) {
-            return TRUE.pull(t, storage, slip, n);
+            return TRUE.pull(t, storage, slip.number, n);
         }
         TRUE.pullup(t, storage, slip, n)
     }
@@ -415,9 +448,9 @@ impl Rules for GivenBackRefused {
             (after.code, call)
         {
             let mut t = Tables::parse(pool, storage).expect("sound");
-            let chain = t.chain(t.slips[*slip as usize]);
+            let chain = t.chain(t.slips[slip.number as usize]);
             let left = TRUE.left_by_drop(&t, &chain, *n as u64);
-            TRUE.give_back_front(&mut t, *slip, &left);
+            TRUE.give_back_front(&mut t, slip.number, &left);
             after.pool = t.bytes();
         }
         after
@@ -438,7 +471,7 @@ impl Rules for BuffersBeforePieces {
 struct PackSparesPacked;
 
 impl Rules for PackSparesPacked {
-    fn pack(&self, t: Tables, storage: &[u8], slip: u16) -> Judged {
+    fn pack(&self, t: Tables, storage: &[u8], slip: Name) -> Judged {
         let places = t.places(&t.chain(t.held(slip).ok_or(SLIP)?));
         match places.split_last() {
             Some((last, full)) if last.offset == 0 && full.iter().all(|q| q.length == SIZE) => {
@@ -453,7 +486,7 @@ impl Rules for PackSparesPacked {
 struct CutSharesTail;
 
 impl Rules for CutSharesTail {
-    fn cut(&self, t: Tables, slip: u16, offset: u32, length: u32) -> Judged {
+    fn cut(&self, t: Tables, slip: Name, offset: u32, length: u32) -> Judged {
         let chain = t.chain(t.held(slip).ok_or(SLIP)?);
         let spans = t.spans(&chain);
         let tail = spans.iter().position(|(start, _)| *start >= offset as u64);
@@ -463,7 +496,7 @@ impl Rules for CutSharesTail {
                 let before = spans[i].0 as u32 - offset;
                 let mut done = TRUE.cut(t, slip, offset, before)?;
                 let t = done.tables.as_mut().expect("a new slip");
-                let new = done.number as usize;
+                let new = done.number as u16 as usize;
                 let holder = match t.chain(t.slips[new]).last() {
                     None => Holder::Slip(new),
                     Some(d) => Holder::Piece(*d),
@@ -498,7 +531,7 @@ impl Rules for RestNotZeroed {
 struct DupHeadsSame;
 
 impl Rules for DupHeadsSame {
-    fn dup(&self, t: Tables, slip: u16) -> Judged {
+    fn dup(&self, t: Tables, slip: Name) -> Judged {
         let head = t.held(slip).ok_or(SLIP)?.head();
         TRUE.new_chain(t, &[], head)
     }
@@ -508,7 +541,7 @@ impl Rules for DupHeadsSame {
 struct ShowAlwaysNarrow;
 
 impl Rules for ShowAlwaysNarrow {
-    fn show(&self, t: Tables, storage: &[u8], slip: u16, n: u64, scratch: usize) -> Judged {
+    fn show(&self, t: Tables, storage: &[u8], slip: Name, n: u64, scratch: usize) -> Judged {
         let done = TRUE.show(t, storage, slip, n, scratch)?;
         refuse_if((scratch as u64) < n, NARROW)?;
         Ok(done)
@@ -523,7 +556,7 @@ impl Rules for NarrowBeforeRange {
         &self,
         t: Tables,
         storage: &[u8],
-        slip: u16,
+        slip: Name,
         offset: u32,
         length: u32,
         output: usize,
@@ -535,12 +568,12 @@ impl Rules for NarrowBeforeRange {
     }
 }
 
-/// Append judges one number twice before the slips.
+/// Append judges one number twice before the slips, and so before their serials.
 struct SameBeforeSlip;
 
 impl Rules for SameBeforeSlip {
-    fn append(&self, t: Tables, a: u16, b: u16) -> Judged {
-        refuse_if(a == b, SAME)?;
+    fn append(&self, t: Tables, a: Name, b: Name) -> Judged {
+        refuse_if(a.number == b.number, SAME)?;
         TRUE.append(t, a, b)
     }
 }
@@ -549,11 +582,11 @@ impl Rules for SameBeforeSlip {
 struct DropAllVacates;
 
 impl Rules for DropAllVacates {
-    fn drop(&self, t: Tables, slip: u16, n: u64) -> Judged {
+    fn drop(&self, t: Tables, slip: Name, n: u64) -> Judged {
         let mut done = TRUE.drop(t, slip, n)?;
         if let Some(t) = &mut done.tables {
-            if t.slips[slip as usize] == Slip::Empty {
-                t.vacate(slip);
+            if t.slips[slip.number as usize] == Slip::Empty {
+                TRUE.vacate(t, slip.number as usize);
             }
         }
         Ok(done)
@@ -623,7 +656,7 @@ impl Rules for ReleasedCleaned {
 struct AppendOwnWithoutB;
 
 impl Rules for AppendOwnWithoutB {
-    fn append(&self, t: Tables, a: u16, b: u16) -> Judged {
+    fn append(&self, t: Tables, a: Name, b: Name) -> Judged {
         match t.held(b) {
             Some(Slip::Heads(d)) => OwnWithout(d).append(t, a, b),
             _ => TRUE.append(t, a, b),
@@ -646,14 +679,14 @@ impl Rules for OwnWithout {
 struct AppendEmptyReplaces;
 
 impl Rules for AppendEmptyReplaces {
-    fn append(&self, mut t: Tables, a: u16, b: u16) -> Judged {
+    fn append(&self, mut t: Tables, a: Name, b: Name) -> Judged {
         match (t.held(a), t.held(b)) {
             (Some(state @ Slip::Heads(_)), Some(Slip::Empty)) => {
                 let chain = t.chain(state);
                 let (own, others) = chain.split_at(TRUE.own(&t, &chain));
                 let places = t.places(others);
-                TRUE.replace(&mut t, a, own, &places, None)?;
-                t.vacate(b);
+                TRUE.replace(&mut t, a.number, own, &places, None)?;
+                TRUE.vacate(&mut t, b.number as usize);
                 Ok(Done::changed(0, t))
             }
             _ => TRUE.append(t, a, b),
@@ -705,7 +738,7 @@ impl Rules for PutOneMore {
 struct ShowNothingAtHead;
 
 impl Rules for ShowNothingAtHead {
-    fn show(&self, t: Tables, storage: &[u8], slip: u16, n: u64, scratch: usize) -> Judged {
+    fn show(&self, t: Tables, storage: &[u8], slip: Name, n: u64, scratch: usize) -> Judged {
         let state = t.held(slip).ok_or(SLIP)?;
         let place = state.head().map_or(0, |d| t.start(d));
         let mut done = TRUE.show(t, storage, slip, n, scratch)?;
@@ -754,7 +787,7 @@ impl Rules for OpenTakesLonger {
 struct ListTakesLone;
 
 impl Rules for ListTakesLone {
-    fn list(&self, t: Tables, slip: u16, numbers: usize) -> Judged {
+    fn list(&self, t: Tables, slip: Name, numbers: usize) -> Judged {
         let mut done = TRUE.list(t, slip, numbers + numbers % 2)?;
         done.listed.truncate(numbers);
         Ok(done)
@@ -770,7 +803,7 @@ impl Rules for ListWrittenShort {
         if let (NARROW, Call::List { slip, .. } | Call::Stretches { slip, .. }) = (after.code, call)
         {
             let t = Tables::parse(pool, storage).expect("sound");
-            let chain = t.chain(t.slips[*slip as usize]);
+            let chain = t.chain(t.slips[slip.number as usize]);
             let numbers = TRUE.records(&t, &chain).concat();
             let room = after.list.len() / 2 * 2;
             after.list[..room].copy_from_slice(&numbers[..room]);
@@ -797,7 +830,7 @@ impl Rules for ListClearsRest {
 struct ListAnswersNumbers;
 
 impl Rules for ListAnswersNumbers {
-    fn list(&self, t: Tables, slip: u16, numbers: usize) -> Judged {
+    fn list(&self, t: Tables, slip: Name, numbers: usize) -> Judged {
         let done = TRUE.list(t, slip, numbers)?;
         Ok(Done {
             number: done.listed.len() as u64,
@@ -859,7 +892,7 @@ impl Rules for ListJoins {
 struct ListEmptyWantsOne;
 
 impl Rules for ListEmptyWantsOne {
-    fn list(&self, t: Tables, slip: u16, numbers: usize) -> Judged {
+    fn list(&self, t: Tables, slip: Name, numbers: usize) -> Judged {
         let done = TRUE.list(t, slip, numbers)?;
         refuse_if(numbers < 2, NARROW)?;
         Ok(done)
@@ -870,7 +903,7 @@ impl Rules for ListEmptyWantsOne {
 struct StretchesHalfRoom;
 
 impl Rules for StretchesHalfRoom {
-    fn list_in_records(&self, t: Tables, slip: u16, records: usize) -> Judged {
+    fn list_in_records(&self, t: Tables, slip: Name, records: usize) -> Judged {
         TRUE.list(t, slip, records)
     }
 }
@@ -977,5 +1010,433 @@ impl Rules for GatherClearsRest {
             after.lent[after.number as usize..].fill(0);
         }
         after
+    }
+}
+
+/// The serial is not compared.
+struct SerialUnseen;
+
+impl Rules for SerialUnseen {
+    fn named(&self, t: &Tables, name: Name) -> Result<Slip, u16> {
+        t.state(name.number).ok_or(SLIP)
+    }
+}
+
+/// The name of the slip of this number as it is now, whatever serial was given.
+fn right(t: &Tables, name: Name) -> Name {
+    t.state(name.number).map_or(name, |_| t.name(name.number))
+}
+
+/// Append doesn't compare the serial of b.
+struct SerialUnseenInB;
+
+impl Rules for SerialUnseenInB {
+    fn append(&self, t: Tables, a: Name, b: Name) -> Judged {
+        let b = right(&t, b);
+        TRUE.append(t, a, b)
+    }
+}
+
+/// Read, show and the lists don't compare the serial.
+struct SerialUnseenInLooks;
+
+impl Rules for SerialUnseenInLooks {
+    fn read(
+        &self,
+        t: Tables,
+        storage: &[u8],
+        slip: Name,
+        offset: u32,
+        length: u32,
+        output: usize,
+    ) -> Judged {
+        let slip = right(&t, slip);
+        TRUE.read(t, storage, slip, offset, length, output)
+    }
+
+    fn show(&self, t: Tables, storage: &[u8], slip: Name, n: u64, scratch: usize) -> Judged {
+        let slip = right(&t, slip);
+        TRUE.show(t, storage, slip, n, scratch)
+    }
+
+    fn list(&self, t: Tables, slip: Name, numbers: usize) -> Judged {
+        let slip = right(&t, slip);
+        TRUE.list(t, slip, numbers)
+    }
+}
+
+/// Of the serial the low byte alone is compared.
+struct SerialLowByte;
+
+impl Rules for SerialLowByte {
+    fn named(&self, t: &Tables, name: Name) -> Result<Slip, u16> {
+        let state = t.state(name.number).ok_or(SLIP)?;
+        let stored = t.serials[name.number as usize];
+        refuse_if(stored % 256 != name.serial as u64 % 256, SLIP)?;
+        Ok(state)
+    }
+}
+
+/// An earlier serial is refused, a later one is not.
+struct SerialAtLeast;
+
+impl Rules for SerialAtLeast {
+    fn named(&self, t: &Tables, name: Name) -> Result<Slip, u16> {
+        let state = t.state(name.number).ok_or(SLIP)?;
+        let stored = t.serials[name.number as usize];
+        refuse_if((name.serial as u64) < stored, SLIP)?;
+        Ok(state)
+    }
+}
+
+/// What a program comes to that reads outside its tables: no rule gives this code.
+const OUTSIDE: u16 = u16::MAX;
+
+/// The serial is compared before the number is found to be below S.
+struct SerialBeforeRange;
+
+impl Rules for SerialBeforeRange {
+    fn named(&self, t: &Tables, name: Name) -> Result<Slip, u16> {
+        let stored = t.serials.get(name.number as usize).ok_or(OUTSIDE)?;
+        refuse_if(*stored != name.serial as u64, SLIP)?;
+        TRUE.named(t, name)
+    }
+}
+
+/// The number is not compared with S: words of the pieces behind the slips are taken for an entry.
+struct EntryBehindSlips;
+
+impl Rules for EntryBehindSlips {
+    fn named(&self, t: &Tables, name: Name) -> Result<Slip, u16> {
+        let (entry, pool) = (11 + 4 * name.number as usize, t.bytes());
+        let outside = name.number as usize >= t.slips.len();
+        match pool.get(entry..entry + 4) {
+            Some([low, high, serial @ ..]) if outside && (*low, *high) != (0, 0) => {
+                refuse_if(*serial == name.serial.to_le_bytes(), OUTSIDE)?;
+                Err(SLIP)
+            }
+            _ => TRUE.named(t, name),
+        }
+    }
+}
+
+/// A slip is held where its serial is the one given, vacant or not: a vacant one reads as empty.
+struct VacantBySerial;
+
+impl Rules for VacantBySerial {
+    fn named(&self, t: &Tables, name: Name) -> Result<Slip, u16> {
+        let stored = t.serials.get(name.number as usize).ok_or(SLIP)?;
+        refuse_if(*stored != name.serial as u64, SLIP)?;
+        Ok(t.state(name.number).unwrap_or(Slip::Empty))
+    }
+}
+
+/// After the last serial comes the first.
+struct SerialWraps;
+
+impl Rules for SerialWraps {
+    fn older(&self, serial: u64) -> u64 {
+        (serial + 1) % (LAST + 1)
+    }
+}
+
+/// The serial goes no further than the last but one.
+struct SerialStopsEarly;
+
+impl Rules for SerialStopsEarly {
+    fn older(&self, serial: u64) -> u64 {
+        (serial + 1).min(LAST - 1).max(serial)
+    }
+}
+
+/// A vacant slip has serial 0.
+struct SerialReset;
+
+impl Rules for SerialReset {
+    fn older(&self, _: u64) -> u64 {
+        0
+    }
+}
+
+/// The serial goes up when the slip is given, not when it is vacated.
+struct SerialAtGiving;
+
+impl SerialAtGiving {
+    /// The slip just given is older by one.
+    fn aged(mut done: Done) -> Judged {
+        let t = done.tables.as_mut().expect("a new slip");
+        let slip = done.number as u16;
+        t.serials[slip as usize] = TRUE.older(t.serials[slip as usize]);
+        done.number = t.name(slip).answer();
+        Ok(done)
+    }
+}
+
+impl Rules for SerialAtGiving {
+    fn vacate(&self, t: &mut Tables, slip: usize) {
+        t.slips[slip] = Slip::Vacant;
+    }
+
+    fn put(&self, t: Tables, data: &[u8]) -> Judged {
+        SerialAtGiving::aged(TRUE.put(t, data)?)
+    }
+
+    fn new_chain(&self, t: Tables, places: &[Place], then: Option<usize>) -> Judged {
+        SerialAtGiving::aged(TRUE.new_chain(t, places, then)?)
+    }
+}
+
+/// A done call, with this slip's serial as it was before.
+fn with_serial_of(before: &Tables, slip: u16, judged: Judged) -> Judged {
+    let mut done = judged?;
+    if let Some(t) = &mut done.tables {
+        t.serials[slip as usize] = before.serials[slip as usize];
+    }
+    Ok(done)
+}
+
+/// Free leaves the serial.
+struct FreeKeepsSerial;
+
+impl Rules for FreeKeepsSerial {
+    fn free(&self, t: Tables, slip: Name) -> Judged {
+        let done = TRUE.free(t.clone(), slip);
+        with_serial_of(&t, slip.number, done)
+    }
+}
+
+/// Append leaves the serial of b.
+struct AppendKeepsSerial;
+
+impl Rules for AppendKeepsSerial {
+    fn append(&self, t: Tables, a: Name, b: Name) -> Judged {
+        let done = TRUE.append(t.clone(), a, b);
+        with_serial_of(&t, b.number, done)
+    }
+}
+
+/// Append leaves the serial of b where either side is empty.
+struct AppendEmptyKeepsSerial;
+
+impl Rules for AppendEmptyKeepsSerial {
+    fn append(&self, t: Tables, a: Name, b: Name) -> Judged {
+        let done = TRUE.append(t.clone(), a, b);
+        match [t.held(a), t.held(b)].contains(&Some(Slip::Empty)) {
+            true => with_serial_of(&t, b.number, done),
+            false => done,
+        }
+    }
+}
+
+/// A done call, with this slip's serial older by one.
+fn aged(slip: u16, judged: Judged) -> Judged {
+    let mut done = judged?;
+    if let Some(t) = &mut done.tables {
+        t.serials[slip as usize] = TRUE.older(t.serials[slip as usize]);
+    }
+    Ok(done)
+}
+
+/// Append moves the serial of a too.
+struct AppendMovesA;
+
+impl Rules for AppendMovesA {
+    fn append(&self, t: Tables, a: Name, b: Name) -> Judged {
+        aged(a.number, TRUE.append(t, a, b))
+    }
+}
+
+/// Keep of 0 and drop of the whole length move the serial.
+struct EmptyingMovesSerial;
+
+impl EmptyingMovesSerial {
+    /// Older where the slip was emptied.
+    fn emptied(slip: Name, judged: Judged) -> Judged {
+        let empty = |t: &Tables| t.slips[slip.number as usize] == Slip::Empty;
+        match &judged {
+            Ok(done) if done.tables.as_ref().is_some_and(empty) => aged(slip.number, judged),
+            _ => judged,
+        }
+    }
+}
+
+impl Rules for EmptyingMovesSerial {
+    fn drop(&self, t: Tables, slip: Name, n: u64) -> Judged {
+        EmptyingMovesSerial::emptied(slip, TRUE.drop(t, slip, n))
+    }
+
+    fn keep(&self, t: Tables, slip: Name, n: u64) -> Judged {
+        EmptyingMovesSerial::emptied(slip, TRUE.keep(t, slip, n))
+    }
+}
+
+/// Pack, which puts the bytes afresh, moves the serial as if the slip were vacated on the way.
+struct PackMovesSerial;
+
+impl Rules for PackMovesSerial {
+    fn pack(&self, t: Tables, storage: &[u8], slip: Name) -> Judged {
+        aged(slip.number, TRUE.pack(t, storage, slip))
+    }
+}
+
+/// The pool after a refusal in which one slip's serial went up all the same, if there is such a slip.
+fn counted_refusal(after: &mut Outcome, storage: &[u8], slip: Name) {
+    let mut t = Tables::parse(&after.pool, storage).expect("sound");
+    if let Some(serial) = t.serials.get_mut(slip.number as usize) {
+        *serial = TRUE.older(*serial);
+        after.pool = t.bytes();
+    }
+}
+
+/// A free that is refused for its serial counts.
+struct RefusedFreeCounted;
+
+impl Rules for RefusedFreeCounted {
+    fn step(&self, pool: &[u8], storage: &[u8], call: &Call) -> Outcome {
+        let mut after = TRUE.step(pool, storage, call);
+        if let (SLIP, Call::Free { slip }) = (after.code, call) {
+            counted_refusal(&mut after, storage, *slip);
+        }
+        after
+    }
+}
+
+/// An append that is refused for want of pieces, or for one slip named twice, counts for b.
+struct RefusedAppendCounted;
+
+impl Rules for RefusedAppendCounted {
+    fn step(&self, pool: &[u8], storage: &[u8], call: &Call) -> Outcome {
+        let mut after = TRUE.step(pool, storage, call);
+        if let (PIECES | SAME, Call::Append { b, .. }) = (after.code, call) {
+            counted_refusal(&mut after, storage, *b);
+        }
+        after
+    }
+}
+
+/// The slip is answered without its serial.
+struct AnswerWithoutSerial;
+
+impl Rules for AnswerWithoutSerial {
+    fn answer(&self, _: &Tables, slip: usize) -> u64 {
+        slip as u64
+    }
+}
+
+/// The slip is answered with the serial that it will have once it is vacated.
+struct AnswerNextSerial;
+
+impl Rules for AnswerNextSerial {
+    fn answer(&self, t: &Tables, slip: usize) -> u64 {
+        slip as u64 + 65_536 * TRUE.older(t.serials[slip])
+    }
+}
+
+/// The serial is answered in the low half.
+struct AnswerSerialLow;
+
+impl Rules for AnswerSerialLow {
+    fn answer(&self, t: &Tables, slip: usize) -> u64 {
+        65_536 * slip as u64 + t.serials[slip]
+    }
+}
+
+/// A spent slip is given like any other.
+struct SpentGiven;
+
+impl Rules for SpentGiven {
+    fn is_spent(&self, _: &Tables, _: usize) -> bool {
+        false
+    }
+}
+
+/// A spent slip is given where no other is vacant.
+struct SpentGivenLast;
+
+impl Rules for SpentGivenLast {
+    fn room(&self, t: &Tables) -> Room {
+        let mut room = TRUE.room(t);
+        room.slips
+            .extend((0..t.slips.len()).filter(|i| t.is_spent(*i)));
+        room
+    }
+}
+
+/// A vacant slip is spent one serial too early.
+struct SpentEarly;
+
+impl Rules for SpentEarly {
+    fn is_spent(&self, t: &Tables, slip: usize) -> bool {
+        t.serials[slip] >= LAST - 1
+    }
+}
+
+/// A held slip at the last serial is refused as if it were spent.
+struct SpentHeldRefused;
+
+impl Rules for SpentHeldRefused {
+    fn named(&self, t: &Tables, name: Name) -> Result<Slip, u16> {
+        refuse_if(name.serial as u64 == LAST, SLIP)?;
+        TRUE.named(t, name)
+    }
+}
+
+/// Open leaves the serials as they were.
+struct OpenKeepsSerials;
+
+impl Rules for OpenKeepsSerials {
+    fn open(&self, pool: &[u8], storage: &[u8], buffers: u16, pieces: u16, slips: u16) -> Judged {
+        let mut done = TRUE.open(pool, storage, buffers, pieces, slips)?;
+        let old = Tables::parse(pool, storage);
+        if let (Some(t), Some(old)) = (&mut done.tables, old) {
+            for (serial, was) in t.serials.iter_mut().zip(old.serials) {
+                *serial = was;
+            }
+        }
+        Ok(done)
+    }
+}
+
+/// Open writes version 1.
+struct OpenFirstVersion;
+
+impl Rules for OpenFirstVersion {
+    fn step(&self, pool: &[u8], storage: &[u8], call: &Call) -> Outcome {
+        let mut after = TRUE.step(pool, storage, call);
+        if matches!(call, Call::Open { .. }) && after.code == DONE {
+            after.pool[3] = 1;
+        }
+        after
+    }
+}
+
+/// The audit asks that a vacant slip has serial 0.
+struct AuditVacantSerial;
+
+impl Rules for AuditVacantSerial {
+    fn is_sound(&self, t: &Tables) -> bool {
+        let fresh = |i: usize| t.slips[i] != Slip::Vacant || t.serials[i] == 0;
+        TRUE.is_sound(t) && (0..t.slips.len()).all(fresh)
+    }
+}
+
+/// The audit refuses a held slip at the last serial.
+struct AuditHeldLast;
+
+impl Rules for AuditHeldLast {
+    fn is_sound(&self, t: &Tables) -> bool {
+        let before_last = |i: usize| t.slips[i] == Slip::Vacant || t.serials[i] < LAST;
+        TRUE.is_sound(t) && (0..t.slips.len()).all(before_last)
+    }
+}
+
+/// Append judges one number twice before the serials, though behind the slips.
+struct SameBeforeSerial;
+
+impl Rules for SameBeforeSerial {
+    fn append(&self, t: Tables, a: Name, b: Name) -> Judged {
+        let both = t.state(a.number).is_some() && t.state(b.number).is_some();
+        refuse_if(both && a.number == b.number, SAME)?;
+        TRUE.append(t, a, b)
     }
 }

@@ -3,7 +3,7 @@
 
 use std::collections::HashSet;
 
-use super::model::MOST;
+use super::model::{MOST, VERSION};
 
 /// Slips of every such pool.
 const SLIPS: usize = MOST.2 as usize;
@@ -46,9 +46,9 @@ impl Nexts {
     pub fn bytes(&self) -> (Vec<u8>, Vec<u8>) {
         let references = self.references();
         let used = references.iter().filter(|count| **count > 0).count();
-        let mut words = vec![1, 1, self.next.len(), SLIPS];
-        words.extend(self.heads.iter().map(|d| d + 2));
-        words.resize(4 + SLIPS, 0);
+        let mut words = vec![VERSION as usize, 1, self.next.len(), SLIPS];
+        words.extend(self.heads.iter().flat_map(|d| [d + 2, 0]));
+        words.resize(4 + 2 * SLIPS, 0);
         for (count, next) in references.iter().zip(&self.next) {
             let link = next.map_or(0, |d| d + 1);
             assert!(*count > 0 || link == 0, "a free piece is all zero");

@@ -1,6 +1,6 @@
 //! Seeded numbers, pool shapes, and random calls with arguments at the borders.
 
-use super::model::{pool_length, Call, Slip, Tables, MOST};
+use super::model::{pool_length, Call, Name, Slip, Tables, LAST, MOST};
 
 /// Splitmix64: the same seed gives the same numbers everywhere.
 pub struct Random {
@@ -143,6 +143,20 @@ pub struct Mood {
     wild: u64,
     /// Once in this many all free pieces are taken or, in a full table, some are wanted by drop and pullup; 0 for never.
     crowded: u64,
+    worn: Worn,
+}
+
+/// Which serials are set by hand, so that slips are spent soon.
+#[derive(Clone, Copy)]
+enum Worn {
+    /// None: they are as the calls leave them.
+    Never,
+    /// Those of all slips, to the last ones.
+    All,
+    /// Those of half of the slips, to the last ones.
+    Half,
+    /// Those of all slips, to any.
+    Any,
 }
 
 impl Mood {
@@ -175,6 +189,31 @@ impl Mood {
             put_up_to,
             wild: random.pick(&[6, 20, 60]),
             crowded,
+            worn: random.pick(&[
+                Worn::Never,
+                Worn::Never,
+                Worn::Never,
+                Worn::All,
+                Worn::Half,
+                Worn::Any,
+            ]),
+        }
+    }
+
+    /// Sets serials by hand, which leaves the pool sound.
+    pub fn wear(&self, random: &mut Random, pool: &mut [u8]) {
+        let slips = u16::from_le_bytes([pool[9], pool[10]]) as usize;
+        for slip in 0..slips {
+            let last = random.between(LAST - 2, LAST);
+            let serial = match self.worn {
+                Worn::Never => return,
+                Worn::All => last,
+                Worn::Half if random.once_in(2) => last,
+                Worn::Half => continue,
+                Worn::Any => random.below(LAST + 1),
+            };
+            let at = 11 + 4 * slip + 2;
+            pool[at..at + 2].copy_from_slice(&(serial as u16).to_le_bytes());
         }
     }
 
@@ -192,14 +231,39 @@ impl Mood {
     }
 }
 
+/// Names that a caller has noted down: some are still held, others are yesterday's.
+#[derive(Default)]
+pub struct Notes {
+    names: Vec<Name>,
+}
+
+impl Notes {
+    /// So many names at most: then a new one takes the place of an old one.
+    const MOST: usize = 40;
+
+    /// Notes the name of some slip, if it is held.
+    fn note(&mut self, random: &mut Random, t: &Tables) {
+        let number = random.below(t.slips.len() as u64) as u16;
+        if t.state(number).is_none() || self.names.contains(&t.name(number)) {
+            return;
+        }
+        if self.names.len() == Notes::MOST {
+            let old = random.below(Notes::MOST as u64) as usize;
+            self.names.swap_remove(old);
+        }
+        self.names.push(t.name(number));
+    }
+}
+
 /// A chain seen from outside: its length and the places where a piece ends.
 struct Seen {
     length: u64,
     borders: Vec<u64>,
 }
 
-fn seen(tables: &Tables, slip: u16) -> Seen {
-    let chain = match tables.held(slip) {
+/// What is seen of the slip of this number, whatever serial it is named by: so a wrong one alone is what refuses the call.
+fn seen(tables: &Tables, slip: Name) -> Seen {
+    let chain = match tables.state(slip.number) {
         Some(state) => tables.chain(state),
         None => Vec::new(),
     };
@@ -270,6 +334,38 @@ fn slip(random: &mut Random, tables: &Tables, wild: u64) -> u16 {
     }
 }
 
+/// A slip's name: mostly the right one, now and then one noted before or with another serial.
+fn name(random: &mut Random, tables: &Tables, wild: u64, notes: &Notes) -> Name {
+    if random.once_in(24) && !notes.names.is_empty() {
+        return random.pick(&notes.names);
+    }
+    let number = slip(random, tables, wild);
+    if number as usize >= tables.slips.len() || random.once_in(24) {
+        return Name::new(number, other_serial(random, tables, number));
+    }
+    tables.name(number)
+}
+
+/// A serial that is mostly not the slip's: around it, the first, the last, another slip's, with one bit turned over, or any.
+pub fn other_serial(random: &mut Random, tables: &Tables, number: u16) -> u16 {
+    let right = tables.serials.get(number as usize).map_or(0, |s| *s as u16);
+    let another = random.pick(&tables.serials) as u16;
+    let turned = right ^ (1 << random.below(16));
+    let any = random.number() as u16;
+    let (before, behind) = (right.wrapping_sub(1), right.wrapping_add(1));
+    random.pick(&[
+        before,
+        before,
+        behind,
+        behind,
+        0,
+        LAST as u16,
+        another,
+        turned,
+        any,
+    ])
+}
+
 /// Lent bytes for a copy of n: exact, one short, longer, none, or enough in any case.
 pub fn lent_bytes(random: &mut Random, n: u64) -> Vec<u8> {
     let n = n.min(512 * MOST.1 + 9_000);
@@ -291,9 +387,9 @@ fn open(random: &mut Random, tables: &Tables) -> Call {
         tables.slips.len() as u16,
     );
     let (buffers, pieces, slips) = match random.below(10) {
-        // One piece less and five slips more are as many bytes.
-        0..=2 if p > 1 => (b, p - 1, s + 5),
-        3..=4 if s > 5 => (b, p + 1, s - 5),
+        // Two pieces less and five slips more are as many bytes.
+        0..=2 if p > 2 => (b, p - 2, s + 5),
+        3..=4 if s > 5 => (b, p + 2, s - 5),
         5 => random.pick(&[
             (b + 1, p, s),
             (b, p + 1, s),
@@ -314,10 +410,16 @@ fn open(random: &mut Random, tables: &Tables) -> Call {
     }
 }
 
-/// A random call for a sound pool.
-pub fn call(random: &mut Random, pool: &[u8], storage: &[u8], mood: &Mood) -> Call {
+/// A random call for a sound pool, by a caller who notes names down on the way.
+pub fn call(
+    random: &mut Random,
+    pool: &[u8],
+    storage: &[u8],
+    mood: &Mood,
+    notes: &mut Notes,
+) -> Call {
     let tables = Tables::parse(pool, storage).expect("a pool that the list has left");
-    let wild = mood.wild;
+    notes.note(random, &tables);
     if mood.crowded > 0 && random.once_in(mood.crowded) {
         if let Some(call) = crowded(random, &tables) {
             return call;
@@ -334,72 +436,74 @@ pub fn call(random: &mut Random, pool: &[u8], storage: &[u8], mood: &Mood) -> Ca
         2 => Call::Put {
             data: data(random, &tables, mood),
         },
-        3 => Call::Free {
-            slip: slip(random, &tables, wild),
-        },
-        4 => Call::Dup {
-            slip: slip(random, &tables, wild),
-        },
+        6 => joined(random, &tables, mood.wild, notes),
+        _ => {
+            let slip = name(random, &tables, mood.wild, notes);
+            of_slip(random, &tables, mood.wild, kind, slip)
+        }
+    }
+}
+
+/// A call of this kind that names one slip.
+fn of_slip(random: &mut Random, tables: &Tables, wild: u64, kind: usize, slip: Name) -> Call {
+    let chain = seen(tables, slip);
+    match kind {
+        3 => Call::Free { slip },
+        4 => Call::Dup { slip },
         5 => {
-            let slip = slip(random, &tables, wild);
-            let (offset, length) = range(random, &seen(&tables, slip), wild);
+            let (offset, length) = range(random, &chain, wild);
             Call::Cut {
                 slip,
                 offset,
                 length,
             }
         }
-        6 => {
-            let a = slip(random, &tables, wild);
-            let mut b = slip(random, &tables, wild);
-            if a == b && !random.once_in(4) {
-                b = slip(random, &tables, wild);
-            }
-            if random.once_in(3) {
-                b = heading_inside(&tables, a).unwrap_or(b);
-            }
-            Call::Append { a, b }
-        }
-        7 => {
-            let slip = slip(random, &tables, wild);
-            let n = amount(random, &seen(&tables, slip), wild);
-            Call::Drop { slip, n }
-        }
-        8 => {
-            let slip = slip(random, &tables, wild);
-            let n = amount(random, &seen(&tables, slip), wild);
-            Call::Keep { slip, n }
-        }
+        7 => Call::Drop {
+            slip,
+            n: amount(random, &chain, wild),
+        },
+        8 => Call::Keep {
+            slip,
+            n: amount(random, &chain, wild),
+        },
         9 => {
-            let slip = slip(random, &tables, wild);
-            let mut n = amount(random, &seen(&tables, slip), wild);
+            let mut n = amount(random, &chain, wild);
             if n > 513 && !random.once_in(8) {
                 n = random.below(514) as u32;
             }
             Call::Pullup { slip, n }
         }
-        10 => Call::Pack {
-            slip: slip(random, &tables, wild),
-        },
-        _ => {
-            let slip = slip(random, &tables, wild);
-            match kind {
-                11 => Call::Length { slip },
-                12 => read(random, &tables, slip, wild),
-                13 => show(random, &tables, slip, wild),
-                14 => list(random, &tables, slip),
-                _ => stretches(random, &tables, slip),
-            }
-        }
+        10 => Call::Pack { slip },
+        11 => Call::Length { slip },
+        12 => read(random, tables, slip, wild),
+        13 => show(random, tables, slip, wild),
+        14 => list(random, tables, slip),
+        _ => stretches(random, tables, slip),
     }
+}
+
+/// An append: mostly of two slips, often of one that heads a piece inside the other's chain, now and then of one number twice.
+fn joined(random: &mut Random, tables: &Tables, wild: u64, notes: &Notes) -> Call {
+    let a = name(random, tables, wild, notes);
+    let mut b = name(random, tables, wild, notes);
+    if a.number == b.number && !random.once_in(4) {
+        b = name(random, tables, wild, notes);
+    }
+    if random.once_in(3) {
+        b = heading_inside(tables, a.number).unwrap_or(b);
+    }
+    if random.once_in(40) {
+        b = Name::new(a.number, other_serial(random, tables, a.number));
+    }
+    Call::Append { a, b }
 }
 
 /// A call that takes all free pieces, makes own and shared fronts or, where one piece is free or none, drops or pulls up so that some are wanted.
 fn crowded(random: &mut Random, tables: &Tables) -> Option<Call> {
     let free = tables.pieces.len() - tables.used().count();
     let slips = 0..tables.slips.len() as u16;
-    let chains: Vec<(u16, Vec<usize>)> = slips
-        .filter_map(|slip| Some((slip, tables.chain(tables.held(slip)?))))
+    let chains: Vec<(Name, Vec<usize>)> = slips
+        .filter_map(|slip| Some((tables.name(slip), tables.chain(tables.state(slip)?))))
         .filter(|(_, chain)| !chain.is_empty())
         .collect();
     // Those that are not all own, and of them those with a shared head.
@@ -441,8 +545,8 @@ fn own(t: &Tables, chain: &[usize]) -> usize {
 }
 
 /// An append of this chain, not all own, behind a short one that is: two own pieces or more stand before one that isn't.
-fn joining(random: &mut Random, t: &Tables, b: u16, chain: &[usize]) -> Option<Call> {
-    let a = slip(random, t, u64::MAX);
+fn joining(random: &mut Random, t: &Tables, b: Name, chain: &[usize]) -> Option<Call> {
+    let a = t.name(slip(random, t, u64::MAX));
     let front = t.chain(t.held(a)?);
     let short = !front.is_empty() && t.length(&front) < 200;
     let fits = short && own(t, &front) == front.len() && own(t, chain) < chain.len();
@@ -450,7 +554,7 @@ fn joining(random: &mut Random, t: &Tables, b: u16, chain: &[usize]) -> Option<C
 }
 
 /// A drop of the own front, so that the slip heads a shared piece.
-fn heading(t: &Tables, slip: u16, chain: &[usize]) -> Option<Call> {
+fn heading(t: &Tables, slip: Name, chain: &[usize]) -> Option<Call> {
     let own = own(t, chain);
     let n = t.spans(chain).get(own)?.0 as u32;
     (own > 0).then_some(Call::Drop { slip, n })
@@ -460,11 +564,12 @@ fn heading(t: &Tables, slip: u16, chain: &[usize]) -> Option<Call> {
 fn filling(
     random: &mut Random,
     t: &Tables,
-    slip: u16,
+    slip: Name,
     chain: &[usize],
     free: usize,
 ) -> Option<Call> {
-    if chain.is_empty() || !t.slips.contains(&Slip::Vacant) {
+    let given = |i: usize| t.slips[i] == Slip::Vacant && !t.is_spent(i);
+    if chain.is_empty() || !(0..t.slips.len()).any(given) {
         return None;
     }
     if free == 1 && random.once_in(2) {
@@ -482,7 +587,7 @@ fn filling(
 }
 
 /// A drop inside a piece that isn't own, or a pullup of more than the first piece, mostly to inside such a piece.
-fn wanting(random: &mut Random, t: &Tables, slip: u16, chain: &[usize]) -> Option<Call> {
+fn wanting(random: &mut Random, t: &Tables, slip: Name, chain: &[usize]) -> Option<Call> {
     let spans = t.spans(chain);
     let mut inside: Vec<(u64, u64)> = spans[own(t, chain)..].to_vec();
     // The first ones mostly, since pullup reaches no further than 512 bytes.
@@ -513,19 +618,19 @@ fn wanting(random: &mut Random, t: &Tables, slip: u16, chain: &[usize]) -> Optio
 }
 
 /// Another slip that heads a piece of this one's chain, if there is any.
-fn heading_inside(tables: &Tables, slip: u16) -> Option<u16> {
-    let chain = tables.chain(tables.held(slip)?);
+fn heading_inside(tables: &Tables, slip: u16) -> Option<Name> {
+    let chain = tables.chain(tables.state(slip)?);
     let inside = |i: usize| match tables.slips[i] {
         Slip::Heads(d) => i != slip as usize && chain.contains(&d),
         _ => false,
     };
     (0..tables.slips.len())
         .find(|i| inside(*i))
-        .map(|i| i as u16)
+        .map(|i| tables.name(i as u16))
 }
 
 /// A read with biased range and output.
-pub fn read(random: &mut Random, tables: &Tables, slip: u16, wild: u64) -> Call {
+pub fn read(random: &mut Random, tables: &Tables, slip: Name, wild: u64) -> Call {
     let (offset, length) = range(random, &seen(tables, slip), wild);
     let output = match random.once_in(wild) {
         true => random.bytes(30),
@@ -540,7 +645,7 @@ pub fn read(random: &mut Random, tables: &Tables, slip: u16, wild: u64) -> Call 
 }
 
 /// A show with biased count and scratch.
-pub fn show(random: &mut Random, tables: &Tables, slip: u16, wild: u64) -> Call {
+pub fn show(random: &mut Random, tables: &Tables, slip: Name, wild: u64) -> Call {
     let mut n = amount(random, &seen(tables, slip), wild);
     if n > 513 && !random.once_in(8) {
         n = random.below(514) as u32;
@@ -549,15 +654,15 @@ pub fn show(random: &mut Random, tables: &Tables, slip: u16, wild: u64) -> Call 
     Call::Show { slip, n, scratch }
 }
 
-/// How many pieces the slip's chain has.
-fn pieces(tables: &Tables, slip: u16) -> usize {
-    let state = tables.held(slip);
+/// How many pieces the chain of the slip of this number has.
+fn pieces(tables: &Tables, slip: Name) -> usize {
+    let state = tables.state(slip.number);
     state.map_or(0, |state| tables.chain(state).len())
 }
 
 /// A list of the slip: exact, a number or a record too short, odd, longer, none, or one number for
 /// each record; with any old numbers in it.
-pub fn list(random: &mut Random, tables: &Tables, slip: u16) -> Call {
+pub fn list(random: &mut Random, tables: &Tables, slip: Name) -> Call {
     let records = pieces(tables, slip);
     let numbers = match random.below(10) {
         0 => (2 * records).saturating_sub(1),
@@ -575,7 +680,7 @@ pub fn list(random: &mut Random, tables: &Tables, slip: u16) -> Call {
 }
 
 /// The same in records: exact, one too short, longer, twice as many, half, or none.
-pub fn stretches(random: &mut Random, tables: &Tables, slip: u16) -> Call {
+pub fn stretches(random: &mut Random, tables: &Tables, slip: Name) -> Call {
     let pieces = pieces(tables, slip);
     let records = match random.below(10) {
         0 => pieces.saturating_sub(1),

@@ -1,12 +1,14 @@
 //! The recount of demand 3, from the pool's bytes alone: slips, nexts and pieces' buffers are read,
 //! references counted from nothing, and only then compared with the stored counts.
 
-use super::model::Call;
+use super::model::{Call, Name};
 
 /// What the recount finds.
 pub struct Recount {
     /// For each slip: nothing if vacant, else its head, if it has one.
     pub slips: Vec<Option<Option<usize>>>,
+    /// For each slip: its serial as stored.
+    pub serials: Vec<u64>,
     /// For each piece: buffer, length and next as stored.
     pieces: Vec<(usize, u64, Option<usize>)>,
     /// For each piece: the held slips heading it and the reached pieces whose next it is.
@@ -26,12 +28,12 @@ pub fn recount(pool: &[u8]) -> Result<Recount, String> {
         return Err("no header".to_string());
     }
     let [b, p, s] = [5, 7, 9].map(|position| at(pool, position) as usize);
-    if pool.len() != 11 + 2 * s + 10 * p + 2 * b {
+    if pool.len() != 11 + 4 * s + 10 * p + 2 * b {
         return Err("another length than the counts ask".to_string());
     }
-    let slip_at = |i: usize| 11 + 2 * i;
-    let piece_at = |d: usize| 11 + 2 * s + 10 * d;
-    let buffer_at = |k: usize| 11 + 2 * s + 10 * p + 2 * k;
+    let slip_at = |i: usize| 11 + 4 * i;
+    let piece_at = |d: usize| 11 + 4 * s + 10 * d;
+    let buffer_at = |k: usize| 11 + 4 * s + 10 * p + 2 * k;
 
     let slips: Vec<Option<Option<usize>>> = (0..s)
         .map(|i| match at(pool, slip_at(i)) {
@@ -40,6 +42,7 @@ pub fn recount(pool: &[u8]) -> Result<Recount, String> {
             more => Some(Some(more as usize - 2)),
         })
         .collect();
+    let serials = (0..s).map(|i| at(pool, slip_at(i) + 2)).collect();
     let pieces: Vec<(usize, u64, Option<usize>)> = (0..p)
         .map(|d| {
             let next = at(pool, piece_at(d) + 8) as usize;
@@ -111,6 +114,7 @@ pub fn recount(pool: &[u8]) -> Result<Recount, String> {
     }
     Ok(Recount {
         slips,
+        serials,
         pieces,
         references,
         lying,
@@ -119,18 +123,23 @@ pub fn recount(pool: &[u8]) -> Result<Recount, String> {
 }
 
 impl Recount {
-    /// Slips vacant, pieces not reached, buffers without references.
+    /// Slips vacant and not spent, pieces not reached, buffers without references.
     pub fn room(&self) -> (u64, u64, u64) {
+        let slips = self.slips.iter().zip(&self.serials);
+        let given = slips.filter(|(slip, serial)| slip.is_none() && **serial < 65_535);
         (
-            self.slips.iter().filter(|s| s.is_none()).count() as u64,
+            given.count() as u64,
             self.reached.iter().filter(|r| !**r).count() as u64,
             self.lying.iter().filter(|n| **n == 0).count() as u64,
         )
     }
 
-    /// The slip's chain as (references, length) of each piece, if the slip is held.
-    fn chain(&self, slip: u16) -> Option<Vec<(u64, u64)>> {
-        let head = (*self.slips.get(slip as usize)?)?;
+    /// The named slip's chain as (references, length) of each piece, if it is held at that serial.
+    fn chain(&self, name: Name) -> Option<Vec<(u64, u64)>> {
+        let head = (*self.slips.get(name.number as usize)?)?;
+        if self.serials[name.number as usize] != name.serial as u64 {
+            return None;
+        }
         let mut chain = Vec::new();
         let mut place = head;
         while let Some(d) = place {
@@ -191,7 +200,7 @@ impl Recount {
             }
             Call::Append { a, b } => {
                 let (chain_a, chain_b) = (self.chain(*a)?, self.chain(*b)?);
-                if a == b {
+                if a.number == b.number {
                     return None;
                 }
                 if chain_b.is_empty() {

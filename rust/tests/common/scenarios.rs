@@ -1,7 +1,11 @@
 //! The paper's own cases, for any engine: beside the rows and edges of the morning the five common
-//! errors, each point where the paper can be read in two ways, and the wire list with its reader.
+//! errors, each point where the paper can be read in two ways, and the wire list with its reader;
+//! those of the serials stand in a file of their own.
 
-use super::desk::{cut, data, gather, list, read, show, stretches, Desk, Engine, OLD};
+use super::desk::{
+    append, cut, data, drop, dup, free, gather, keep, length, list, pack, pullup, read, show,
+    stretches, Desk, Engine, OLD,
+};
 use super::model::{
     Call, View, BUFFERS, COUNTS, LIST, LONG, MOST, NARROW, NO_VIEW, PIECES, RANGE, SAME, SLIP,
     SLIPS, TORN,
@@ -35,6 +39,19 @@ macro_rules! paper_cases {
             list_of_the_largest, list_too_short, list_of_nothing, list_order_of_codes,
             gather_repeats, gather_refuses_records, gather_order_of_codes,
             gather_whole_numbers, gather_without_a_pool,
+            first_version_is_torn,
+        }
+        $crate::paper_cases! { $engine; serials }
+    };
+    ($engine:path; serials) => {
+        $crate::paper_cases! { $engine; serials;
+            yesterdays_slip, names_of_the_morning,
+            reading_21_any_serial,
+            reading_22_wrong_serials, reading_22_append_twice, reading_22_order_of_codes,
+            reading_23_spent, reading_23_held_at_the_last, reading_23_no_room,
+            reading_24_vacated, reading_24_others_move_none, reading_24_refused_moves_none,
+            reading_25_number_answered, reading_25_greatest_number,
+            open_of_serials, every_serial_once,
         }
     };
     ($engine:path; $place:ident; $($case:ident,)*) => {
@@ -47,31 +64,52 @@ macro_rules! paper_cases {
     };
 }
 
-/// The fresh pool for B 4, P 6, S 4 is 87 bytes; open leaves storage as it was.
+/// The fresh pool for B 4, P 6, S 4 is 95 bytes; open leaves storage as it was.
 pub fn fresh_pool(engine: Engine) {
     let mut desk = Desk::open(engine, 4, 6, 4);
     let mut fresh = vec![
-        0x53, 0x4C, 0x50, 0x01, 0x00, 0x04, 0x00, 0x06, 0x00, 0x04, 0x00,
+        0x53, 0x4C, 0x50, 0x02, 0x00, 0x04, 0x00, 0x06, 0x00, 0x04, 0x00,
     ];
-    fresh.resize(11 + 76, 0);
+    fresh.resize(11 + 84, 0);
     assert_eq!(desk.pool, fresh);
-    assert_eq!(desk.pool.len(), 87);
+    assert_eq!(desk.pool.len(), 95);
     assert_eq!(desk.storage, vec![0xEE; 2_048]);
     desk.done_unchanged(Call::Audit, 0);
+}
+
+/// A pool as version 1 had it, two bytes a slip, is torn, and so is one of today's length that says version 1.
+pub fn first_version_is_torn(engine: Engine) {
+    let mut desk = Desk::open(engine, 4, 6, 4);
+    desk.set(3, 1);
+    desk.refused(Call::Audit, TORN);
+    desk.refused(length(0), TORN);
+    desk.pool.truncate(87);
+    desk.refused(Call::Audit, TORN);
+    desk.set(3, 2);
+    desk.refused(Call::Audit, TORN);
+    desk.pool.resize(95, 0);
+    desk.done_unchanged(Call::Audit, 0);
+    for version in [0, 3, 256, 258, 65_535] {
+        desk.set(3, version);
+        desk.refused(Call::Audit, TORN);
+    }
 }
 
 /// The most pieces and slips of a pool.
 const P: u16 = MOST.1 as u16;
 const S: u16 = MOST.2 as u16;
 
+/// How often one piece is doubled to make P, and how often slip 1 is given and vacated on the way.
+const DOUBLINGS: u16 = P.trailing_zeros() as u16;
+
 /// A pool of one buffer and P pieces, all of them in the chain of slip 0: the first is doubled until no piece is free.
 fn doubled(engine: Engine) -> Desk {
     let mut desk = Desk::open(engine, 1, P, 2);
     desk.put(512, 0);
-    for doubling in 0..P.trailing_zeros() {
+    for doubling in 0..DOUBLINGS {
         let whole = 512 << doubling;
-        desk.cut(0, 0, whole, 1);
-        desk.append(0, 1);
+        desk.cut(0, 0, whole, (1, doubling));
+        desk.append(0, (1, doubling));
         desk.length(0, 2 * whole as u64);
     }
     desk
@@ -84,7 +122,7 @@ pub fn longest_chain(engine: Engine) {
         .map(|link| [1, 0, 0, 512, if link == P { 0 } else { 1 + link }])
         .collect();
     assert_eq!(pieces.len(), 2_048);
-    desk.tables(&[2, 0], &pieces, &[P]);
+    desk.tables(&[2, 0], &[0, DOUBLINGS], &pieces, &[P]);
     let bytes = data(512).repeat(pieces.len());
     let whole = bytes.len() as u32;
     assert_eq!(whole, 1_048_576);
@@ -92,12 +130,12 @@ pub fn longest_chain(engine: Engine) {
     desk.refused(read(0, whole, 1, 1), RANGE);
     desk.refused(cut(0, 0, whole + 1), RANGE);
     desk.refused(cut(0, whole - 1, 1), PIECES);
-    desk.refused(Call::Dup { slip: 0 }, PIECES);
-    desk.refused(Call::Pack { slip: 0 }, PIECES);
+    desk.refused(dup(0), PIECES);
+    desk.refused(pack(0), PIECES);
     desk.drop(0, whole - 1);
     desk.reads(0, &data(512)[511..]);
     desk.free(0);
-    desk.tables(&[0, 0], &vec![Z; pieces.len()], &[0]);
+    desk.tables(&[0, 0], &[1, DOUBLINGS], &vec![Z; pieces.len()], &[0]);
 }
 
 /// A chain for each slip, all with one tail: its count goes up to S and down again, and it stays to the last.
@@ -105,7 +143,7 @@ pub fn most_holders(engine: Engine) {
     let mut desk = Desk::open(engine, 2, S + 2, S);
     desk.put(600, 0);
     for new in 1..S {
-        desk.dup(0, new as u64);
+        desk.dup(0, new);
     }
     let (last, total) = (S as usize - 1, S as usize + 2);
     let head = [1, 0, 0, 512, 2];
@@ -113,8 +151,9 @@ pub fn most_holders(engine: Engine) {
     pieces[1] = [S, 1, 0, 88, 0];
     pieces[total - 1] = Z;
     let slips: Vec<u16> = (0..S).map(|i| if i == 0 { 2 } else { 3 + i }).collect();
-    desk.tables(&slips, &pieces, &[S, 1]);
-    desk.refused(Call::Dup { slip: S - 1 }, SLIPS);
+    let mut serials = vec![0; S as usize];
+    desk.tables(&slips, &serials, &pieces, &[S, 1]);
+    desk.refused(dup(S - 1), SLIPS);
     for slip in 0..S - 1 {
         desk.free(slip);
     }
@@ -123,7 +162,8 @@ pub fn most_holders(engine: Engine) {
     pieces[total - 2] = head;
     let mut slips = vec![0; S as usize];
     slips[last] = S + 2;
-    desk.tables(&slips, &pieces, &[1, 1]);
+    serials[..last].fill(1);
+    desk.tables(&slips, &serials, &pieces, &[1, 1]);
     desk.reads(S - 1, &data(600));
 }
 
@@ -135,6 +175,7 @@ pub fn error_freeing_past_shared(engine: Engine) {
     desk.free(0);
     desk.tables(
         &[0, 5, 0, 0],
+        &[1, 0, 0, 0],
         &[
             Z,
             [1, 1, 0, 512, 3],
@@ -157,6 +198,7 @@ pub fn error_shortening_behind_shared(engine: Engine) {
     desk.keep(0, 1_050);
     desk.tables(
         &[2, 5, 0, 0],
+        &[0; 4],
         &[
             [1, 0, 0, 512, 5],
             [1, 1, 0, 512, 3],
@@ -178,6 +220,7 @@ pub fn error_shortening_behind_shared(engine: Engine) {
     desk.drop(0, 1_050);
     desk.tables(
         &[2, 5, 0, 0],
+        &[0; 4],
         &[
             [1, 2, 26, 50, 0],
             [1, 1, 0, 512, 3],
@@ -203,12 +246,14 @@ pub fn error_counting_holders_by_slips(engine: Engine) {
     desk.append(1, 2);
     desk.tables(
         &[2, 3, 0, 0],
+        &[0, 0, 1, 0],
         &[[1, 0, 0, 10, 0], [1, 0, 5, 5, 3], [1, 0, 0, 5, 0], Z, Z, Z],
         &[3, 0],
     );
-    desk.cut(1, 2, 6, 2);
+    desk.cut(1, 2, 6, (2, 1));
     desk.tables(
         &[2, 3, 5, 0],
+        &[0, 0, 1, 0],
         &[
             [1, 0, 0, 10, 0],
             [1, 0, 5, 5, 3],
@@ -219,11 +264,16 @@ pub fn error_counting_holders_by_slips(engine: Engine) {
         ],
         &[5, 0],
     );
-    desk.reads(2, &[7, 8, 9, 0, 1, 2]);
+    desk.reads((2, 1), &[7, 8, 9, 0, 1, 2]);
     desk.free(0);
-    desk.free(2);
+    desk.free((2, 1));
     desk.drop(1, 5);
-    desk.tables(&[0, 4, 0, 0], &[Z, Z, [1, 0, 0, 5, 0], Z, Z, Z], &[1, 0]);
+    desk.tables(
+        &[0, 4, 0, 0],
+        &[1, 0, 2, 0],
+        &[Z, Z, [1, 0, 0, 5, 0], Z, Z, Z],
+        &[1, 0],
+    );
 }
 
 /// Offset and length are added as whole numbers.
@@ -247,10 +297,10 @@ pub fn error_adding_in_32_bits(engine: Engine) {
 pub fn error_keeping_the_slip(engine: Engine) {
     let mut desk = Desk::open(engine, 2, 1, 3);
     desk.put(10, 0);
-    desk.refused(Call::Dup { slip: 0 }, PIECES);
+    desk.refused(dup(0), PIECES);
     desk.refused(cut(0, 0, 5), PIECES);
     desk.refused(Call::Put { data: data(1) }, PIECES);
-    desk.tables(&[2, 0, 0], &[[1, 0, 0, 10, 0]], &[1, 0]);
+    desk.tables(&[2, 0, 0], &[0; 3], &[[1, 0, 0, 10, 0]], &[1, 0]);
 }
 
 /// Own is judged by the counts at entry; in append, b's reference counts.
@@ -263,6 +313,7 @@ pub fn reading_01_own_at_entry(engine: Engine) {
     desk.append(0, 1);
     desk.tables(
         &[2, 0, 0, 0],
+        &[0, 1, 0, 0],
         &[
             [1, 0, 0, 512, 4],
             [1, 1, 0, 512, 3],
@@ -290,6 +341,7 @@ pub fn reading_02_one_reference_released(engine: Engine) {
     desk.append(0, 1);
     desk.tables(
         &[2, 0, 6, 3],
+        &[0, 1, 0, 0],
         &[
             [1, 0, 0, 512, 6],
             [2, 1, 0, 512, 3],
@@ -319,6 +371,7 @@ pub fn reading_03_chain_before_released(engine: Engine) {
     desk.drop(0, 1_100);
     desk.tables(
         &[2, 3, 0, 0],
+        &[0; 4],
         &[
             [1, 2, 76, 436, 4],
             [1, 1, 0, 512, 3],
@@ -338,10 +391,11 @@ pub fn reading_03_chain_before_released(engine: Engine) {
     desk.dup(0, 1);
     desk.drop(1, 512);
     desk.drop(0, 512);
-    desk.tables(&[3, 3, 0], &[Z, [2, 1, 0, 88, 0], Z, Z], &[0, 1]);
+    desk.tables(&[3, 3, 0], &[0; 3], &[Z, [2, 1, 0, 88, 0], Z, Z], &[0, 1]);
     desk.drop(0, 8);
     desk.tables(
         &[2, 3, 0],
+        &[0; 3],
         &[[1, 1, 8, 80, 0], [1, 1, 0, 88, 0], Z, Z],
         &[0, 2],
     );
@@ -352,6 +406,7 @@ pub fn reading_03_chain_before_released(engine: Engine) {
     desk.drop(0, 1_025);
     desk.tables(
         &[4],
+        &[0; 1],
         &[Z, Z, [1, 2, 1, 511, 4], [1, 3, 0, 464, 0]],
         &[0, 0, 1, 1],
     );
@@ -364,13 +419,18 @@ pub fn reading_04_drop_at_border(engine: Engine) {
     desk.dup(0, 1);
     assert_eq!(desk.free_pieces(), []);
     desk.drop(1, 512);
-    desk.tables(&[2, 3], &[[1, 0, 0, 512, 2], [2, 1, 0, 88, 0], Z], &[1, 1]);
+    desk.tables(
+        &[2, 3],
+        &[0; 2],
+        &[[1, 0, 0, 512, 2], [2, 1, 0, 88, 0], Z],
+        &[1, 1],
+    );
 
     let mut desk = headed_inside(engine);
-    desk.refused(Call::Drop { slip: 1, n: 1 }, PIECES);
+    desk.refused(drop(1, 1), PIECES);
     desk.drop(2, 512);
     desk.drop(0, 512);
-    desk.tables(&[3, 3, 3], &[Z, [3, 1, 0, 88, 0], Z], &[0, 1]);
+    desk.tables(&[3, 3, 3], &[0; 3], &[Z, [3, 1, 0, 88, 0], Z], &[0, 1]);
     desk.free(0);
     desk.free(2);
     desk.reads(1, &data(600)[512..]);
@@ -383,12 +443,13 @@ pub fn reading_05_keep_at_border(engine: Engine) {
         desk.put(1_100, 0);
         desk.dup(0, 1);
         if !done {
-            desk.refused(Call::Keep { slip: 0, n: 1_024 }, PIECES);
+            desk.refused(keep(0, 1_024), PIECES);
             continue;
         }
         desk.keep(0, 1_024);
         desk.tables(
             &[2, 5],
+            &[0; 2],
             &[
                 [1, 0, 0, 512, 5],
                 [1, 1, 0, 512, 3],
@@ -406,6 +467,7 @@ pub fn reading_05_keep_at_border(engine: Engine) {
     desk.keep(0, 512);
     desk.tables(
         &[2, 5],
+        &[0; 2],
         &[
             [1, 0, 0, 512, 0],
             [1, 1, 0, 512, 3],
@@ -430,21 +492,21 @@ pub fn reading_06_nothing_wanted(engine: Engine) {
     desk.put(600, 0);
     desk.dup(0, 1);
     for slip in [0, 1] {
-        desk.done_unchanged(Call::Drop { slip, n: 0 }, 0);
-        desk.done_unchanged(Call::Keep { slip, n: 600 }, 0);
-        desk.done_unchanged(Call::Pullup { slip, n: 0 }, 0);
-        desk.done_unchanged(Call::Pullup { slip, n: 511 }, 0);
-        desk.done_unchanged(Call::Pullup { slip, n: 512 }, 0);
+        desk.done_unchanged(drop(slip, 0), 0);
+        desk.done_unchanged(keep(slip, 600), 0);
+        desk.done_unchanged(pullup(slip, 0), 0);
+        desk.done_unchanged(pullup(slip, 511), 0);
+        desk.done_unchanged(pullup(slip, 512), 0);
     }
     for slip in [2, 3, 65_535] {
-        desk.refused(Call::Drop { slip, n: 0 }, SLIP);
-        desk.refused(Call::Keep { slip, n: 0 }, SLIP);
-        desk.refused(Call::Pullup { slip, n: 0 }, SLIP);
-        desk.refused(Call::Pack { slip }, SLIP);
+        desk.refused(drop(slip, 0), SLIP);
+        desk.refused(keep(slip, 0), SLIP);
+        desk.refused(pullup(slip, 0), SLIP);
+        desk.refused(pack(slip), SLIP);
     }
-    desk.refused(Call::Keep { slip: 0, n: 601 }, RANGE);
-    desk.refused(Call::Drop { slip: 0, n: 601 }, RANGE);
-    desk.refused(Call::Pullup { slip: 0, n: 513 }, LONG);
+    desk.refused(keep(0, 601), RANGE);
+    desk.refused(drop(0, 601), RANGE);
+    desk.refused(pullup(0, 513), LONG);
 
     // A chain of one piece, shared and at an offset, or of none, stays in pack.
     let mut desk = Desk::open(engine, 1, 2, 3);
@@ -453,19 +515,19 @@ pub fn reading_06_nothing_wanted(engine: Engine) {
     desk.put(0, 1);
     desk.dup(0, 2);
     assert_eq!(desk.free_pieces(), []);
-    desk.done_unchanged(Call::Pack { slip: 0 }, 0);
-    desk.done_unchanged(Call::Pack { slip: 1 }, 0);
-    desk.done_unchanged(Call::Pullup { slip: 0, n: 6 }, 0);
-    desk.done_unchanged(Call::Pullup { slip: 1, n: 0 }, 0);
-    desk.done_unchanged(Call::Keep { slip: 1, n: 0 }, 0);
-    desk.done_unchanged(Call::Drop { slip: 1, n: 0 }, 0);
-    desk.refused(Call::Pullup { slip: 0, n: 7 }, RANGE);
-    desk.refused(Call::Pullup { slip: 1, n: 1 }, RANGE);
+    desk.done_unchanged(pack(0), 0);
+    desk.done_unchanged(pack(1), 0);
+    desk.done_unchanged(pullup(0, 6), 0);
+    desk.done_unchanged(pullup(1, 0), 0);
+    desk.done_unchanged(keep(1, 0), 0);
+    desk.done_unchanged(drop(1, 0), 0);
+    desk.refused(pullup(0, 7), RANGE);
+    desk.refused(pullup(1, 1), RANGE);
 
     // A torn pool is refused before all else.
     desk.set(5, 2);
-    desk.refused(Call::Drop { slip: 0, n: 0 }, TORN);
-    desk.refused(Call::Pullup { slip: 9, n: 513 }, TORN);
+    desk.refused(drop(0, 0), TORN);
+    desk.refused(pullup(9, 513), TORN);
 }
 
 /// Keep of 0 and drop of the whole length leave the slip empty, not vacant.
@@ -475,13 +537,13 @@ pub fn reading_07_empty_not_vacant(engine: Engine) {
     desk.put(600, 1);
     desk.keep(0, 0);
     desk.drop(1, 600);
-    desk.tables(&[1, 1, 0], &[Z; 6], &[0; 4]);
+    desk.tables(&[1, 1, 0], &[0; 3], &[Z; 6], &[0; 4]);
     desk.length(0, 0);
     desk.length(1, 0);
     desk.put(5, 2);
     desk.refused(Call::Put { data: Vec::new() }, SLIPS);
     desk.free(0);
-    desk.refused(Call::Length { slip: 0 }, SLIP);
+    desk.refused(length(0), SLIP);
 }
 
 /// Append with an empty side wants no piece; a and b may share pieces or head the same one.
@@ -495,6 +557,7 @@ pub fn reading_08_append_empty_side(engine: Engine) {
     desk.append(0, 2);
     desk.tables(
         &[2, 4, 0, 1],
+        &[0, 0, 1, 0],
         &[[1, 0, 0, 512, 2], [2, 1, 0, 88, 0], [1, 0, 0, 512, 2]],
         &[2, 1],
     );
@@ -502,15 +565,17 @@ pub fn reading_08_append_empty_side(engine: Engine) {
     desk.append(3, 0);
     desk.tables(
         &[0, 4, 0, 2],
+        &[1, 0, 1, 0],
         &[[1, 0, 0, 512, 2], [2, 1, 0, 88, 0], [1, 0, 0, 512, 2]],
         &[2, 1],
     );
     // Both empty: a stays empty, b is vacant.
-    desk.put(0, 0);
-    desk.put(0, 2);
-    desk.append(2, 0);
+    desk.put(0, (0, 1));
+    desk.put(0, (2, 1));
+    desk.append((2, 1), (0, 1));
     desk.tables(
         &[0, 4, 1, 2],
+        &[2, 0, 1, 0],
         &[[1, 0, 0, 512, 2], [2, 1, 0, 88, 0], [1, 0, 0, 512, 2]],
         &[2, 1],
     );
@@ -522,7 +587,12 @@ pub fn reading_08_append_empty_side(engine: Engine) {
     desk.drop(0, 512);
     desk.drop(1, 512);
     desk.append(1, 0);
-    desk.tables(&[0, 2], &[[1, 1, 0, 88, 2], [1, 1, 0, 88, 0], Z], &[0, 2]);
+    desk.tables(
+        &[0, 2],
+        &[1, 0],
+        &[[1, 1, 0, 88, 2], [1, 1, 0, 88, 0], Z],
+        &[0, 2],
+    );
     // Both share their tail.
     let mut desk = Desk::open(engine, 2, 4, 2);
     desk.put(600, 0);
@@ -530,6 +600,7 @@ pub fn reading_08_append_empty_side(engine: Engine) {
     desk.append(0, 1);
     desk.tables(
         &[2, 0],
+        &[0, 1],
         &[
             [1, 0, 0, 512, 4],
             [1, 1, 0, 88, 0],
@@ -566,23 +637,29 @@ pub fn reading_09_pullup_wants(engine: Engine) {
     let twice = [data(10), data(10)].concat();
     let mut desk = two_tens(engine, 3, 3, 2);
     desk.pullup(0, 20);
-    desk.tables(&[2, 0], &[[1, 2, 0, 20, 0], Z, Z], &[0, 0, 1]);
+    desk.tables(&[2, 0], &[0, 1], &[[1, 2, 0, 20, 0], Z, Z], &[0, 0, 1]);
     desk.buffer_holds(2, &twice);
 
     // Inside an own piece: one.
     let mut desk = two_tens(engine, 3, 3, 2);
     desk.pullup(0, 15);
-    desk.tables(&[2, 0], &[[1, 2, 0, 15, 2], [1, 1, 5, 5, 0], Z], &[0, 1, 1]);
+    desk.tables(
+        &[2, 0],
+        &[0, 1],
+        &[[1, 2, 0, 15, 2], [1, 1, 5, 5, 0], Z],
+        &[0, 1, 1],
+    );
 
     // Inside a piece not own: two, the front with the lower number.
     let mut desk = two_tens(engine, 3, 3, 2);
-    desk.dup(0, 1);
-    desk.refused(Call::Pullup { slip: 0, n: 15 }, PIECES);
+    desk.dup(0, (1, 1));
+    desk.refused(pullup(0, 15), PIECES);
     let mut desk = two_tens(engine, 3, 4, 2);
-    desk.dup(0, 1);
+    desk.dup(0, (1, 1));
     desk.pullup(0, 15);
     desk.tables(
         &[2, 4],
+        &[0, 1],
         &[
             [1, 2, 0, 15, 4],
             [1, 1, 0, 10, 0],
@@ -592,7 +669,7 @@ pub fn reading_09_pullup_wants(engine: Engine) {
         &[1, 2, 1],
     );
     desk.reads(0, &twice);
-    desk.reads(1, &twice);
+    desk.reads((1, 1), &twice);
 
     // At a border before a piece not own: one, which points at the shared piece.
     let mut desk = Desk::open(engine, 4, 5, 4);
@@ -601,18 +678,20 @@ pub fn reading_09_pullup_wants(engine: Engine) {
     desk.put(10, 2);
     desk.append(1, 2);
     desk.append(0, 1);
-    desk.dup(0, 1);
-    desk.drop(1, 20);
+    desk.dup(0, (1, 1));
+    desk.drop((1, 1), 20);
     desk.tables(
         &[2, 4, 0, 0],
+        &[0, 1, 1, 0],
         &[[1, 0, 0, 10, 2], [1, 1, 0, 10, 3], [2, 2, 0, 10, 0], Z, Z],
         &[1, 1, 1, 0],
     );
-    desk.put(0, 2);
-    desk.dup(1, 3);
+    desk.put(0, (2, 1));
+    desk.dup((1, 1), 3);
     desk.pullup(0, 20);
     desk.tables(
         &[2, 4, 1, 5],
+        &[0, 1, 1, 0],
         &[[1, 3, 0, 20, 3], Z, [2, 2, 0, 10, 0], [1, 2, 0, 10, 0], Z],
         &[0, 0, 2, 1],
     );
@@ -626,6 +705,7 @@ pub fn reading_10_pack_afresh(engine: Engine) {
     desk.pack(0);
     desk.tables(
         &[4],
+        &[0; 1],
         &[Z, Z, [1, 2, 0, 512, 4], [1, 3, 0, 88, 0]],
         &[0, 0, 1, 1],
     );
@@ -633,10 +713,10 @@ pub fn reading_10_pack_afresh(engine: Engine) {
 
     let mut desk = Desk::open(engine, 3, 4, 1);
     desk.put(600, 0);
-    desk.refused(Call::Pack { slip: 0 }, BUFFERS);
+    desk.refused(pack(0), BUFFERS);
     let mut desk = Desk::open(engine, 4, 3, 1);
     desk.put(600, 0);
-    desk.refused(Call::Pack { slip: 0 }, PIECES);
+    desk.refused(pack(0), PIECES);
 
     // What another slip still reaches stays when the old chain is released.
     let mut desk = Desk::open(engine, 4, 5, 2);
@@ -645,6 +725,7 @@ pub fn reading_10_pack_afresh(engine: Engine) {
     desk.pack(1);
     desk.tables(
         &[2, 5],
+        &[0; 2],
         &[
             [1, 0, 0, 512, 2],
             [1, 1, 0, 88, 0],
@@ -666,6 +747,7 @@ pub fn reading_11_dup_and_cut(engine: Engine) {
     desk.dup(0, 2);
     desk.tables(
         &[3, 5, 2, 0, 0, 0],
+        &[0; 6],
         &[
             [1, 1, 0, 512, 3],
             [2, 1, 0, 512, 3],
@@ -682,6 +764,7 @@ pub fn reading_11_dup_and_cut(engine: Engine) {
     desk.cut(1, 512, 588, 3);
     desk.tables(
         &[3, 5, 2, 6, 0, 0],
+        &[0; 6],
         &[
             [1, 1, 0, 512, 3],
             [2, 1, 0, 512, 3],
@@ -702,8 +785,8 @@ pub fn reading_11_dup_and_cut(engine: Engine) {
     // An empty chain needs no piece.
     desk.keep(2, 0);
     desk.free(5);
-    desk.dup(2, 5);
-    desk.length(5, 0);
+    desk.dup(2, (5, 1));
+    desk.length((5, 1), 0);
 }
 
 /// Pieces and buffers are chosen each by itself, lowest first, in chain order.
@@ -716,9 +799,10 @@ pub fn reading_12_numbers_taken(engine: Engine) {
     // Piece 1 lies on buffer 0, piece 2 on 1, piece 3 on 2.
     desk.free(1);
     desk.free(2);
-    desk.put(600, 1);
+    desk.put(600, (1, 1));
     desk.tables(
         &[2, 3, 0, 5],
+        &[0, 1, 1, 0],
         &[
             [1, 0, 0, 10, 0],
             [1, 1, 0, 512, 3],
@@ -740,71 +824,71 @@ pub fn reading_13_order_of_codes(engine: Engine) {
     desk.put(600, 0);
     desk.refused(Call::Put { data: data(1) }, SLIPS);
     desk.refused(Call::Put { data: data(0) }, SLIPS);
-    desk.refused(Call::Dup { slip: 0 }, SLIPS);
-    desk.refused(Call::Dup { slip: 1 }, SLIP);
+    desk.refused(dup(0), SLIPS);
+    desk.refused(dup(1), SLIP);
     desk.refused(cut(0, 0, 1), SLIPS);
     desk.refused(cut(0, 0, 0), SLIPS);
     desk.refused(cut(0, 0, 601), RANGE);
     desk.refused(cut(1, 0, 601), SLIP);
-    desk.refused(Call::Pack { slip: 0 }, PIECES);
-    desk.refused(Call::Pullup { slip: 0, n: 513 }, LONG);
+    desk.refused(pack(0), PIECES);
+    desk.refused(pullup(0, 513), LONG);
 
     let mut desk = Desk::open(engine, 2, 2, 2);
     desk.put(600, 0);
     desk.refused(Call::Put { data: data(1) }, PIECES);
-    desk.refused(Call::Dup { slip: 0 }, PIECES);
+    desk.refused(dup(0), PIECES);
     desk.refused(cut(0, 0, 1), PIECES);
     // Put of no data wants a slip only, cut of length 0 too, at any offset up to the length.
-    for offset in [0, 1, 512, 599, 600] {
-        desk.cut(0, offset, 0, 1);
-        desk.length(1, 0);
-        desk.free(1);
+    for (times, offset) in (0..).zip([0, 1, 512, 599, 600]) {
+        desk.cut(0, offset, 0, (1, times));
+        desk.length((1, times), 0);
+        desk.free((1, times));
     }
-    desk.put(0, 1);
+    desk.put(0, (1, 5));
 
     // Pullup: 5 before 6, 6 before 9, 9 before 10.
     let mut desk = two_tens(engine, 2, 3, 2);
-    desk.refused(Call::Pullup { slip: 1, n: 513 }, SLIP);
-    desk.refused(Call::Pack { slip: 0 }, BUFFERS);
-    desk.dup(0, 1);
-    desk.refused(Call::Pullup { slip: 0, n: 513 }, LONG);
-    desk.refused(Call::Pullup { slip: 0, n: 21 }, RANGE);
-    desk.refused(Call::Pullup { slip: 0, n: 15 }, PIECES);
-    desk.refused(Call::Pullup { slip: 0, n: 20 }, BUFFERS);
-    desk.refused(Call::Pack { slip: 0 }, PIECES);
+    desk.refused(pullup(1, 513), SLIP);
+    desk.refused(pack(0), BUFFERS);
+    desk.dup(0, (1, 1));
+    desk.refused(pullup(0, 513), LONG);
+    desk.refused(pullup(0, 21), RANGE);
+    desk.refused(pullup(0, 15), PIECES);
+    desk.refused(pullup(0, 20), BUFFERS);
+    desk.refused(pack(0), PIECES);
 
     // Drop: 3 and 6 before 9.
     let mut desk = headed_inside(engine);
-    desk.refused(Call::Drop { slip: 3, n: 89 }, SLIP);
-    desk.refused(Call::Drop { slip: 1, n: 89 }, RANGE);
-    desk.refused(Call::Drop { slip: 1, n: 87 }, PIECES);
+    desk.refused(drop(3, 89), SLIP);
+    desk.refused(drop(1, 89), RANGE);
+    desk.refused(drop(1, 87), PIECES);
 
     // Append and keep: 3, 4 and 6 before 9.
     let mut desk = Desk::open(engine, 3, 4, 3);
     desk.put(600, 0);
     desk.dup(0, 1);
     desk.put(1, 2);
-    desk.refused(Call::Append { a: 0, b: 3 }, SLIP);
-    desk.refused(Call::Append { a: 3, b: 0 }, SLIP);
-    desk.refused(Call::Append { a: 0, b: 0 }, SAME);
-    desk.refused(Call::Append { a: 0, b: 2 }, PIECES);
-    desk.refused(Call::Keep { slip: 0, n: 601 }, RANGE);
-    desk.refused(Call::Keep { slip: 0, n: 599 }, PIECES);
+    desk.refused(append(0, 3), SLIP);
+    desk.refused(append(3, 0), SLIP);
+    desk.refused(append(0, 0), SAME);
+    desk.refused(append(0, 2), PIECES);
+    desk.refused(keep(0, 601), RANGE);
+    desk.refused(keep(0, 599), PIECES);
 
     // A torn pool comes first, for every call but open.
     desk.pool[0] = 0;
     for call in [
         Call::Audit,
         Call::Put { data: data(9_999) },
-        Call::Free { slip: 9 },
-        Call::Dup { slip: 9 },
+        free(9),
+        dup(9),
         cut(9, 1_000, 1_000),
-        Call::Append { a: 9, b: 9 },
-        Call::Drop { slip: 9, n: 9_999 },
-        Call::Keep { slip: 9, n: 9_999 },
-        Call::Pullup { slip: 9, n: 9_999 },
-        Call::Pack { slip: 9 },
-        Call::Length { slip: 9 },
+        append(9, 9),
+        drop(9, 9_999),
+        keep(9, 9_999),
+        pullup(9, 9_999),
+        pack(9),
+        length(9),
         read(9, 9_999, 9_999, 4),
         show(9, 9_999, 4),
         list(9, 4),
@@ -820,10 +904,10 @@ pub fn reading_14_append_twice(engine: Engine) {
     desk.put(1, 0);
     desk.put(0, 1);
     for (slip, code) in [(0, SAME), (1, SAME), (2, SLIP), (3, SLIP), (65_535, SLIP)] {
-        desk.refused(Call::Append { a: slip, b: slip }, code);
+        desk.refused(append(slip, slip), code);
     }
-    desk.refused(Call::Append { a: 0, b: 2 }, SLIP);
-    desk.refused(Call::Append { a: 2, b: 0 }, SLIP);
+    desk.refused(append(0, 2), SLIP);
+    desk.refused(append(2, 0), SLIP);
 }
 
 /// Read judges 6 before 7; show copies, and judges the scratch, only where it must.
@@ -897,8 +981,8 @@ pub fn reading_15_read_and_show(engine: Engine) {
 pub fn reading_16_whole_numbers(engine: Engine) {
     let mut desk = Desk::open(engine, 1, 1, 1);
     desk.put(12, 0);
-    // The piece is at 13: count, buffer, offset at 17, length at 19, next.
-    for (offset, length, code) in [
+    // The piece is at 15: count, buffer, offset at 19, length at 21, next.
+    for (offset, bytes, code) in [
         (500, 12, 0),
         (501, 12, TORN),
         (0, 512, 0),
@@ -912,14 +996,14 @@ pub fn reading_16_whole_numbers(engine: Engine) {
         (1, 65_535, TORN),
         (65_535, 65_535, TORN),
     ] {
-        desk.set(17, offset);
-        desk.set(19, length);
+        desk.set(19, offset);
+        desk.set(21, bytes);
         if code == 0 {
             desk.done_unchanged(Call::Audit, 0);
-            desk.length(0, length as u64);
+            desk.length(0, bytes as u64);
         } else {
             desk.refused(Call::Audit, code);
-            desk.refused(Call::Length { slip: 0 }, code);
+            desk.refused(length(0), code);
         }
     }
 }
@@ -933,11 +1017,11 @@ pub fn reading_17_exact_lengths(engine: Engine) {
     };
     for (more_pool, more_storage) in [(1, 0), (-1, 0), (0, 1), (0, -1), (1, 1), (0, 512)] {
         let mut desk = Desk::open(engine, 4, 6, 4);
-        desk.pool.resize((87 + more_pool) as usize, 0);
+        desk.pool.resize((95 + more_pool) as usize, 0);
         desk.storage.resize((2_048 + more_storage) as usize, 0);
         desk.refused(Call::Audit, TORN);
         desk.refused(Call::Put { data: data(1) }, TORN);
-        desk.refused(Call::Length { slip: 0 }, TORN);
+        desk.refused(length(0), TORN);
         desk.refused(opening(4, 6, 4), COUNTS);
     }
     for (buffers, pieces, slips) in [
@@ -951,10 +1035,10 @@ pub fn reading_17_exact_lengths(engine: Engine) {
         (65_535, 1, 1),
     ] {
         let mut pool = b"SLP".to_vec();
-        for word in [1, buffers, pieces, slips] {
+        for word in [2, buffers, pieces, slips] {
             pool.extend((word as u16).to_le_bytes());
         }
-        pool.resize(11 + 2 * slips + 10 * pieces + 2 * buffers, 0);
+        pool.resize(11 + 4 * slips + 10 * pieces + 2 * buffers, 0);
         let mut desk = Desk {
             engine,
             pool,
@@ -968,10 +1052,10 @@ pub fn reading_17_exact_lengths(engine: Engine) {
     desk.put(600, 0);
     let storage = desk.storage.clone();
     desk.done(opening(4, 6, 4), 0);
-    desk.tables(&[0; 4], &[Z; 6], &[0; 4]);
+    desk.tables(&[0; 4], &[0; 4], &[Z; 6], &[0; 4]);
     desk.pool.fill(0xFF);
-    desk.done(opening(4, 5, 9), 0);
-    desk.tables(&[0; 9], &[Z; 5], &[0; 4]);
+    desk.done(opening(4, 4, 9), 0);
+    desk.tables(&[0; 9], &[0; 9], &[Z; 4], &[0; 4]);
     assert_eq!(desk.storage, storage);
     desk.refused(opening(4, 6, 5), COUNTS);
     desk.refused(opening(3, 6, 5), COUNTS);
@@ -979,10 +1063,10 @@ pub fn reading_17_exact_lengths(engine: Engine) {
 
 /// A ring that no slip heads satisfies every count and is refused; two chains that meet are sound.
 pub fn reading_18_rings(engine: Engine) {
-    // Pieces at 13 + 10 d, buffer counts at 63.
+    // Pieces at 15 + 10 d, buffer counts at 65.
     let piece = |desk: &mut Desk, d: usize, fields: [u16; 5]| {
         for (i, field) in fields.iter().enumerate() {
-            desk.set(13 + 10 * d + 2 * i, *field);
+            desk.set(15 + 10 * d + 2 * i, *field);
         }
     };
     for ring in [vec![1], vec![1, 2], vec![4, 2, 3], vec![1, 4, 3, 2]] {
@@ -992,17 +1076,17 @@ pub fn reading_18_rings(engine: Engine) {
             let next = ring[(i + 1) % ring.len()] as u16;
             piece(&mut desk, *d, [1, 1, 0, 5, 1 + next]);
         }
-        desk.set(65, ring.len() as u16);
+        desk.set(67, ring.len() as u16);
         desk.refused(Call::Audit, TORN);
-        desk.refused(Call::Length { slip: 0 }, TORN);
-        desk.refused(Call::Free { slip: 0 }, TORN);
+        desk.refused(length(0), TORN);
+        desk.refused(free(0), TORN);
     }
     // A chain that leads back into itself, every count agreeing.
     let mut desk = Desk::open(engine, 2, 5, 1);
     desk.put(600, 0);
     piece(&mut desk, 1, [2, 1, 0, 88, 2]);
     desk.refused(Call::Audit, TORN);
-    desk.refused(Call::Length { slip: 0 }, TORN);
+    desk.refused(length(0), TORN);
     // Two chains that meet in one piece.
     let mut desk = Desk::open(engine, 2, 5, 2);
     desk.put(600, 0);
@@ -1021,31 +1105,31 @@ pub fn reading_19_released_bytes_stay(engine: Engine) {
     desk.buffer_holds(1, &data(1_024)[512..]);
     assert_eq!(desk.storage[1_024..], [0xEE; 1_024]);
     // Old bytes past the new data are zeroed, in that buffer only.
-    desk.put(3, 0);
+    desk.put(3, (0, 1));
     desk.buffer_holds(0, &data(3));
     desk.buffer_holds(1, &data(1_024)[512..]);
     // Pullup sets the lowest free buffer, pack the lowest two, and both leave what they release.
     desk.put(3, 1);
-    desk.append(0, 1);
-    desk.pullup(0, 4);
+    desk.append((0, 1), 1);
+    desk.pullup((0, 1), 4);
     desk.buffer_holds(2, &[0, 1, 2, 0]);
     desk.buffer_holds(0, &data(3));
     desk.buffer_holds(1, &data(3));
     assert_eq!(desk.storage[1_536..], [0xEE; 512]);
-    desk.pack(0);
+    desk.pack((0, 1));
     desk.buffer_holds(0, &[0, 1, 2, 0, 1, 2]);
     desk.buffer_holds(1, &data(3));
     desk.buffer_holds(2, &[0, 1, 2, 0]);
     assert_eq!(desk.storage[1_536..], [0xEE; 512]);
     // The others write no storage.
     let storage = desk.storage.clone();
-    desk.dup(0, 1);
-    desk.cut(0, 1, 4, 2);
-    desk.append(0, 2);
-    desk.keep(0, 7);
-    desk.drop(0, 2);
-    desk.free(1);
-    desk.free(0);
+    desk.dup((0, 1), (1, 1));
+    desk.cut((0, 1), 1, 4, 2);
+    desk.append((0, 1), 2);
+    desk.keep((0, 1), 7);
+    desk.drop((0, 1), 2);
+    desk.free((1, 1));
+    desk.free((0, 1));
     assert_eq!(desk.storage, storage);
 }
 
@@ -1073,12 +1157,15 @@ pub fn reading_20_empty_slices(engine: Engine) {
     );
     let mut desk = Desk::open(engine, 1, 1, 1);
     desk.put(0, 0);
-    desk.tables(&[1], &[Z], &[0]);
+    desk.tables(&[1], &[0; 1], &[Z], &[0]);
     desk.done_unchanged(read(0, 0, 0, 0), 0);
     desk.done_unchanged(show(0, 0, 0), 0);
     desk.done_unchanged(list(0, 0), 0);
     desk.done_unchanged(stretches(0, 0), 0);
 }
+
+/// The serials of the slips in `scattered`: all but the last were vacated once.
+const SCATTERED: [u16; 4] = [1, 1, 1, 0];
 
 /// Slip 3 heads pieces 3 → 1 → 2 of 10 bytes each, slip 0 heads piece 2; pieces 4 and 5 are free, and 0 where it isn't asked for.
 fn scattered(engine: Engine, asked: bool) -> Desk {
@@ -1089,14 +1176,15 @@ fn scattered(engine: Engine, asked: bool) -> Desk {
     desk.append(3, 1);
     desk.append(3, 2);
     desk.free(0);
-    desk.dup(3, 0);
-    desk.drop(0, 20);
+    desk.dup(3, (0, 1));
+    desk.drop((0, 1), 20);
     if asked {
-        desk.dup(0, 1);
+        desk.dup((0, 1), (1, 1));
     }
     let first = if asked { [1, 2, 0, 10, 0] } else { Z };
     desk.tables(
         &[4, if asked { 2 } else { 0 }, 0, 5],
+        &SCATTERED,
         &[
             first,
             [1, 1, 0, 10, 3],
@@ -1118,6 +1206,7 @@ pub fn reading_31_front_given_back(engine: Engine) {
     desk.drop(3, 25);
     desk.tables(
         &[4, 0, 0, 2],
+        &SCATTERED,
         &[[1, 2, 5, 5, 0], Z, [1, 2, 0, 10, 0], Z, Z, Z],
         &[0, 0, 2, 0, 0],
     );
@@ -1125,6 +1214,7 @@ pub fn reading_31_front_given_back(engine: Engine) {
     desk.drop(3, 25);
     desk.tables(
         &[4, 2, 0, 3],
+        &SCATTERED,
         &[[1, 2, 0, 10, 0], [1, 2, 5, 5, 0], [1, 2, 0, 10, 0], Z, Z, Z],
         &[0, 0, 3, 0, 0],
     );
@@ -1135,6 +1225,7 @@ pub fn reading_31_front_given_back(engine: Engine) {
     desk.pullup(3, 25);
     desk.tables(
         &[4, 0, 0, 2],
+        &SCATTERED,
         &[[1, 0, 0, 25, 2], [1, 2, 5, 5, 0], [1, 2, 0, 10, 0], Z, Z, Z],
         &[1, 0, 2, 0, 0],
     );
@@ -1142,6 +1233,7 @@ pub fn reading_31_front_given_back(engine: Engine) {
     desk.pullup(3, 25);
     desk.tables(
         &[4, 2, 0, 3],
+        &SCATTERED,
         &[
             [1, 2, 0, 10, 0],
             [1, 0, 0, 25, 4],
@@ -1159,6 +1251,7 @@ pub fn reading_31_front_given_back(engine: Engine) {
     desk.pullup(3, 12);
     desk.tables(
         &[4, 2, 0, 5],
+        &SCATTERED,
         &[
             [1, 2, 0, 10, 0],
             [1, 1, 2, 8, 3],
@@ -1177,6 +1270,7 @@ pub fn reading_31_front_given_back(engine: Engine) {
     desk.pullup(3, 30);
     desk.tables(
         &[4, 2, 0, 3],
+        &SCATTERED,
         &[
             [1, 2, 0, 10, 0],
             [1, 1, 0, 30, 0],
@@ -1197,6 +1291,7 @@ pub fn reading_31_front_given_back(engine: Engine) {
     desk.drop(1, 520);
     desk.tables(
         &[2, 5],
+        &[0; 2],
         &[
             [1, 0, 0, 512, 2],
             [1, 1, 0, 512, 3],
@@ -1210,8 +1305,8 @@ pub fn reading_31_front_given_back(engine: Engine) {
     desk.dup(0, 1);
     desk.drop(1, 512);
     desk.dup(0, 2);
-    desk.refused(Call::Drop { slip: 1, n: 8 }, PIECES);
-    desk.refused(Call::Drop { slip: 1, n: 520 }, PIECES);
+    desk.refused(drop(1, 8), PIECES);
+    desk.refused(drop(1, 520), PIECES);
 }
 
 /// Code 9 is judged by what is given back too, code 10 is not; keep, append and pack take only what is free at entry.
@@ -1220,21 +1315,22 @@ pub fn reading_32_room_in_front(engine: Engine) {
     desk.put(600, 0);
     desk.dup(0, 1);
     assert_eq!(desk.free_pieces(), []);
-    desk.refused(Call::Keep { slip: 0, n: 520 }, PIECES);
-    desk.refused(Call::Append { a: 0, b: 1 }, PIECES);
-    desk.refused(Call::Pack { slip: 0 }, PIECES);
+    desk.refused(keep(0, 520), PIECES);
+    desk.refused(append(0, 1), PIECES);
+    desk.refused(pack(0), PIECES);
     desk.drop(0, 520);
     desk.tables(
         &[2, 4],
+        &[0; 2],
         &[[1, 1, 8, 80, 0], [1, 1, 0, 88, 0], [1, 0, 0, 512, 2]],
         &[1, 2, 0],
     );
 
     // One given back and two wanted: refused, until one is free.
     let mut desk = two_tens(engine, 3, 4, 3);
-    desk.dup(0, 1);
+    desk.dup(0, (1, 1));
     desk.put(1, 2);
-    desk.refused(Call::Pullup { slip: 0, n: 15 }, PIECES);
+    desk.refused(pullup(0, 15), PIECES);
     desk.free(2);
     desk.pullup(0, 15);
     assert_eq!(desk.free_pieces(), []);
@@ -1242,7 +1338,7 @@ pub fn reading_32_room_in_front(engine: Engine) {
     // The buffers given back are no room, of the whole chain neither.
     for n in [15, 20] {
         let mut desk = two_tens(engine, 2, 2, 2);
-        desk.refused(Call::Pullup { slip: 0, n }, BUFFERS);
+        desk.refused(pullup(0, n), BUFFERS);
     }
 }
 
@@ -1252,7 +1348,7 @@ pub fn reading_33_copied_first(engine: Engine) {
     assert_eq!(desk.free_pieces(), []);
     let old = desk.storage[..1_024].to_vec();
     desk.pullup(0, 20);
-    desk.tables(&[2, 0], &[[1, 2, 0, 20, 0], Z], &[0, 0, 1]);
+    desk.tables(&[2, 0], &[0, 1], &[[1, 2, 0, 20, 0], Z], &[0, 0, 1]);
     desk.buffer_holds(2, &data(10).repeat(2));
     assert_eq!(desk.storage[..1_024], old);
 }
@@ -1288,22 +1384,23 @@ pub fn full_table_of_the_largest(engine: Engine) {
     pieces.push([2, 1, 0, 12, 0]);
     pieces.push([1, 0, 500, 12, 2_047]);
     pieces[1][0] = 2;
-    let mut slips = vec![0; S as usize];
+    let serials = vec![0; S as usize];
+    let mut slips = serials.clone();
     slips[..5].copy_from_slice(&[2, stored + 2, 2_046, 2_047, 2_049]);
     let mut counts = vec![2; buffers as usize];
     counts[stored as usize..].fill(0);
     counts[0] = 5;
     counts[1] = 3;
-    desk.tables(&slips, &pieces, &counts);
+    desk.tables(&slips, &serials, &pieces, &counts);
 
     // One given back, two wanted and one.
-    desk.refused(Call::Pullup { slip: 3, n: 20 }, PIECES);
+    desk.refused(pullup(3, 20), PIECES);
     desk.pullup(3, 24);
     pieces[last + 1] = [1, stored, 0, 24, 0];
     pieces[last + 2][0] = 1;
     counts[0] = 4;
     counts[stored as usize] = 1;
-    desk.tables(&slips, &pieces, &counts);
+    desk.tables(&slips, &serials, &pieces, &counts);
     desk.reads(3, &data(524)[500..]);
 
     // Inside piece 1, which is shared, behind the last pieces' own one.
@@ -1313,7 +1410,7 @@ pub fn full_table_of_the_largest(engine: Engine) {
     pieces[2][0] = 2;
     counts[0] = 3;
     counts[1] = 4;
-    desk.tables(&slips, &pieces, &counts);
+    desk.tables(&slips, &serials, &pieces, &counts);
 
     // Inside piece 2, shared now, behind two own ones, of which the lower number is taken.
     desk.drop(0, 1_030);
@@ -1324,14 +1421,14 @@ pub fn full_table_of_the_largest(engine: Engine) {
     counts[0] = 2;
     counts[1] = 3;
     counts[2] = 3;
-    desk.tables(&slips, &pieces, &counts);
+    desk.tables(&slips, &serials, &pieces, &counts);
 
     // A shared head gives nothing back, in the full table again.
     desk.drop(0, 506);
     desk.dup(0, 5);
     desk.dup(5, 6);
     assert_eq!(desk.free_pieces(), []);
-    desk.refused(Call::Drop { slip: 0, n: 1 }, PIECES);
+    desk.refused(drop(0, 1), PIECES);
     desk.reads(0, &data(whole as usize)[1_536..]);
 }
 

@@ -3,16 +3,19 @@
 use std::time::Instant;
 
 use super::compare;
-use super::desk::{append, cut, drop, dup, Engine};
+use super::desk::{append, cut, drop, dup, free, keep, Engine};
 use super::model::{Call, Outcome, BUFFERS, DONE, PIECES, TORN, TRUE};
-use super::random::{self, Mood, Random, Shape, LARGEST, SHAPES};
+use super::names::{Named, NAMINGS};
+use super::random::{self, Mood, Notes, Random, Shape, LARGEST, SHAPES};
 use super::recount::{recount, Recount};
 
-/// A list under way: the pool that a done open has written, and what came after.
+/// A list under way: the pool that a done open has written, and what came after. In some lists the serials are set by hand
+/// now and then, which leaves the pool sound.
 pub struct List {
     pub random: Random,
     pub shape: Shape,
     pub mood: Mood,
+    pub notes: Notes,
     pub pool: Vec<u8>,
     pub storage: Vec<u8>,
 }
@@ -35,6 +38,7 @@ impl List {
             random,
             shape,
             mood,
+            notes: Notes::default(),
             pool: opened.pool,
             storage: opened.storage,
         }
@@ -42,7 +46,22 @@ impl List {
 
     /// The next random call.
     pub fn call(&mut self) -> Call {
-        random::call(&mut self.random, &self.pool, &self.storage, &self.mood)
+        random::call(
+            &mut self.random,
+            &self.pool,
+            &self.storage,
+            &self.mood,
+            &mut self.notes,
+        )
+    }
+
+    /// Sets serials by hand before every so many calls, as the mood has it; answers whether it was time.
+    pub fn wear(&mut self, made: u64) -> bool {
+        let time = made % 50 == 0;
+        if time {
+            self.mood.wear(&mut self.random, &mut self.pool);
+        }
+        time
     }
 
     /// Goes on from an outcome.
@@ -53,7 +72,8 @@ impl List {
 
     /// Makes random calls on the model.
     pub fn run(&mut self, calls: u64) {
-        for _ in 0..calls {
+        for made in 0..calls {
+            self.wear(made);
             let call = self.call();
             let outcome = TRUE.step(&self.pool, &self.storage, &call);
             self.take(outcome);
@@ -76,32 +96,43 @@ pub fn pools(count: u64, calls: u64) -> impl Iterator<Item = (u64, List)> {
 /// Calls enough to fill a pool of so many pieces fill a larger one too, since puts grow with it.
 const FILLED: u16 = 256;
 
+/// A put of so many bytes, all the same.
+fn put_all(n: u32) -> Call {
+    Call::Put {
+        data: vec![n as u8; n as usize],
+    }
+}
+
+/// Of four slips one heads 28 shared pieces, two have an own piece before them, and one has two; the second is vacated once
+/// on the way and the third three times.
+fn shared(slips: u16) -> Vec<Call> {
+    let put = put_all;
+    let mut shared = Vec::new();
+    for a in (0..slips).step_by(4) {
+        let [b, c, d] = [a + 1, a + 2, a + 3];
+        shared.extend([put(10), put(3_584), cut(b, 0, 3_584), append(b, c)]);
+        shared.extend([cut(b, 0, 7_168), append(b, (c, 1)), append(a, b)]);
+        shared.extend([dup(a), drop((b, 1), 10), dup(a)]);
+        shared.extend([put(20), append(d, (c, 2)), dup(a)]);
+    }
+    shared
+}
+
 /// Pools of the largest shape that the model leaves: one with little in it, one with no slip, piece or buffer free, one whose
 /// free slips, pieces and buffers lie scattered, and one with no slip or piece free, whose chains share their ends.
 pub fn largest() -> Vec<(&'static str, List)> {
     let (b, p, s) = LARGEST;
     let half = s / 2;
     let each = 512 * (b / half) as u32;
-    let put = |n: u32| Call::Put {
-        data: vec![n as u8; n as usize],
-    };
-    let sparse = [0, 1, 512, 513, 1_536].map(put).to_vec();
-    let mut full = vec![put(each); half as usize];
+    let sparse = [0, 1, 512, 513, 1_536].map(put_all).to_vec();
+    let mut full = vec![put_all(each); half as usize];
     full.extend((0..half).map(|slip| cut(slip, 0, each)));
     let mut scattered = full.clone();
     scattered.extend((0..s).map(|slip| match slip % 3 {
-        0 => Call::Free { slip },
-        1 => Call::Drop { slip, n: 700 },
-        _ => Call::Keep { slip, n: 1_000 },
+        0 => free(slip),
+        1 => drop(slip, 700),
+        _ => keep(slip, 1_000),
     }));
-    // Of four slips one heads 28 shared pieces, two have an own piece before them, and one has two.
-    let mut shared = Vec::new();
-    for a in (0..s).step_by(4) {
-        let [b, c, d] = [a + 1, a + 2, a + 3];
-        shared.extend([put(10), put(3_584), cut(b, 0, 3_584), append(b, c)]);
-        shared.extend([cut(b, 0, 7_168), append(b, c), append(a, b)]);
-        shared.extend([dup(a), drop(b, 10), dup(a), put(20), append(d, c), dup(a)]);
-    }
     let after = |calls: Vec<Call>| {
         let mut list = List::start(u64::from(p), Some(LARGEST));
         for call in calls {
@@ -115,7 +146,7 @@ pub fn largest() -> Vec<(&'static str, List)> {
         ("sparse", after(sparse)),
         ("full", after(full)),
         ("scattered", after(scattered)),
-        ("shared", after(shared)),
+        ("shared", after(shared(s))),
     ]
 }
 
@@ -196,10 +227,11 @@ pub struct Tally {
     pub lists: u64,
     pub codes: [u64; 11],
     pub kinds: [u64; KINDS.len()],
+    pub namings: [u64; NAMINGS.len()],
 }
 
 impl Tally {
-    /// What was made since then, in two lines.
+    /// What was made since then, in three lines.
     pub fn print(&self, begun: Instant) {
         println!(
             "{} calls in {} lists, {:.1} s, by code {:?}",
@@ -209,15 +241,20 @@ impl Tally {
             self.codes
         );
         println!("drop and pullup that want pieces, by kind {:?}", self.kinds);
+        println!("slips named and given, by kind {:?}", self.namings);
     }
 
     /// Counts a call that the recount before it has judged.
-    fn count(&mut self, before: &Recount, call: &Call, code: u16) {
+    fn count(&mut self, named: &Named) {
+        let code = named.after.code;
         self.codes[code as usize] += 1;
-        if let Some(wanting) = Wanting::of(before, call, code) {
+        if let Some(wanting) = Wanting::of(named.before, named.call, code) {
             for (times, (_, is)) in self.kinds.iter_mut().zip(KINDS) {
                 *times += u64::from(is(&wanting));
             }
+        }
+        for (times, (_, is)) in self.namings.iter_mut().zip(NAMINGS) {
+            *times += u64::from(is(named));
         }
     }
 
@@ -226,11 +263,12 @@ impl Tally {
         for (code, times) in self.codes.iter().enumerate() {
             assert_eq!(*times == 0, code == 2, "code {code} came {times} times");
         }
-        for (times, (kind, _)) in self.kinds.iter().zip(KINDS) {
-            assert!(
-                *times >= (self.calls / 50_000).max(1),
-                "{kind}: {times} times"
-            );
+        let kinds = KINDS.iter().map(|(kind, _)| kind);
+        let kinds = kinds.zip(self.kinds);
+        let namings = NAMINGS.iter().map(|(naming, _)| naming);
+        for (kind, times) in kinds.chain(namings.zip(self.namings)) {
+            let least = (self.calls / 50_000).max(1);
+            assert!(times >= least, "{kind}: {times} times");
         }
     }
 }
@@ -250,8 +288,12 @@ pub fn demand_three(before: &Recount, call: &Call, after: &Outcome) -> Result<Re
 
 /// Makes calls on the model, and on an engine beside it, with comparison and recount after each.
 pub fn run_on(beside: Option<Engine>, what: &str, list: &mut List, calls: u64, tally: &mut Tally) {
-    let mut found = recount(&list.pool).expect("a pool that calls have left");
+    let recounted = |list: &List| recount(&list.pool).expect("a pool that calls have left");
+    let mut found = recounted(list);
     for position in 0..calls {
+        if list.wear(position) {
+            found = recounted(list);
+        }
         let call = list.call();
         let wanted = TRUE.step(&list.pool, &list.storage, &call);
         let differs = beside.and_then(|engine| {
@@ -261,7 +303,11 @@ pub fn run_on(beside: Option<Engine>, what: &str, list: &mut List, calls: u64, t
         let failed = match (differs, demand_three(&found, &call, &wanted)) {
             (Some(text), _) | (None, Err(text)) => text,
             (None, Ok(after)) => {
-                tally.count(&found, &call, wanted.code);
+                tally.count(&Named {
+                    before: &found,
+                    call: &call,
+                    after: &wanted,
+                });
                 found = after;
                 list.take(wanted);
                 continue;

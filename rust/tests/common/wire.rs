@@ -2,7 +2,7 @@
 
 use super::compare;
 use super::desk::{list, stretches, Engine};
-use super::model::{Call, Outcome, MOST, TRUE};
+use super::model::{Call, Outcome, Tables, MOST, TRUE};
 use super::random::{self, Random};
 use super::sequence::List;
 
@@ -25,8 +25,10 @@ fn by_list(engine: Engine, pool: &[u8], storage: &[u8], listing: &Call, output: 
 /// Answers how often both were done and how often both said 7.
 pub fn law(engine: Engine, from: &mut List) -> [u64; 2] {
     let (pool, storage) = (&from.pool, &from.storage);
+    let tables = Tables::parse(pool, storage).expect("sound");
     let mut times = [0; 2];
-    for slip in 0..from.shape.2 {
+    for slip in 0..tables.slips.len() as u16 {
+        let slip = tables.name(slip);
         let whole = engine(pool, storage, &Call::Length { slip });
         if whole.code != 0 {
             continue;

@@ -6,12 +6,14 @@ use lib.ListN.{length}
 use lib.Dec.{leb}
 use borrow.Author.Needs.{needs}
 use borrow.Author.Tests.{not-true, not-false, leb-true, leb-false}
-use Rattle.rules.specs.Tables.{Tables, headOf, pieceTotal}
+use Rattle.rules.specs.Tables.{Tables, headOf, pieceTotal, aged}
 use Rattle.rules.specs.Bytes.{decode}
 use Rattle.rules.specs.Room.{isFree, freePieces}
 use Rattle.rules.specs.Append.{notOwn}
+use Rattle.tables.proofs.Laws.{onward}
 use Rattle.room.specs.Free.{lowestFor}
 use Rattle.answer.proofs.Perform.{named-below}
+use Rattle.append.specs.Join.{goodName}
 use Rattle.append.proofs.Ready.{IsReady, head-ok, last-below, next-ok, next-long, no-others, others-count, others-cut, own-ready, new-ready, first-small, join-hangable, join-after}
 use Rattle.append.proofs.Laws.{append-pieces, append-joined}
 use Rattle.append.proofs.join.Statement.{statement}
@@ -30,10 +32,10 @@ tables r = decode (start r .args .pool .now)
 -- the two slips are the pool's, and their chains are not empty
 module _ (r : tie.After-own-run) where
   a-below : start r .args .a .0 < start r .args .shape .slips
-  a-below = named-below (start r .pre .0 .shaped) (start r .args .a .0) (start r .pre .1 .a-named)
+  a-below = named-below (start r .pre .0 .shaped) (goodName (tables r) (start r .args .a .0)) (start r .pre .1 .a-named)
 
   b-below : start r .args .b .0 < start r .args .shape .slips
-  b-below = named-below (start r .pre .0 .shaped) (start r .args .b .0) (start r .pre .1 .b-named)
+  b-below = named-below (start r .pre .0 .shaped) (goodName (tables r) (start r .args .b .0)) (start r .pre .1 .b-named)
 
   a-some : headOf (tables r) (start r .args .a .0) ≡ 0 → ⊥
   a-some z = start r .pre .1 .head-some (start r .pre .1 .head-is ∙ z)
@@ -71,26 +73,28 @@ hang-requires c κs =
       join-hangable (z .pre .0) (z .pre .1) is (kept v),
     )
 
-done-requires : tie.Need-done-requires
-done-requires c κs =
+retire-requires : tie.Need-retire-requires
+retire-requires c κs =
     let g = c .before .before .before in
-    (g .hang .ensures .shaped, a-below (begun (g .before .before .before .before)))
+    let r = begun (g .before .before .before .before) in
+    (g .hang .ensures .shaped, a-below r, b-below r)
 
 same-length : tie.Need-same-length
 same-length c = search needs
 
 returns : tie.Need-returns
 returns c =
-    let k = c .before .before in
-    let g = k .before .before in
+    let t = c .before .before in
+    let g = t .before .before .before .before in
     let v = g .before .before .before .before in
     let r = begun v in
     let z = start r in
     let is = r .own-run .ensures in
     let none = ap length (no-others (z .pre .0) (z .pre .1) is (all-own v .if1 .taken)) in (
-      λ st. append-joined (z .args .pool .now) st (z .args .a .0) (z .args .b .0) (z .pre .1 .a-named) (z .pre .1 .b-named) (z .pre .1 .apart) (a-some r) (b-some r)
-          (omega (arith, none)) (c .done .ensures) (λ i. omega (arith, k .slice-known3 .given i)) (join-after (z .pre .0) (z .pre .1) is (kept v) st (g .hang .ensures)),
-      rw (c .done .ensures),
+      λ st. append-joined (z .args .pool .now) st (goodName (tables r) (z .args .a .0)) (goodName (tables r) (z .args .b .0)) (z .pre .1 .a-named) (z .pre .1 .b-named) (z .pre .1 .apart) (a-some r) (b-some r)
+          (omega (arith, none)) (t .retire .ensures .1) (λ i. omega (arith, c .slice-known4 .given i))
+          (onward (join-after (z .pre .0) (z .pre .1) is (kept v) st (g .hang .ensures)) (λ (T : Tables). aged T (z .args .b .0)) (t .retire .ensures .0)),
+      rw (t .retire .ensures .1),
     )
 
 -- ---- some are not
@@ -130,7 +134,7 @@ returns-2 c =
     let r = from q in
     let z = start r in
     let few = leb-false (counted q .pieces-from .result) (length (freePieces (tables r))) (sym (enough q) ∙ not-true _ (c .if2 .taken)) in (
-      λ st. append-pieces (z .args .pool .now) st (z .args .a .0) (z .args .b .0) (z .pre .1 .a-named) (z .pre .1 .b-named) (z .pre .1 .apart) (a-some r) (b-some r) (omega (arith, few, count q)),
+      λ st. append-pieces (z .args .pool .now) st (goodName (tables r) (z .args .a .0)) (goodName (tables r) (z .args .b .0)) (z .pre .1 .a-named) (z .pre .1 .b-named) (z .pre .1 .apart) (a-some r) (b-some r) (omega (arith, few, count q)),
       tt,
     )
 
@@ -187,27 +191,28 @@ hang-requires-2 c κs =
       join-hangable (z .pre .0) (z .pre .1) is (built-now v),
     )
 
-done-requires-2 : tie.Need-done-requires-2
-done-requires-2 c κs =
+retire-requires-2 : tie.Need-retire-requires-2
+retire-requires-2 c κs =
     let g = c .before .before .before in
-    (g .hang2 .ensures .shaped, a-below (first-read (g .before .before .before .before)))
+    let r = first-read (g .before .before .before .before) in
+    (g .hang2 .ensures .shaped, a-below r, b-below r)
 
 same-length-3 : tie.Need-same-length-3
 same-length-3 c = search needs
 
 returns-3 : tie.Need-returns-3
 returns-3 c =
-    let k = c .before .before in
-    let g = k .before .before in
+    let t = c .before .before in
+    let g = t .before .before .before .before in
     let v = g .before .before .before .before in
     let e = roomed v in
     let r = first-read v in
     let z = start r in
     let is = r .own-run .ensures in (
-      λ st. append-joined (z .args .pool .now) st (z .args .a .0) (z .args .b .0) (z .pre .1 .a-named) (z .pre .1 .b-named) (z .pre .1 .apart) (a-some r) (b-some r)
-          (omega (arith, count (asked e), room e)) (c .done2 .ensures) (λ i. omega (arith, k .slice-known6 .given i))
-          (join-after (z .pre .0) (z .pre .1) is (built-now v) st (g .hang2 .ensures)),
-      rw (c .done2 .ensures),
+      λ st. append-joined (z .args .pool .now) st (goodName (tables r) (z .args .a .0)) (goodName (tables r) (z .args .b .0)) (z .pre .1 .a-named) (z .pre .1 .b-named) (z .pre .1 .apart) (a-some r) (b-some r)
+          (omega (arith, count (asked e), room e)) (t .retire2 .ensures .1) (λ i. omega (arith, c .slice-known8 .given i))
+          (onward (join-after (z .pre .0) (z .pre .1) is (built-now v) st (g .hang2 .ensures)) (λ (T : Tables). aged T (z .args .b .0)) (t .retire2 .ensures .0)),
+      rw (t .retire2 .ensures .1),
     )
 
 pub join-spec : {M : Type 1} → statement M
@@ -217,7 +222,7 @@ join-spec =
     own-run-requires
     set-slip-requires
     hang-requires
-    done-requires
+    retire-requires
     same-length
     returns
     pieces-from-requires
@@ -228,6 +233,6 @@ join-spec =
     copy-pieces-requires
     set-slip-requires-2
     hang-requires-2
-    done-requires-2
+    retire-requires-2
     same-length-3
     returns-3)

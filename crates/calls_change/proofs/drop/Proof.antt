@@ -1,6 +1,7 @@
 -- `calls_change::drop` meets its contract. Assumes nothing.
 use borrow.Author.Needs.{needs}
 use borrow.Author.Tests.{not-true, not-false}
+use Rattle.rules.specs.Rule.{name}
 use Rattle.rules.specs.Step.{Drop}
 use Rattle.calls.proofs.Laws.{torn-answer, opened, answered}
 use Rattle.calls_change.proofs.drop.Statement.{statement}
@@ -20,7 +21,7 @@ returns c =
     let t = c .before in
     let u = t .before .before in
     let a = u .before .before .before .before .args in
-    torn-answer (a .storage .now) (u .audit .ensures) (not-true _ (t .if1 .taken)) (Drop (a .slip .0) (a .n)) (c .refused .ensures)
+    torn-answer (a .storage .now) (u .audit .ensures) (not-true _ (t .if1 .taken)) (Drop (name (a .slip .0) (a .serial .0)) (a .n)) (c .refused .ensures)
 
 drop-first-requires : tie.Need-drop-first-requires
 drop-first-requires c κs =
@@ -40,7 +41,7 @@ returns-2 c =
     let e = k .before .before .before in
     let u = e .before .before in
     let a = u .before .before .before .before .args in
-    answered (a .storage .now) (u .audit .ensures) (not-false _ (e .if1 .left)) (k .drop-first .result) (Drop (a .slip .0) (a .n)) (c .answer-of .ensures) (k .drop-first .ensures .0 (a .storage .now))
+    answered (a .storage .now) (u .audit .ensures) (not-false _ (e .if1 .left)) (k .drop-first .result) (Drop (name (a .slip .0) (a .serial .0)) (a .n)) (c .answer-of .ensures) (k .drop-first .ensures .0 (a .storage .now))
 
 pub drop-spec : {M : Type 1} → statement M
 drop-spec =

@@ -1,6 +1,7 @@
 -- `calls_change::free` meets its contract. Assumes nothing.
 use borrow.Author.Needs.{needs}
 use borrow.Author.Tests.{not-true, not-false}
+use Rattle.rules.specs.Rule.{name}
 use Rattle.rules.specs.Step.{Free}
 use Rattle.calls.proofs.Laws.{torn-answer, opened, answered}
 use Rattle.calls_change.proofs.free.Statement.{statement}
@@ -20,7 +21,7 @@ returns c =
     let t = c .before in
     let u = t .before .before in
     let a = u .before .before .before .before .args in
-    torn-answer (a .storage .now) (u .audit .ensures) (not-true _ (t .if1 .taken)) (Free (a .slip .0)) (c .refused .ensures)
+    torn-answer (a .storage .now) (u .audit .ensures) (not-true _ (t .if1 .taken)) (Free (name (a .slip .0) (a .serial .0))) (c .refused .ensures)
 
 free-requires : tie.Need-free-requires
 free-requires c κs =
@@ -40,7 +41,7 @@ returns-2 c =
     let e = k .before .before .before in
     let u = e .before .before in
     let a = u .before .before .before .before .args in
-    answered (a .storage .now) (u .audit .ensures) (not-false _ (e .if1 .left)) (k .free .result) (Free (a .slip .0)) (c .answer-of .ensures) (k .free .ensures .0 (a .storage .now))
+    answered (a .storage .now) (u .audit .ensures) (not-false _ (e .if1 .left)) (k .free .result) (Free (name (a .slip .0) (a .serial .0))) (c .answer-of .ensures) (k .free .ensures .0 (a .storage .now))
 
 pub free-spec : {M : Type 1} → statement M
 free-spec =

@@ -1,6 +1,7 @@
 -- `calls_change::keep` meets its contract. Assumes nothing.
 use borrow.Author.Needs.{needs}
 use borrow.Author.Tests.{not-true, not-false}
+use Rattle.rules.specs.Rule.{name}
 use Rattle.rules.specs.Step.{Keep}
 use Rattle.calls.proofs.Laws.{torn-answer, opened, answered}
 use Rattle.calls_change.proofs.keep.Statement.{statement}
@@ -20,7 +21,7 @@ returns c =
     let t = c .before in
     let u = t .before .before in
     let a = u .before .before .before .before .args in
-    torn-answer (a .storage .now) (u .audit .ensures) (not-true _ (t .if1 .taken)) (Keep (a .slip .0) (a .n)) (c .refused .ensures)
+    torn-answer (a .storage .now) (u .audit .ensures) (not-true _ (t .if1 .taken)) (Keep (name (a .slip .0) (a .serial .0)) (a .n)) (c .refused .ensures)
 
 keep-requires : tie.Need-keep-requires
 keep-requires c κs =
@@ -40,7 +41,7 @@ returns-2 c =
     let e = k .before .before .before in
     let u = e .before .before in
     let a = u .before .before .before .before .args in
-    answered (a .storage .now) (u .audit .ensures) (not-false _ (e .if1 .left)) (k .keep .result) (Keep (a .slip .0) (a .n)) (c .answer-of .ensures) (k .keep .ensures .0 (a .storage .now))
+    answered (a .storage .now) (u .audit .ensures) (not-false _ (e .if1 .left)) (k .keep .result) (Keep (name (a .slip .0) (a .serial .0)) (a .n)) (c .answer-of .ensures) (k .keep .ensures .0 (a .storage .now))
 
 pub keep-spec : {M : Type 1} → statement M
 keep-spec =

@@ -2,6 +2,7 @@
 use native.Mathlib.Omega.{arith}
 use borrow.Author.Needs.{needs}
 use borrow.Author.Tests.{not-true, not-false}
+use Rattle.rules.specs.Rule.{name}
 use Rattle.calls.proofs.Laws.{opened}
 use Rattle.calls_look.proofs.Laws.{begins-torn, begins-sound}
 use Rattle.calls_look.proofs.begin.Statement.{statement}
@@ -18,7 +19,7 @@ returns c =
     let t = c .before in
     let u = t .before .before .before in
     let a = u .before .before .before .args in
-    begins-torn (a .storage .now) (a .slip .0) (a .room) (u .audit .ensures) (not-true _ (t .if1 .taken)) (c .refused .ensures)
+    begins-torn (a .storage .now) (name (a .slip .0) (a .serial .0)) (a .room) (u .audit .ensures) (not-true _ (t .if1 .taken)) (c .refused .ensures)
 
 begin-requires : tie.Need-begin-requires
 begin-requires c κs =
@@ -35,7 +36,7 @@ returns-2 c =
     let u = e .before .before .before in
     let y = u .before .before in
     let a = y .before .args in
-    begins-sound (a .storage .now) (a .slip .0) (a .room) (u .audit .ensures) (λ i. omega (arith, y .shared-slice-known .given i)) (not-false _ (e .if1 .left)) (b .begin .ensures) (c .answer-of .ensures)
+    begins-sound (a .storage .now) (name (a .slip .0) (a .serial .0)) (a .room) (u .audit .ensures) (λ i. omega (arith, y .shared-slice-known .given i)) (not-false _ (e .if1 .left)) (b .begin .ensures) (c .answer-of .ensures)
 
 pub begin-spec : {M : Type 1} → statement M
 begin-spec =

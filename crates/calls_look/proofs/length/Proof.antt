@@ -1,6 +1,7 @@
 -- `calls_look::length` meets its contract. Assumes nothing.
 use borrow.Author.Needs.{needs}
 use borrow.Author.Tests.{not-true, not-false}
+use Rattle.rules.specs.Rule.{name}
 use Rattle.rules.specs.Step.{Length}
 use Rattle.calls.proofs.Laws.{torn-answer, opened, answered}
 use Rattle.calls_look.proofs.length.Statement.{statement}
@@ -17,7 +18,7 @@ returns c =
     let t = c .before in
     let u = t .before .before in
     let a = u .before .before .before .args in
-    torn-answer (a .storage .now) (u .audit .ensures) (not-true _ (t .if1 .taken)) (Length (a .slip .0)) (c .refused .ensures)
+    torn-answer (a .storage .now) (u .audit .ensures) (not-true _ (t .if1 .taken)) (Length (name (a .slip .0) (a .serial .0))) (c .refused .ensures)
 
 length-requires : tie.Need-length-requires
 length-requires c κs =
@@ -34,7 +35,7 @@ returns-2 c =
     let e = l .before .before in
     let u = e .before .before in
     let a = u .before .before .before .args in
-    answered (a .storage .now) (u .audit .ensures) (not-false _ (e .if1 .left)) (l .length .result) (Length (a .slip .0)) (c .answer-of .ensures) (l .length .ensures .0 (a .storage .now))
+    answered (a .storage .now) (u .audit .ensures) (not-false _ (e .if1 .left)) (l .length .result) (Length (name (a .slip .0) (a .serial .0))) (c .answer-of .ensures) (l .length .ensures .0 (a .storage .now))
 
 pub length-spec : {M : Type 1} → statement M
 length-spec =

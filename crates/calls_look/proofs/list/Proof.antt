@@ -1,6 +1,7 @@
 -- `calls_look::list` meets its contract. Assumes nothing.
 use borrow.Author.Needs.{needs}
 use borrow.Author.Tests.{not-true, not-false}
+use Rattle.rules.specs.Rule.{name}
 use Rattle.rules.specs.Step.{WireList}
 use Rattle.calls.proofs.Laws.{torn-answer, opened, answered}
 use Rattle.calls_look.proofs.list.Statement.{statement}
@@ -17,7 +18,7 @@ returns c =
     let t = c .before in
     let u = t .before .before in
     let a = u .before .before .before .before .args in
-    torn-answer (a .storage .now) (u .audit .ensures) (not-true _ (t .if1 .taken)) (WireList (a .slip .0) (a .list .now)) (c .refused .ensures)
+    torn-answer (a .storage .now) (u .audit .ensures) (not-true _ (t .if1 .taken)) (WireList (name (a .slip .0) (a .serial .0)) (a .list .now)) (c .refused .ensures)
 
 list-requires : tie.Need-list-requires
 list-requires c κs =
@@ -37,7 +38,7 @@ returns-2 c =
     let e = k .before .before .before in
     let u = e .before .before in
     let a = u .before .before .before .before .args in
-    answered (a .storage .now) (u .audit .ensures) (not-false _ (e .if1 .left)) (k .list .result) (WireList (a .slip .0) (a .list .now)) (c .answer-of .ensures) (k .list .ensures .0 (a .storage .now))
+    answered (a .storage .now) (u .audit .ensures) (not-false _ (e .if1 .left)) (k .list .result) (WireList (name (a .slip .0) (a .serial .0)) (a .list .now)) (c .answer-of .ensures) (k .list .ensures .0 (a .storage .now))
 
 pub list-spec : {M : Type 1} → statement M
 list-spec =

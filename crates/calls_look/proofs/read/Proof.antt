@@ -1,6 +1,7 @@
 -- `calls_look::read` meets its contract. Assumes nothing.
 use borrow.Author.Needs.{needs}
 use borrow.Author.Tests.{not-true, not-false}
+use Rattle.rules.specs.Rule.{name}
 use Rattle.rules.specs.Step.{Read}
 use Rattle.calls.proofs.Laws.{torn-answer, opened, fitted, answered}
 use Rattle.calls_look.proofs.read.Statement.{statement}
@@ -17,7 +18,7 @@ returns c =
     let t = c .before in
     let u = t .before .before in
     let a = u .before .before .before .before .args in
-    torn-answer (a .storage .now) (u .audit .ensures) (not-true _ (t .if1 .taken)) (Read (a .slip .0) (a .offset) (a .length) (a .output .now)) (c .refused .ensures)
+    torn-answer (a .storage .now) (u .audit .ensures) (not-true _ (t .if1 .taken)) (Read (name (a .slip .0) (a .serial .0)) (a .offset) (a .length) (a .output .now)) (c .refused .ensures)
 
 read-requires : tie.Need-read-requires
 read-requires c κs =
@@ -38,7 +39,7 @@ returns-2 c =
     let e = k .before .before .before in
     let u = e .before .before in
     let a = u .before .before .before .before .args in
-    answered (a .storage .now) (u .audit .ensures) (not-false _ (e .if1 .left)) (k .read .result) (Read (a .slip .0) (a .offset) (a .length) (a .output .now)) (c .answer-of .ensures) (k .read .ensures .0)
+    answered (a .storage .now) (u .audit .ensures) (not-false _ (e .if1 .left)) (k .read .result) (Read (name (a .slip .0) (a .serial .0)) (a .offset) (a .length) (a .output .now)) (c .answer-of .ensures) (k .read .ensures .0)
 
 pub read-spec : {M : Type 1} → statement M
 read-spec =

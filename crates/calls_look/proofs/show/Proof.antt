@@ -2,6 +2,7 @@
 use native.Mathlib.Omega.{arith}
 use borrow.Author.Needs.{needs}
 use borrow.Author.Tests.{not-true, not-false}
+use Rattle.rules.specs.Rule.{name}
 use Rattle.rules.specs.Step.{Show}
 use Rattle.calls.proofs.Laws.{opened, fitted}
 use Rattle.calls_look.proofs.Laws.{torn-shown, start-small, shown}
@@ -23,7 +24,7 @@ returns c =
     let t = k .before in
     let u = t .before .before in
     let a = u .before .before .before .before .args in
-    torn-shown (a .storage .now) (u .audit .ensures) (not-true _ (t .if1 .taken)) (Show (a .slip .0) (a .n) (a .scratch .now)) (c .shown-of .ensures) (k .unseen .ensures)
+    torn-shown (a .storage .now) (u .audit .ensures) (not-true _ (t .if1 .taken)) (Show (name (a .slip .0) (a .serial .0)) (a .n) (a .scratch .now)) (c .shown-of .ensures) (k .unseen .ensures)
 
 show-requires : tie.Need-show-requires
 show-requires c κs =

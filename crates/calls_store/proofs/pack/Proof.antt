@@ -1,6 +1,7 @@
 -- `calls_store::pack` meets its contract. Assumes nothing.
 use borrow.Author.Needs.{needs}
 use borrow.Author.Tests.{not-true, not-false}
+use Rattle.rules.specs.Rule.{name}
 use Rattle.rules.specs.Step.{Pack}
 use Rattle.calls.proofs.Laws.{torn-answer, opened, fitted, answered}
 use Rattle.calls_store.proofs.pack.Statement.{statement}
@@ -20,7 +21,7 @@ returns c =
     let t = c .before in
     let u = t .before .before in
     let a = u .before .before .before .before .args in
-    torn-answer (a .storage .now) (u .audit .ensures) (not-true _ (t .if1 .taken)) (Pack (a .slip .0)) (c .refused .ensures)
+    torn-answer (a .storage .now) (u .audit .ensures) (not-true _ (t .if1 .taken)) (Pack (name (a .slip .0) (a .serial .0))) (c .refused .ensures)
 
 pack-requires : tie.Need-pack-requires
 pack-requires c κs =
@@ -44,7 +45,7 @@ returns-2 c =
     let e = k .before .before .before .before in
     let u = e .before .before in
     let a = u .before .before .before .before .args in
-    answered (a .storage .now) (u .audit .ensures) (not-false _ (e .if1 .left)) (k .pack .result) (Pack (a .slip .0)) (c .answer-of .ensures) (k .pack .ensures .0)
+    answered (a .storage .now) (u .audit .ensures) (not-false _ (e .if1 .left)) (k .pack .result) (Pack (name (a .slip .0) (a .serial .0))) (c .answer-of .ensures) (k .pack .ensures .0)
 
 pub pack-spec : {M : Type 1} → statement M
 pack-spec =

@@ -1,6 +1,7 @@
 -- `calls_store::pullup` meets its contract. Assumes nothing.
 use borrow.Author.Needs.{needs}
 use borrow.Author.Tests.{not-true, not-false}
+use Rattle.rules.specs.Rule.{name}
 use Rattle.rules.specs.Step.{Pullup}
 use Rattle.calls.proofs.Laws.{torn-answer, opened, fitted, answered}
 use Rattle.calls_store.proofs.pullup.Statement.{statement}
@@ -20,7 +21,7 @@ returns c =
     let t = c .before in
     let u = t .before .before in
     let a = u .before .before .before .before .args in
-    torn-answer (a .storage .now) (u .audit .ensures) (not-true _ (t .if1 .taken)) (Pullup (a .slip .0) (a .n)) (c .refused .ensures)
+    torn-answer (a .storage .now) (u .audit .ensures) (not-true _ (t .if1 .taken)) (Pullup (name (a .slip .0) (a .serial .0)) (a .n)) (c .refused .ensures)
 
 pullup-requires : tie.Need-pullup-requires
 pullup-requires c κs =
@@ -44,7 +45,7 @@ returns-2 c =
     let e = k .before .before .before .before in
     let u = e .before .before in
     let a = u .before .before .before .before .args in
-    answered (a .storage .now) (u .audit .ensures) (not-false _ (e .if1 .left)) (k .pullup .result) (Pullup (a .slip .0) (a .n)) (c .answer-of .ensures) (k .pullup .ensures .0)
+    answered (a .storage .now) (u .audit .ensures) (not-false _ (e .if1 .left)) (k .pullup .result) (Pullup (name (a .slip .0) (a .serial .0)) (a .n)) (c .answer-of .ensures) (k .pullup .ensures .0)
 
 pub pullup-spec : {M : Type 1} → statement M
 pullup-spec =

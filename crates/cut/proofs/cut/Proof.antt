@@ -13,16 +13,17 @@ use Rattle.rules.specs.Basics.{Is}
 use Rattle.rules.specs.Tables.{Tables, headOf, slipTotal}
 use Rattle.rules.specs.Bytes.{decode}
 use Rattle.rules.specs.Chain.{Stretch, spans, lengthOf, cutOut}
-use Rattle.rules.specs.Room.{isVacant, vacantSlips, freePieces, newSlip}
+use Rattle.rules.specs.Room.{isReady, readySlips, freePieces, newSlip}
 use Rattle.rules.specs.Build.{plain}
-use Rattle.rules.specs.Rule.{unnamed}
+use Rattle.rules.specs.Rule.{Name, name, unnamed}
+use Rattle.rules.proofs.Build.{built-kept}
 use Rattle.tables.proofs.Laws.{whole, total-slips, total-pieces}
 use Rattle.chain.specs.Enter.{Enters}
 use Rattle.chain.specs.Length.{stretchesFrom}
 use Rattle.chain.proofs.Spots.{Found}
 use Rattle.chain.proofs.Parts.{range-short, range-there}
 use Rattle.room.proofs.Free.{first-lies, new-slip, no-slip}
-use Rattle.answer.proofs.New.{under-made, new-link}
+use Rattle.answer.proofs.New.{under-made, new-link, new-name, new-leaves}
 use Rattle.cut.proofs.Laws.{place-found, range-pieces, cut-slip, cut-range, cut-slips, cut-pieces, cut-done}
 use Rattle.cut.proofs.cut.Statement.{statement}
 use Rattle.cut.proofs.cut.Tie as tie
@@ -43,7 +44,7 @@ returns : tie.Need-returns
 returns c =
     let a = c .before .before .before .before .before .before .args in
     let vacant = entry-none (c .before .before .state-of .ensures) (c .before .held .ensures) (not-true _ (c .if1 .taken)) in
-    (λ st. cut-slip (a .pool .now) st (a .s .0) (a .off) (a .n) (c .before .before .before .enter .ensures .strange vacant), tt)
+    (λ st. cut-slip (a .pool .now) st (name (a .s .0) (a .serial .0)) (a .off) (a .n) (c .before .before .before .enter .ensures .strange vacant), tt)
 
 module _ (e : tie.Else1) where
   -- where the call started, and the tables there
@@ -53,14 +54,18 @@ module _ (e : tie.Else1) where
   abbrev tables : Tables
   tables = decode (start .args .pool .now)
 
+  -- what the caller names
+  abbrev named : Name
+  named = name (start .args .s .0) (start .args .serial .0)
+
   -- what was looked up of the slip: it is named
-  abbrev entry : Enters tables (start .args .shape) (start .args .s .0) (e .before .before .before .enter .result)
+  abbrev entry : Enters tables (start .args .shape) named (e .before .before .before .enter .result)
   entry = e .before .before .before .enter .ensures
 
   held-here : e .before .before .before .enter .result ≢ 0
   held-here = entry-some (e .before .before .state-of .ensures) (e .before .held .ensures) (not-false _ (e .if1 .left))
 
-  named-here : Is (unnamed tables (start .args .s .0)) → ⊥
+  named-here : Is (unnamed tables named) → ⊥
   named-here = entry .named held-here
 
 sub-head : tie.Need-sub-head
@@ -77,7 +82,7 @@ place : (f : tie.After-find) → let z = start (from f) in Found (tables (from f
 place f =
     let e = from f in
     let z = start e in
-    place-found (tables e) (z .args .off) (z .pre .sound) (entry e .good) (entry e .link-is) (f .find .ensures)
+    place-found (tables e) (z .args .off) (z .pre .sound) (entry e .good) (entry e .link-is (held-here e)) (f .find .ensures)
 
 cast-part-of : tie.Need-cast-part-of
 cast-part-of c = search needs
@@ -98,7 +103,7 @@ returns-2 c =
     let a = start (from f) .args in
     let T = tables (from f) in
     let short = range-short T (headOf T (a .s .0)) (a .off) (a .n) (place f) (k .part-of .ensures) (not-true _ (c .if2 .taken)) in
-    (λ st. cut-range (a .pool .now) st (a .s .0) (a .off) (a .n) (named-here (from f)) short, tt)
+    (λ st. cut-range (a .pool .now) st (named (from f)) (a .off) (a .n) (named-here (from f)) short, tt)
 
 -- the chain has the bytes of the range
 abbrev found-at : tie.Else2 → tie.After-find
@@ -111,8 +116,8 @@ in-range c =
     let T = tables (from f) in
     range-there T (headOf T (a .s .0)) (a .off) (a .n) (place f) (c .before .before .part-of .ensures) (not-false _ (c .if2 .left))
 
-next-vacant-requires : tie.Need-next-vacant-requires
-next-vacant-requires c κs = search needs
+next-ready-requires : tie.Need-next-ready-requires
+next-ready-requires c κs = search needs
 
 same-length-3 : tie.Need-same-length-3
 same-length-3 c = search needs
@@ -123,24 +128,24 @@ returns-3 c =
     let e2 = v .before .before in
     let e = from (found-at e2) in
     let z = start e in
-    let all : v .next-vacant .result .0 ≡ slipTotal (tables e) = omega (arith, c .if3 .taken, total-slips (whole (z .pre .shaped))) in
-    (λ st. cut-slips (z .args .pool .now) st (z .args .s .0) (z .args .off) (z .args .n) (named-here e) (in-range e2) (no-slip (tables e) (v .next-vacant .ensures) all), tt)
+    let all : v .next-ready .result .0 ≡ slipTotal (tables e) = omega (arith, c .if3 .taken, total-slips (whole (z .pre .shaped))) in
+    (λ st. cut-slips (z .args .pool .now) st (named e) (z .args .off) (z .args .n) (named-here e) (in-range e2) (no-slip (tables e) (v .next-ready .ensures) all), tt)
 
--- the new slip: the lowest vacant one
+-- the new slip: the lowest that may be given
 abbrev ranged : tie.Else3 → tie.Else2
 ranged c = c .before .before .before .before .before
 
 abbrev entered : tie.Else3 → tie.Else1
 entered c = from (found-at (ranged c))
 
-new : (c : tie.Else3) → let t = c .before .before .before .next-vacant .result .0 in let T = tables (entered c) in (t < slipTotal T) × (newSlip T ≡ t) × (1 ≤ length (vacantSlips T))
+new : (c : tie.Else3) → let t = c .before .before .before .next-ready .result .0 in let T = tables (entered c) in (t < slipTotal T) × (newSlip T ≡ t) × (1 ≤ length (readySlips T))
 new c =
     let v = c .before .before .before in
     let e = entered c in
     let T = tables e in
-    let below : v .next-vacant .result .0 < slipTotal T =
-    omega (arith, c .if3 .left, total-slips (whole (start e .pre .shaped)), v .next-vacant .ensures, first-lies (isVacant T) 0 (slipTotal T) .0) in
-    let it = new-slip T (v .next-vacant .ensures) below in
+    let below : v .next-ready .result .0 < slipTotal T =
+    omega (arith, c .if3 .left, total-slips (whole (start e .pre .shaped)), v .next-ready .ensures, first-lies (isReady T) 0 (slipTotal T) .0) in
+    let it = new-slip T (v .next-ready .ensures) below in
     (below, it .0, it .1)
 
 overlapped-requires : tie.Need-overlapped-requires
@@ -175,7 +180,7 @@ returns-4 c =
     let e = entered e3 in
     let a = start e .args in
     let few = leb-false (k .overlapped .result) (length (freePieces (tables e))) (sym (enough (c .before .before)) ∙ not-true _ (c .if4 .taken)) in
-    (λ st. cut-pieces (a .pool .now) st (a .s .0) (a .off) (a .n) (named-here e) (in-range (ranged e3)) (new e3 .2) (omega (arith, overlaps k)), tt)
+    (λ st. cut-pieces (a .pool .now) st (named e) (a .off) (a .n) (named-here e) (in-range (ranged e3)) (new e3 .2) (omega (arith, overlaps k)), tt)
 
 -- there are as many free pieces
 abbrev counted : tie.Else4 → tie.After-overlapped
@@ -223,11 +228,13 @@ returns-5 c =
     let e = from f in
     let a = start e .args in
     let T = tables e in
-    let t = e3 .before .before .before .next-vacant .result .0 in
+    let t = e3 .before .before .before .next-ready .result .0 in
     let is = under-made (plain T (copied f)) (freePieces T) t (w .copy-pieces .ensures .0) (w .copy-pieces .ensures .1) (u .under-new .ensures .0) in (
-      λ st. cut-done (a .pool .now) st (a .s .0) (a .off) (a .n) (named-here e) (in-range (ranged e3)) (new e3 .2) (omega (arith, overlaps k, room e4)) (new e3 .1) (u .under-new .ensures .1)
+      λ st. cut-done (a .pool .now) st (named e) (a .off) (a .n) (named-here e) (in-range (ranged e3)) (new e3 .2) (omega (arith, overlaps k, room e4)) (new e3 .1) (u .under-new .ensures .1)
+          (new-name T (plain T (copied f)) (freePieces T) t (w .copy-pieces .ensures .0) (built-kept T (freePieces T) (copied f) 0 .serials-kept))
           (λ i. omega (arith, c .slice-known3 .given i)) is (place f .cut (a .n)),
-      rw (u .under-new .ensures .1),
+      new-leaves (decode (u .under-new .last .0)) (decode (w .copy-pieces .last .0)) t (omega (arith, new e3 .0, total-slips (whole (start e .pre .shaped)), start e .pre .few-slips))
+          (u .under-new .ensures .1),
     )
 
 pub cut-spec : {M : Type 1} → statement M
@@ -246,7 +253,7 @@ cut-spec =
     part-of-requires
     same-length-2
     returns-2
-    next-vacant-requires
+    next-ready-requires
     same-length-3
     returns-3
     overlapped-requires

@@ -2,7 +2,7 @@
 use mathlib.Core.Path.{_≡_, sym, ap, subst, _∙_}
 use mathlib.Core.Logic.{_≢_}
 use mathlib.Core.List.{List, []}
-use Prim.Native.Nat.{ℕ, _+_, _≤_, _<_}
+use Prim.Native.Nat.{ℕ, _+_, _-_, _≤_, _<_}
 use native.Mathlib.Omega.{arith}
 use lib.ListN.{length}
 use lib.Dec.{ltb, leb}
@@ -15,7 +15,7 @@ use Rattle.rules.specs.Bytes.{decode}
 use Rattle.rules.specs.Chain.{lengthOf, ownPieces}
 use Rattle.rules.specs.Room.{isFreeWith, freePieces, freeFrom}
 use Rattle.rules.specs.Build.{Plan, built, builtLink}
-use Rattle.rules.specs.Rule.{unnamed}
+use Rattle.rules.specs.Rule.{Name, name, unnamed}
 use Rattle.rules.specs.Drop.{dropped, dropBack}
 use Rattle.rules.proofs.Moves.{SoundNow}
 use Rattle.rules.proofs.Build.{Planned}
@@ -51,12 +51,12 @@ returns : tie.Need-returns
 returns c =
     let a = c .before .before .before .before .before .before .args in
     let vacant = entry-none (c .before .before .state-of .ensures) (c .before .held .ensures) (not-true _ (c .if1 .taken)) in
-    (λ st. drop-slip (a .pool .now) st (a .s .0) (a .n) (c .before .before .before .enter .ensures .strange vacant), tt)
+    (λ st. drop-slip (a .pool .now) st (name (a .s .0) (a .serial .0)) (a .n) (c .before .before .before .enter .ensures .strange vacant), tt)
 
 -- ---- the slip is named
 
 module _ (e : tie.Else1) where
-  -- where the call started, the tables there, and the slip
+  -- where the call started, the tables there, the slip, and its name
   abbrev start : tie.Start
   start = e .before .before .before .before .before .before
 
@@ -66,14 +66,17 @@ module _ (e : tie.Else1) where
   abbrev slip : ℕ
   slip = start .args .s .0
 
-  -- what was looked up of it: it is not vacant, and one of the pool's
-  abbrev entry : Enters tables (start .args .shape) slip (e .before .before .before .enter .result)
+  abbrev the-name : Name
+  the-name = name slip (start .args .serial .0)
+
+  -- what was looked up of it: it is named, and one of the pool's
+  abbrev entry : Enters tables (start .args .shape) the-name (e .before .before .before .enter .result)
   entry = e .before .before .before .enter .ensures
 
   held-here : e .before .before .before .enter .result ≢ 0
   held-here = entry-some (e .before .before .state-of .ensures) (e .before .held .ensures) (not-false _ (e .if1 .left))
 
-  named-here : Is (unnamed tables slip) → ⊥
+  named-here : Is (unnamed tables the-name) → ⊥
   named-here = entry .named held-here
 
   below : slip < start .args .shape .slips
@@ -81,6 +84,10 @@ module _ (e : tie.Else1) where
 
   inside : slip < slipTotal tables
   inside = entry .inside held-here
+
+  -- the link that it holds leads to its chain
+  head-is : e .before .before .before .enter .result - 1 ≡ headOf tables slip
+  head-is = entry .link-is held-here
 
   sound-here : SoundNow tables
   sound-here = tables-now tables (start .pre .sound)
@@ -120,15 +127,15 @@ module _ (f : tie.After-find) where
 
   -- it has the laws of a place found
   place : Found (tables from) (headOf (tables from) (slip from)) (start from .args .n) (f .find .result)
-  place = found-at (tables from) (slip from) (start from .args .n) (entry from .link-is) (f .find .ensures) (start from .pre .sound) (inside from)
+  place = found-at (tables from) (slip from) (start from .args .n) (head-is from) (f .find .ensures) (start from .pre .sound) (inside from)
 
   -- what stays from there is what drop leaves
   plan : rest from ≡ restFrom (tables from) (f .find .result .own) (f .find .result .link) (f .find .result .into)
-  plan = dropped-at (tables from) (slip from) (start from .args .n) (entry from .link-is) (f .find .ensures)
+  plan = dropped-at (tables from) (slip from) (start from .args .n) (head-is from) (f .find .ensures)
 
   -- it lies past the end where the chain is shorter
   past : pastEnd (f .find .result) ≡ ltb (lengthOf (tables from) (slip from)) (start from .args .n)
-  past = past-range (tables from) (slip from) (start from .args .n) (entry from .link-is) (f .find .ensures) (start from .pre .sound) (inside from)
+  past = past-range (tables from) (slip from) (start from .args .n) (head-is from) (f .find .ensures) (start from .pre .sound) (inside from)
 
 same-length-2 : tie.Need-same-length-2
 same-length-2 c = search needs
@@ -139,7 +146,7 @@ returns-2 c =
     let f = y .before in
     let e = from f in
     let z = start e in
-    (λ st. drop-range (z .args .pool .now) st (slip e) (z .args .n) (named-here e) (subst Is (sym (c .if2 .taken) ∙ y .past-end .ensures ∙ past f) tt), tt)
+    (λ st. drop-range (z .args .pool .now) st (the-name e) (z .args .n) (named-here e) (subst Is (sym (c .if2 .taken) ∙ y .past-end .ensures ∙ past f) tt), tt)
 
 -- the chain has the bytes
 in-range : (c : tie.Else2) → let e = from (c .before .before) in Is (ltb (lengthOf (tables e) (slip e)) (start e .args .n)) → ⊥
@@ -157,7 +164,7 @@ returns-3 c =
     let r = t .before in
     let e = from (r .before .before) in
     let z = start e in (
-      λ st. drop-nothing (z .args .pool .now) st (slip e) (z .args .n) (named-here e) (in-range r) (t .if3 .taken) (c .done .ensures)
+      λ st. drop-nothing (z .args .pool .now) st (the-name e) (z .args .n) (named-here e) (in-range r) (t .if3 .taken) (c .done .ensures)
           (λ i. omega (arith, e .before .before .before .before .before .slice-known .given i)) (z .pre .shaped),
       rw (c .done .ensures),
     )
@@ -207,7 +214,7 @@ returns-4 c =
     let r = none-asked t .before in
     let e = mover t in
     let z = start e in (
-      λ st. drop-done (z .args .pool .now) st (slip e) (z .args .n) (named-here e) (in-range (r .before)) (r .if3 .left) (omega (arith, ap length (none-new t))) (c .done2 .ensures)
+      λ st. drop-done (z .args .pool .now) st (the-name e) (z .args .n) (named-here e) (in-range (r .before)) (r .if3 .left) (omega (arith, ap length (none-new t))) (c .done2 .ensures)
           (λ i. omega (arith, k .slice-known2 .given i))
           (λ S. moved-done S (rest e) (slip e) (none-new t)
           (record { shaped = v .move-to .ensures .shaped; is = v .move-to .ensures .is ∙ ap (λ (p : Plan). turnedTo (p .base) (slip e) (holding (p .tail))) (sym (plan (found-there (none-asked t)))) })),
@@ -236,7 +243,7 @@ module _ (r : tie.After-room-in-front) where
   room-is : r .room-in-front .result .enough ≡ leb (length (rest origin .more)) (length (back origin) + length (free origin))
   room-is =
       let T = tables origin in
-      r .room-in-front .ensures .there ∙ (λ i. leb (wants asked i) (length (ownPieces (pieceTotal T) T (entry origin .link-is i)) + length (free origin)))
+      r .room-in-front .ensures .there ∙ (λ i. leb (wants asked i) (length (ownPieces (pieceTotal T) T (head-is origin i)) + length (free origin)))
       ∙ sym (drop-room T (slip origin) (start origin .args .n) (sound-here origin) (length (free origin)))
 
   -- none below the number found is free once the front is given back
@@ -244,7 +251,7 @@ module _ (r : tie.After-room-in-front) where
   none-below d l t =
       let T = tables origin in
       r .room-in-front .ensures .none-below d l
-      (subst (λ n. Is (isFreeWith T (ownPieces (pieceTotal T) T n) d)) (sym (entry origin .link-is)) (back-own T (slip origin) (start origin .args .n) (sound-here origin) d t))
+      (subst (λ n. Is (isFreeWith T (ownPieces (pieceTotal T) T n) d)) (sym (head-is origin)) (back-own T (slip origin) (start origin .args .n) (sound-here origin) d t))
 
 same-length-5 : tie.Need-same-length-5
 same-length-5 c = search needs
@@ -256,7 +263,7 @@ returns-5 c =
     let e = origin k in
     let z = start e in
     let few = leb-false (length (rest e .more)) (length (back e) + length (free e)) (sym (room-is k) ∙ not-true _ (c .if5 .taken)) in
-    (λ st. drop-pieces (z .args .pool .now) st (slip e) (z .args .n) (named-here e) (in-range (w .before .before)) (omega (arith, few)), tt)
+    (λ st. drop-pieces (z .args .pool .now) st (the-name e) (z .args .n) (named-here e) (in-range (w .before .before)) (omega (arith, few)), tt)
 
 -- ---- there is room
 
@@ -365,7 +372,7 @@ returns-6 c =
     let r = asked (roomy g) .before in
     let e = source m in
     let z = start e in (
-      λ st. drop-done (z .args .pool .now) st (slip e) (z .args .n) (named-here e) (in-range (r .before)) (r .if3 .left) (enough g) (c .done3 .ensures)
+      λ st. drop-done (z .args .pool .now) st (the-name e) (z .args .n) (named-here e) (in-range (r .before)) (r .if3 .left) (enough g) (c .done3 .ensures)
           (λ i. omega (arith, k .slice-known5 .given i)) (λ S. freed-done (rest e) (slip e) (planned e) (inside e) S (made m) (u .set-slip .ensures)),
       rw (c .done3 .ensures),
     )

@@ -5,8 +5,11 @@ use native.Mathlib.Omega.{arith}
 use borrow.Author.Needs.{needs}
 use borrow.Author.Tests.{not-true, not-false}
 use Rattle.kinds.proofs.Laws.{entry-none, entry-some}
+use Rattle.rules.specs.Tables.{Tables, aged}
 use Rattle.rules.specs.Bytes.{decode}
+use Rattle.rules.specs.Rule.{name}
 use Rattle.rules.proofs.Audit.{tables-now}
+use Rattle.tables.proofs.Laws.{onward}
 use Rattle.chain.specs.Enter.{Enters}
 use Rattle.release.proofs.Laws.{releasable-none}
 use Rattle.free.proofs.Laws.{free-slip, free-done}
@@ -29,7 +32,7 @@ returns : tie.Need-returns
 returns c =
     let a = c .before .before .before .before .before .before .args in
     let vacant = entry-none (c .before .before .state-of .ensures) (c .before .held .ensures) (not-true _ (c .if1 .taken)) in
-    (λ st. free-slip (a .pool .now) st (a .s .0) (c .before .before .before .enter .ensures .strange vacant), tt)
+    (λ st. free-slip (a .pool .now) st (name (a .s .0) (a .serial .0)) (c .before .before .before .enter .ensures .strange vacant), tt)
 
 module _ (e : tie.Else1) where
   -- where the call started
@@ -37,7 +40,7 @@ module _ (e : tie.Else1) where
   start = e .before .before .before .before .before .before
 
   -- what was looked up of the slip: it is named, and one of the pool's
-  abbrev entry : Enters (decode (start .args .pool .now)) (start .args .shape) (start .args .s .0) (e .before .before .before .enter .result)
+  abbrev entry : Enters (decode (start .args .pool .now)) (start .args .shape) (name (start .args .s .0) (start .args .serial .0)) (e .before .before .before .enter .result)
   entry = e .before .before .before .enter .ensures
 
   held-here : e .before .before .before .enter .result ≢ 0
@@ -52,10 +55,15 @@ turn-requires c κs =
     let z = start e in
     (z .pre .shaped, below e, releasable-none (tables-now _ (z .pre .sound)))
 
-done-requires : tie.Need-done-requires
-done-requires c κs =
+age-requires : tie.Need-age-requires
+age-requires c κs =
     let t = c .before .before .before in
     (t .turn .ensures .shaped, below (t .before .before))
+
+done-requires : tie.Need-done-requires
+done-requires c κs =
+    let g = c .before .before .before in
+    (g .age .ensures .shaped, below (g .before .before .before .before .before .before))
 
 same-length-2 : tie.Need-same-length-2
 same-length-2 c = search needs
@@ -63,13 +71,17 @@ same-length-2 c = search needs
 returns-2 : tie.Need-returns-2
 returns-2 c =
     let k = c .before .before in
-    let t = k .before .before in
+    let g = k .before .before in
+    let t = g .before .before .before .before in
     let e = t .before .before in
     let z = start e in
-    let named = entry e .named (held-here e) in (
-      λ st. free-done (z .args .pool .now) st (z .args .s .0) named (c .done .ensures) (λ i. omega (arith, k .slice-known2 .given i)) (t .turn .ensures),
+    let s = z .args .s .0 in
+    let x = name s (z .args .serial .0) in
+    let named = entry e .named (held-here e) in
+    let is = onward (t .turn .ensures) (λ (T : Tables). aged T s) (g .age .ensures) in (
+      λ st. free-done (z .args .pool .now) st x named (c .done .ensures) (λ i. omega (arith, k .slice-known3 .given i)) is,
       rw (c .done .ensures),
     )
 
 pub free-spec : {M : Type 1} → statement M
-free-spec = tie.close (tie.spec enter-requires state-of-requires held-requires same-length returns turn-requires done-requires same-length-2 returns-2)
+free-spec = tie.close (tie.spec enter-requires state-of-requires held-requires same-length returns turn-requires age-requires done-requires same-length-2 returns-2)

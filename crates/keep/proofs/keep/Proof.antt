@@ -1,18 +1,18 @@
 -- `keep::keep` meets its contract. Assumes nothing.
 use mathlib.Core.Path.{_≡_, sym, ap, subst, _∙_}
-use Prim.Native.Nat.{ℕ, _≤_, _<_}
+use Prim.Native.Nat.{ℕ, _-_, _≤_, _<_}
 use native.Mathlib.Omega.{arith}
 use lib.ListN.{length}
 use lib.Dec.{leb, ltb, ltb→lt}
 use borrow.Author.Needs.{needs}
 use borrow.Author.Tests.{not-true, not-false, leb-true, leb-false}
 use Rattle.rules.specs.Basics.{Is}
-use Rattle.rules.specs.Tables.{Tables, slipTotal, pieceTotal}
+use Rattle.rules.specs.Tables.{Tables, headOf, slipTotal, pieceTotal}
 use Rattle.rules.specs.Bytes.{decode}
 use Rattle.rules.specs.Chain.{lengthOf}
 use Rattle.rules.specs.Room.{isFree, freePieces}
 use Rattle.rules.specs.Keep.{keptNotOwn}
-use Rattle.rules.specs.Rule.{unnamed}
+use Rattle.rules.specs.Rule.{Name, name, unnamed}
 use Rattle.rules.proofs.Logic.{not-less}
 use Rattle.tables.proofs.Laws.{whole}
 use Rattle.chain.specs.Enter.{Enters}
@@ -32,21 +32,24 @@ same-length c = search needs
 returns : tie.Need-returns
 returns c =
     let a = c .before .before .before .before .args in
-    (λ st. keep-slip (a .pool .now) st (a .s .0) (a .n) (c .before .enter .ensures .strange (c .if1 .taken)), tt)
+    (λ st. keep-slip (a .pool .now) st (name (a .s .0) (a .serial .0)) (a .n) (c .before .enter .ensures .strange (c .if1 .taken)), tt)
 
 module _ (e : tie.Else1) where
-  -- where the call started, and the tables there
+  -- where the call started, the tables there, and the slip's name
   abbrev start : tie.Start
   start = e .before .before .before .before
 
   abbrev tables : Tables
   tables = decode (start .args .pool .now)
 
+  abbrev the-name : Name
+  the-name = name (start .args .s .0) (start .args .serial .0)
+
   -- what was looked up of the slip: it is named, and one of the pool's
-  abbrev entry : Enters tables (start .args .shape) (start .args .s .0) (e .before .enter .result)
+  abbrev entry : Enters tables (start .args .shape) the-name (e .before .enter .result)
   entry = e .before .enter .ensures
 
-  named-here : Is (unnamed tables (start .args .s .0)) → ⊥
+  named-here : Is (unnamed tables the-name) → ⊥
   named-here = entry .named (e .if1 .left)
 
   below : start .args .s .0 < start .args .shape .slips
@@ -54,6 +57,10 @@ module _ (e : tie.Else1) where
 
   inside : start .args .s .0 < slipTotal tables
   inside = entry .inside (e .if1 .left)
+
+  -- the link that it holds leads to its chain
+  head-is : e .before .enter .result - 1 ≡ headOf tables (start .args .s .0)
+  head-is = entry .link-is (e .if1 .left)
 
 sub-head : tie.Need-sub-head
 sub-head c = search needs
@@ -78,14 +85,14 @@ module _ (c : tie.After-past-end) where
   short : c .past-end .result ≡ ltb (lengthOf (tables from) (start from .args .s .0)) (start from .args .n)
   short =
       c .past-end .ensures
-      ∙ past-range (tables from) (start from .args .s .0) (start from .args .n) (entry from .link-is) (spot .find .ensures) (start from .pre .sound) (inside from)
+      ∙ past-range (tables from) (start from .args .s .0) (start from .args .n) (head-is from) (spot .find .ensures) (start from .pre .sound) (inside from)
 
 returns-2 : tie.Need-returns-2
 returns-2 c =
     let y = c .before in
     let e = from y in
     let z = start e in
-    (λ st. keep-range (z .args .pool .now) st (z .args .s .0) (z .args .n) (named-here e) (ltb→lt _ _ (subst Is (sym (c .if2 .taken) ∙ short y) tt)), tt)
+    (λ st. keep-range (z .args .pool .now) st (the-name e) (z .args .n) (named-here e) (ltb→lt _ _ (subst Is (sym (c .if2 .taken) ∙ short y) tt)), tt)
 
 -- the chain has the bytes
 has : (c : tie.Else2) → let e = from (c .before) in start e .args .n ≤ lengthOf (tables e) (start e .args .s .0)
@@ -105,9 +112,9 @@ returns-3 c =
     let e = from y in
     let z = start e in
     let k = e .before .before .before in
-    let same = at-end (tables e) (z .args .s .0) (z .args .n) (entry e .link-is) (spot y .find .ensures) (z .pre .sound) (inside e) (t .if3 .taken)
+    let same = at-end (tables e) (z .args .s .0) (z .args .n) (head-is e) (spot y .find .ensures) (z .pre .sound) (inside e) (t .if3 .taken)
     (λ q. subst Is (sym (y .past-end .ensures) ∙ e2 .if2 .left) q) in (
-      λ st. keep-whole (z .args .pool .now) st (z .args .s .0) (z .args .n) (named-here e) (has e2) same (c .done .ensures) (λ i. omega (arith, k .slice-known .given i)) (whole (z .pre .shaped)),
+      λ st. keep-whole (z .args .pool .now) st (the-name e) (z .args .n) (named-here e) (has e2) same (c .done .ensures) (λ i. omega (arith, k .slice-known .given i)) (whole (z .pre .shaped)),
       rw (c .done .ensures),
     )
 
@@ -123,7 +130,7 @@ module _ (c : tie.Else3) where
   part-only e =
       let y = ranged .before in
       let z = start at in
-      omega (arith, e, before-end (tables at) (z .args .s .0) (z .args .n) (entry at .link-is) (spot y .find .ensures) (z .pre .sound) (inside at) (c .if3 .left))
+      omega (arith, e, before-end (tables at) (z .args .s .0) (z .args .n) (head-is at) (spot y .find .ensures) (z .pre .sound) (inside at) (c .if3 .left))
 
 own-part-requires : tie.Need-own-part-requires
 own-part-requires c κs = let e = at (c .before) in (start e .pre, entry e .good)
@@ -140,7 +147,7 @@ module _ (c : tie.After-own-part) where
         opened = z .pre;
         below = inside (at here);
         part = has (ranged here);
-        run = c .own-part .ensures ∙ ap (λ (l : ℕ). ownPart (tables (at here)) l (z .args .n)) (entry (at here) .link-is);
+        run = c .own-part .ensures ∙ ap (λ (l : ℕ). ownPart (tables (at here)) l (z .args .n)) (head-is (at here));
       }
 
 trim-end-requires : tie.Need-trim-end-requires
@@ -177,7 +184,7 @@ returns-4 c =
     let e = at (here f) in
     let z = start e in
     let all = t .if4 .taken in (
-      λ st. keep-done (z .args .pool .now) st (z .args .s .0) (z .args .n) (named-here e) (has (ranged (here f))) (part-only (here f)) (omega (arith, ap length (no-others w all))) (c .done2 .ensures)
+      λ st. keep-done (z .args .pool .now) st (the-name e) (z .args .n) (named-here e) (has (ranged (here f))) (part-only (here f)) (omega (arith, ap length (no-others w all))) (c .done2 .ensures)
           (λ i. omega (arith, b .slice-known3 .given i)) (short-after w all st (d .trim-end .ensures) (g .hang .ensures)),
       rw (c .done2 .ensures),
     )
@@ -237,7 +244,7 @@ returns-5 c =
     let e = at (here f) in
     let z = start e in
     let few = leb-false (g .part-of .result .pieces) (length (freePieces (tables e))) (sym (enough (c .before .before)) ∙ not-true _ (c .if5 .taken)) in
-    (λ st. keep-pieces (z .args .pool .now) st (z .args .s .0) (z .args .n) (named-here e) (has (ranged (here f))) (part-only (here f)) (omega (arith, few, count g)), tt)
+    (λ st. keep-pieces (z .args .pool .now) st (the-name e) (z .args .n) (named-here e) (has (ranged (here f))) (part-only (here f)) (omega (arith, few, count g)), tt)
 
 -- there is room for them
 room : (c : tie.Else5) → counted (c .before .before) .part-of .result .pieces ≤ length (freePieces (there (c .before .before)))
@@ -284,7 +291,7 @@ returns-6 c =
     let e = at (here f) in
     let z = start e in
     let k = d .copy-pieces .ensures in (
-      λ st. keep-done (z .args .pool .now) st (z .args .s .0) (z .args .n) (named-here e) (has (ranged (here f))) (part-only (here f)) (omega (arith, count (counted (e5 .before .before)), room e5)) (c .done3 .ensures)
+      λ st. keep-done (z .args .pool .now) st (the-name e) (z .args .n) (named-here e) (has (ranged (here f))) (part-only (here f)) (omega (arith, count (counted (e5 .before .before)), room e5)) (c .done3 .ensures)
           (λ i. omega (arith, b .slice-known5 .given i)) (new-after w (k .0) (k .1) (fewer e4) st (g .hang2 .ensures)),
       rw (c .done3 .ensures),
     )

@@ -11,7 +11,7 @@ use Rattle.rules.specs.Basics.{Is}
 use Rattle.rules.specs.Tables.{Tables}
 use Rattle.rules.specs.Bytes.{decode}
 use Rattle.rules.specs.Chain.{spans}
-use Rattle.rules.specs.Rule.{unnamed}
+use Rattle.rules.specs.Rule.{Name, name, unnamed}
 use Rattle.chain.specs.Enter.{Enters}
 use Rattle.chain.specs.Length.{stretchesFrom}
 use Rattle.list.proofs.Laws.{begun-slip, begun-narrow, begun-done}
@@ -35,7 +35,7 @@ returns c =
     let t = c .before in
     let a = t .before .before .before .before .before .args in
     let vacant = entry-none (t .before .before .state-of .ensures) (t .before .held .ensures) (not-true _ (t .if1 .taken)) in
-    begun-slip (decode (a .pool .now)) (a .s .0) (a .room) (c .none .ensures) (t .before .before .before .enter .ensures .strange vacant)
+    begun-slip (decode (a .pool .now)) (name (a .s .0) (a .serial .0)) (a .room) (c .none .ensures) (t .before .before .before .enter .ensures .strange vacant)
 
 module _ (e : tie.Else1) where
   -- where the call started, and the tables there
@@ -45,14 +45,18 @@ module _ (e : tie.Else1) where
   abbrev tables : Tables
   tables = decode (start .args .pool .now)
 
+  -- what the caller names
+  abbrev named : Name
+  named = name (start .args .s .0) (start .args .serial .0)
+
   -- what was looked up of the slip: it is named
-  abbrev entry : Enters tables (start .args .shape) (start .args .s .0) (e .before .before .before .enter .result)
+  abbrev entry : Enters tables (start .args .shape) named (e .before .before .before .enter .result)
   entry = e .before .before .before .enter .ensures
 
   held-here : e .before .before .before .enter .result ≢ 0
   held-here = entry-some (e .before .before .state-of .ensures) (e .before .held .ensures) (not-false _ (e .if1 .left))
 
-  named-here : Is (unnamed tables (start .args .s .0)) → ⊥
+  named-here : Is (unnamed tables named) → ⊥
   named-here = entry .named held-here
 
 sub-link : tie.Need-sub-link
@@ -63,7 +67,7 @@ pieces-from-requires c κs = (start c .pre, entry c .good)
 
 -- the pieces counted are the chain's
 counted : (c : tie.After-pieces-from) → c .pieces-from .result ≡ length (spans (tables (c .before)) (start (c .before) .args .s .0))
-counted c = c .pieces-from .ensures ∙ ap (λ (n : ℕ). length (stretchesFrom (tables (c .before)) n)) (entry (c .before) .link-is)
+counted c = c .pieces-from .ensures ∙ ap (λ (n : ℕ). length (stretchesFrom (tables (c .before)) n)) (entry (c .before) .link-is (held-here (c .before)))
 
 cast-if2 : tie.Need-cast-if2
 cast-if2 c = search needs
@@ -76,7 +80,7 @@ returns-2 c =
     let t = c .before in
     let k = t .before in
     let e = k .before in
-    begun-narrow (tables e) (start e .args .s .0) (start e .args .room) (named-here e) (c .none2 .ensures) (omega (arith, t .if2 .taken, counted k))
+    begun-narrow (tables e) (named e) (start e .args .room) (named-here e) (c .none2 .ensures) (omega (arith, t .if2 .taken, counted k))
 
 cast-done : tie.Need-cast-done
 cast-done c = search needs
@@ -88,7 +92,7 @@ returns-3 : tie.Need-returns-3
 returns-3 c =
     let k = c .before .before in
     let e = k .before in
-    begun-done (tables e) (start e .args .s .0) (start e .args .room) (named-here e) (c .done .ensures) (entry e .link-is) (counted k) (omega (arith, c .before .if2 .left, counted k))
+    begun-done (tables e) (named e) (start e .args .room) (named-here e) (c .done .ensures) (entry e .link-is (held-here e)) (counted k) (omega (arith, c .before .if2 .left, counted k))
 
 pub begin-spec : {M : Type 1} → statement M
 begin-spec =

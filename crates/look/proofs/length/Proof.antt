@@ -4,6 +4,7 @@ use native.Mathlib.Omega.{arith}
 use borrow.Author.Needs.{needs}
 use Rattle.kinds.proofs.Laws.{entry-none, entry-some}
 use Rattle.rules.specs.Bytes.{decode}
+use Rattle.rules.specs.Rule.{Name, name}
 use Rattle.tables.proofs.Laws.{fits-decode}
 use Rattle.chain.specs.Enter.{Enters}
 use Rattle.look.proofs.Perform.{length-slip, length-done}
@@ -24,7 +25,11 @@ module _ (e : tie.Then1) where
   abbrev start : tie.Start
   start = e .before .before .before .before .before
 
-  abbrev entry : Enters (decode (start .args .pool .now)) (start .args .shape) (start .args .s .0) (e .before .before .before .enter .result)
+  -- what the caller names
+  abbrev named : Name
+  named = name (start .args .s .0) (start .args .serial .0)
+
+  abbrev entry : Enters (decode (start .args .pool .now)) (start .args .shape) named (e .before .before .before .enter .result)
   entry = e .before .before .before .enter .ensures
 
   held-here : e .before .before .before .enter .result ≢ 0
@@ -43,13 +48,13 @@ returns c =
     let z = k .before in
     let p = z .args .pool .now in
     let whole = fits-decode p (λ i. omega (arith, k .shared-slice-known .given i)) (z .pre .shaped .fits) in
-    (λ st. length-done p st (z .args .s .0) (c .done .ensures) (entry e .named (held-here e)) (c .before .chain-length .ensures) whole, rw (c .done .ensures))
+    (λ st. length-done p st (named e) (c .done .ensures) (entry e .named (held-here e)) (c .before .chain-length .ensures) whole, rw (c .done .ensures))
 
 returns-2 : tie.Need-returns-2
 returns-2 c =
     let a = c .before .before .before .before .before .args in
     let vacant = entry-none (c .before .before .state-of .ensures) (c .before .held .ensures) (c .if1 .left) in
-    (λ st. length-slip (a .pool .now) st (a .s .0) (c .before .before .before .enter .ensures .strange vacant), tt)
+    (λ st. length-slip (a .pool .now) st (name (a .s .0) (a .serial .0)) (c .before .before .before .enter .ensures .strange vacant), tt)
 
 pub length-spec : {M : Type 1} → statement M
 length-spec =

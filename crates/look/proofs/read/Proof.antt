@@ -13,7 +13,7 @@ use Rattle.rules.specs.Tables.{Tables, headOf, slipTotal}
 use Rattle.rules.specs.Bytes.{decode}
 use Rattle.rules.specs.Chain.{lengthOf}
 use Rattle.rules.specs.Sound.{linkOk}
-use Rattle.rules.specs.Rule.{unnamed}
+use Rattle.rules.specs.Rule.{Name, name, unnamed}
 use Rattle.rules.specs.Read.{copied}
 use Rattle.tables.proofs.Laws.{whole, fits-decode, storage-fits}
 use Rattle.chain.specs.Enter.{Enters}
@@ -36,7 +36,7 @@ returns : tie.Need-returns
 returns c =
     let a = c .before .before .before .before .before .before .before .args in
     let vacant = entry-none (c .before .before .state-of .ensures) (c .before .held .ensures) (not-true _ (c .if1 .taken)) in
-    (read-slip (a .pool .now) (a .storage .now) (a .output .now) (a .s .0) (a .off) (a .n) (c .before .before .before .enter .ensures .strange vacant), tt)
+    (read-slip (a .pool .now) (a .storage .now) (a .output .now) (name (a .s .0) (a .serial .0)) (a .off) (a .n) (c .before .before .before .enter .ensures .strange vacant), tt)
 
 module _ (e : tie.Else1) where
   -- where the call started, and the tables there
@@ -46,14 +46,18 @@ module _ (e : tie.Else1) where
   abbrev tables : Tables
   tables = decode (start .args .pool .now)
 
+  -- what the caller names
+  abbrev named : Name
+  named = name (start .args .s .0) (start .args .serial .0)
+
   -- what was looked up of the slip: it is named, and one of the pool's
-  abbrev entry : Enters tables (start .args .shape) (start .args .s .0) (e .before .before .before .enter .result)
+  abbrev entry : Enters tables (start .args .shape) named (e .before .before .before .enter .result)
   entry = e .before .before .before .enter .ensures
 
   held-here : e .before .before .before .enter .result ≢ 0
   held-here = entry-some (e .before .before .state-of .ensures) (e .before .held .ensures) (not-false _ (e .if1 .left))
 
-  named-here : Is (unnamed tables (start .args .s .0)) → ⊥
+  named-here : Is (unnamed tables named) → ⊥
   named-here = entry .named held-here
 
   below : start .args .s .0 < slipTotal tables
@@ -73,7 +77,7 @@ place : (f : tie.After-find) → let z = start (from f) in Found (tables (from f
 place f =
     let e = from f in
     let z = start e in
-    found-at (tables e) (z .args .s .0) (z .args .off) (entry e .link-is) (f .find .ensures) (z .pre .0 .sound) (below e)
+    found-at (tables e) (z .args .s .0) (z .args .off) (entry e .link-is (held-here e)) (f .find .ensures) (z .pre .0 .sound) (below e)
 
 cast-part-of : tie.Need-cast-part-of
 cast-part-of c = search needs
@@ -91,7 +95,7 @@ returns-2 c =
     let a = start (from f) .args in
     let T = tables (from f) in
     let short = range-short T (headOf T (a .s .0)) (a .off) (a .n) (place f) (k .part-of .ensures) (not-true _ (c .if2 .taken)) in
-    (read-range (a .pool .now) (a .storage .now) (a .output .now) (a .s .0) (a .off) (a .n) (named-here (from f)) short, tt)
+    (read-range (a .pool .now) (a .storage .now) (a .output .now) (named (from f)) (a .off) (a .n) (named-here (from f)) short, tt)
 
 -- the chain has the bytes
 abbrev counted : tie.Else2 → tie.After-part-of
@@ -108,7 +112,7 @@ returns-3 : tie.Need-returns-3
 returns-3 c =
     let e = from (counted (c .before) .before) in
     let a = start e .args in
-    (read-narrow (a .pool .now) (a .storage .now) (a .output .now) (a .s .0) (a .off) (a .n) (named-here e) (in-range (c .before)) (omega arith), tt)
+    (read-narrow (a .pool .now) (a .storage .now) (a .output .now) (named e) (a .off) (a .n) (named-here e) (in-range (c .before)) (omega arith), tt)
 
 copy-out-requires : tie.Need-copy-out-requires
 copy-out-requires c κs =
@@ -142,10 +146,10 @@ returns-4 c =
     let st = a .storage .now in
     let T = tables e in
     let fit = storage-fits (whole (z .pre .0 .shaped)) (z .pre .1) in
-    let good = subst (λ (n : ℕ). Is (linkOk T n)) (entry e .link-is) (entry e .good) in
+    let good = subst (λ (n : ℕ). Is (linkOk T n)) (entry e .link-is (held-here e)) (entry e .good) in
     let bytes = found-bytes T (z .pre .0 .sound) (headOf T (a .s .0)) (a .off) (f .find .result) good (place f) st fit in
     let same = fits-decode p (λ i. omega (arith, y .shared-slice-known .given i)) (z .pre .0 .shaped .fits) in (
-      read-done p st (a .output .now) (a .s .0) (a .off) (a .n) (named-here e) (in-range (r .before)) (c .done .ensures) (omega (arith, r .if3 .left)) same
+      read-done p st (a .output .now) (named e) (a .off) (a .n) (named-here e) (in-range (r .before)) (c .done .ensures) (omega (arith, r .if3 .left)) same
           (g .copy-out .ensures .0 ∙ ap (λ (l : List ℕ). copied (take (a .n) l) (a .output .now)) bytes),
       rw (c .done .ensures),
     )

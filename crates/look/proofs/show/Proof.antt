@@ -12,7 +12,7 @@ use Rattle.rules.specs.Basics.{Is}
 use Rattle.rules.specs.Tables.{Tables, bufferTotal}
 use Rattle.rules.specs.Bytes.{decode, encode}
 use Rattle.rules.specs.Chain.{spans, total, firstLength, lengthOf, contents}
-use Rattle.rules.specs.Rule.{unnamed}
+use Rattle.rules.specs.Rule.{Name, name, unnamed}
 use Rattle.rules.specs.Read.{copied}
 use Rattle.rules.specs.Show.{viewOf}
 use Rattle.rules.proofs.Chain.{spans-good}
@@ -43,7 +43,7 @@ returns c =
     let t = c .before in
     let a = t .before .before .before .before .before .before .before .args in
     let vacant = entry-none (t .before .before .state-of .ensures) (t .before .held .ensures) (not-true _ (t .if1 .taken)) in
-    show-slip (a .pool .now) (a .storage .now) (a .scratch .now) (a .s .0) (a .n) (c .unseen .ensures) (t .before .before .before .enter .ensures .strange vacant)
+    show-slip (a .pool .now) (a .storage .now) (a .scratch .now) (name (a .s .0) (a .serial .0)) (a .n) (c .unseen .ensures) (t .before .before .before .enter .ensures .strange vacant)
 
 fits-requires : tie.Need-fits-requires
 fits-requires c κs = search needs
@@ -59,17 +59,21 @@ module _ (e : tie.Else1) where
   abbrev tables : Tables
   tables = decode (start .args .pool .now)
 
+  -- what the caller names
+  abbrev named : Name
+  named = name (start .args .s .0) (start .args .serial .0)
+
   -- what was looked up of the slip: it is named, and one of the pool's
   abbrev head : ℕ
   head = e .before .before .before .enter .result - 1
 
-  abbrev entry : Enters tables (start .args .shape) (start .args .s .0) (e .before .before .before .enter .result)
+  abbrev entry : Enters tables (start .args .shape) named (e .before .before .before .enter .result)
   entry = e .before .before .before .enter .ensures
 
   held-here : e .before .before .before .enter .result ≢ 0
   held-here = entry-some (e .before .before .state-of .ensures) (e .before .held .ensures) (not-false _ (e .if1 .left))
 
-  named-here : Is (unnamed tables (start .args .s .0)) → ⊥
+  named-here : Is (unnamed tables named) → ⊥
   named-here = entry .named held-here
 
   below : start .args .s .0 < start .args .shape .slips
@@ -80,7 +84,7 @@ returns-2 c =
     let t = c .before in
     let e = t .before .before in
     let a = start e .args in
-    show-long (a .pool .now) (a .storage .now) (a .scratch .now) (a .s .0) (a .n) (named-here e) (c .unseen2 .ensures) (leb-false (a .n) bufferSize (sym (t .before .fits2 .ensures) ∙ not-true _ (t .if2 .taken)))
+    show-long (a .pool .now) (a .storage .now) (a .scratch .now) (named e) (a .n) (named-here e) (c .unseen2 .ensures) (leb-false (a .n) bufferSize (sym (t .before .fits2 .ensures) ∙ not-true _ (t .if2 .taken)))
 
 -- the bytes fit one buffer
 abbrev entered : tie.Else2 → tie.Else1
@@ -127,11 +131,11 @@ returns-3 c =
     let z = start e in
     let a = z .args in
     let T = tables e in
-    let has : a .n ≤ firstLength (spans T (a .s .0)) = omega (arith, first-has t, ap (λ (l : ℕ). firstLength (stretchesFrom T l)) (entry e .link-is)) in
-    show-storage (a .pool .now) (a .storage .now) (a .scratch .now) (a .s .0) (a .n) (named-here e) (short h) (omega (arith, has, first-most (spans T (a .s .0))))
+    let has : a .n ≤ firstLength (spans T (a .s .0)) = omega (arith, first-has t, ap (λ (l : ℕ). firstLength (stretchesFrom T l)) (entry e .link-is (held-here e))) in
+    show-storage (a .pool .now) (a .storage .now) (a .scratch .now) (named e) (a .n) (named-here e) (short h) (omega (arith, has, first-most (spans T (a .s .0))))
     (c .before .done .ensures) (whole-pool e)
     (bufferTotal T) _ (storage-fits (whole (z .pre .0 .shaped)) (z .pre .1)) (spans-good T (a .s .0) (tables-now T (z .pre .0 .sound))) has
-    (c .start-of .ensures ∙ ap (λ (l : ℕ). viewOf (T .stock) (stretchesFrom T l) (a .n)) (entry e .link-is))
+    (c .start-of .ensures ∙ ap (λ (l : ℕ). viewOf (T .stock) (stretchesFrom T l) (a .n)) (entry e .link-is (held-here e)))
 
 -- the first piece has not the bytes
 abbrev lacked : tie.Else3 → tie.Else2
@@ -144,7 +148,7 @@ first-lacks t =
     omega (
       arith,
       leb-false (start e .args .n) (firstLength (stretchesFrom T (head e))) (sym (t .before .in-first .ensures) ∙ t .if3 .left),
-      ap (λ (l : ℕ). firstLength (stretchesFrom T l)) (entry e .link-is),
+      ap (λ (l : ℕ). firstLength (stretchesFrom T l)) (entry e .link-is (held-here e)),
     )
 
 part-of-requires : tie.Need-part-of-requires
@@ -161,8 +165,8 @@ returns-4 c =
     let e = entered h in
     let a = start e .args in
     let T = tables e in
-    show-range (a .pool .now) (a .storage .now) (a .scratch .now) (a .s .0) (a .n) (named-here e) (short h) (c .unseen3 .ensures)
-    (omega (arith, first-short T (head e) (a .n) (k .part-of .ensures) (not-true _ (t .if4 .taken)), ap (λ (l : ℕ). total (stretchesFrom T l)) (entry e .link-is)))
+    show-range (a .pool .now) (a .storage .now) (a .scratch .now) (named e) (a .n) (named-here e) (short h) (c .unseen3 .ensures)
+    (omega (arith, first-short T (head e) (a .n) (k .part-of .ensures) (not-true _ (t .if4 .taken)), ap (λ (l : ℕ). total (stretchesFrom T l)) (entry e .link-is (held-here e))))
 
 -- the chain has the bytes
 abbrev counted : tie.Else4 → tie.After-part-of
@@ -179,7 +183,7 @@ from-head c =
 enough : (c : tie.Else4) → let e = entered (headed c) in start e .args .n ≤ lengthOf (tables e) (start e .args .s .0)
 enough c =
     let e = entered (headed c) in
-    omega (arith, from-head c, ap (λ (l : ℕ). total (stretchesFrom (tables e) l)) (entry e .link-is))
+    omega (arith, from-head c, ap (λ (l : ℕ). total (stretchesFrom (tables e) l)) (entry e .link-is (held-here e)))
 
 unseen-requires-4 : tie.Need-unseen-requires-4
 unseen-requires-4 c κs = search needs
@@ -190,7 +194,7 @@ returns-5 c =
     let h = headed r in
     let e = entered h in
     let a = start e .args in
-    show-narrow (a .pool .now) (a .storage .now) (a .scratch .now) (a .s .0) (a .n) (named-here e) (short h) (enough r) (c .unseen4 .ensures) (first-lacks (counted r .before)) (omega (arith, c .before .if5 .taken))
+    show-narrow (a .pool .now) (a .storage .now) (a .scratch .now) (named e) (a .n) (named-here e) (short h) (enough r) (c .unseen4 .ensures) (first-lacks (counted r .before)) (omega (arith, c .before .if5 .taken))
 
 copy-out-requires : tie.Need-copy-out-requires
 copy-out-requires c κs =
@@ -214,9 +218,9 @@ returns-6 c =
     let e = entered h in
     let a = start e .args in
     let T = tables e in
-    show-scratch (a .pool .now) (a .storage .now) (a .scratch .now) (a .s .0) (a .n) (named-here e) (short h) (enough r) (c .done2 .ensures) (whole-pool e)
+    show-scratch (a .pool .now) (a .storage .now) (a .scratch .now) (named e) (a .n) (named-here e) (short h) (enough r) (c .done2 .ensures) (whole-pool e)
     _ (first-lacks (counted r .before)) (omega (arith, q .if5 .left)) (g .copy-out .kept .1 .1 .1 .1 .1 .0)
-    (g .copy-out .ensures .0 ∙ ap (λ (l : ℕ). copied (take (a .n) (contents (T .stock) (a .storage .now) (stretchesFrom T l))) (a .scratch .now)) (entry e .link-is))
+    (g .copy-out .ensures .0 ∙ ap (λ (l : ℕ). copied (take (a .n) (contents (T .stock) (a .storage .now) (stretchesFrom T l))) (a .scratch .now)) (entry e .link-is (held-here e)))
 
 pub show-spec : {M : Type 1} → statement M
 show-spec =

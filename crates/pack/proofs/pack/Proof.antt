@@ -10,12 +10,12 @@ use borrow.Author.Tests.{not-true, not-false, leb-true, leb-false}
 use Rattle.kinds.specs.Limits.{mostBuffers}
 use Rattle.kinds.proofs.Laws.{entry-none, entry-some}
 use Rattle.rules.specs.Basics.{Is}
-use Rattle.rules.specs.Tables.{Tables, pieceTotal, bufferTotal}
+use Rattle.rules.specs.Tables.{Tables, headOf, pieceTotal, bufferTotal}
 use Rattle.rules.specs.Bytes.{decode}
 use Rattle.rules.specs.Chain.{walk, chain, lengthOf, total}
 use Rattle.rules.specs.Room.{isUnheld, freePieces, freeBuffers}
 use Rattle.rules.specs.Build.{buffersFor}
-use Rattle.rules.specs.Rule.{unnamed}
+use Rattle.rules.specs.Rule.{Name, name, unnamed}
 use Rattle.tables.proofs.Laws.{whole, total-buffers}
 use Rattle.chain.specs.Enter.{Enters}
 use Rattle.chain.specs.Length.{stretchesFrom}
@@ -41,35 +41,42 @@ returns : tie.Need-returns
 returns c =
     let a = c .before .before .before .before .before .before .before .args in
     let vacant = entry-none (c .before .before .state-of .ensures) (c .before .held .ensures) (not-true _ (c .if1 .taken)) in
-    (pack-slip (a .pool .now) (a .storage .now) (a .s .0) (c .before .before .before .enter .ensures .strange vacant), tt)
+    (pack-slip (a .pool .now) (a .storage .now) (name (a .s .0) (a .serial .0)) (c .before .before .before .enter .ensures .strange vacant), tt)
 
 module _ (e : tie.Else1) where
-  -- where the call started, and the tables there
+  -- where the call started, the tables there, and the slip's name
   abbrev start : tie.Start
   start = e .before .before .before .before .before .before .before
 
   abbrev tables : Tables
   tables = decode (start .args .pool .now)
 
+  abbrev the-name : Name
+  the-name = name (start .args .s .0) (start .args .serial .0)
+
   -- what was looked up of the slip: it is named, and one of the pool's
   abbrev head : ℕ
   head = e .before .before .before .enter .result - 1
 
-  abbrev entry : Enters tables (start .args .shape) (start .args .s .0) (e .before .before .before .enter .result)
+  abbrev entry : Enters tables (start .args .shape) the-name (e .before .before .before .enter .result)
   entry = e .before .before .before .enter .ensures
 
   held-here : e .before .before .before .enter .result ≢ 0
   held-here = entry-some (e .before .before .state-of .ensures) (e .before .held .ensures) (not-false _ (e .if1 .left))
 
-  named-here : Is (unnamed tables (start .args .s .0)) → ⊥
+  named-here : Is (unnamed tables the-name) → ⊥
   named-here = entry .named held-here
 
   below : start .args .s .0 < start .args .shape .slips
   below = entry .below held-here
 
+  -- the link that it holds leads to its chain
+  head-is : head ≡ headOf tables (start .args .s .0)
+  head-is = entry .link-is held-here
+
   -- the chain from the head is the slip's
   same-chain : length (walk (pieceTotal tables) tables head) ≡ length (chain tables (start .args .s .0))
-  same-chain = ap (λ (x : ℕ). length (walk (pieceTotal tables) tables x)) (entry .link-is)
+  same-chain = ap (λ (x : ℕ). length (walk (pieceTotal tables) tables x)) head-is
 
 sub-head : tie.Need-sub-head
 sub-head c = let i = held-here c in omega arith
@@ -96,7 +103,7 @@ returns-2 c =
     let k = e .before .before .before .before .before .before in
     let T = tables e in
     let few = leb-true (length (walk (pieceTotal T) T (head e))) 1 (not-false _ (sym (a .scattered .ensures) ∙ not-true _ (t .if2 .taken))) in (
-      pack-whole (z .args .pool .now) (z .args .storage .now) (z .args .s .0) (named-here e) (omega (arith, few, same-chain e)) (c .done .ensures) (λ i. omega (arith, k .slice-known .given i)) (whole (z .pre .0 .shaped)),
+      pack-whole (z .args .pool .now) (z .args .storage .now) (the-name e) (named-here e) (omega (arith, few, same-chain e)) (c .done .ensures) (λ i. omega (arith, k .slice-known .given i)) (whole (z .pre .0 .shaped)),
       rw (c .done .ensures),
     )
 
@@ -128,7 +135,7 @@ module _ (b : tie.After-buffers-for) where
   here = from (more .before)
 
   whole-length : lengths .bytes-from .result ≡ lengthOf (tables here) (start here .args .s .0)
-  whole-length = lengths .bytes-from .ensures ∙ ap (λ (x : ℕ). total (stretchesFrom (tables here) x)) (entry here .link-is)
+  whole-length = lengths .bytes-from .ensures ∙ ap (λ (x : ℕ). total (stretchesFrom (tables here) x)) (head-is here)
 
   counted : b .buffers-for .result ≡ buffersFor (lengthOf (tables here) (start here .args .s .0))
   counted = b .buffers-for .ensures ∙ ap buffersFor whole-length
@@ -154,7 +161,7 @@ returns-3 c =
     let e = here b in
     let a = start e .args in
     let few = leb-false (b .buffers-for .result) (length (freePieces (tables e))) (sym (enough-pieces p) ∙ not-true _ (c .if3 .taken)) in
-    (pack-pieces (a .pool .now) (a .storage .now) (a .s .0) (named-here e) (many (more b)) (omega (arith, few, counted b)), tt)
+    (pack-pieces (a .pool .now) (a .storage .now) (the-name e) (named-here e) (many (more b)) (omega (arith, few, counted b)), tt)
 
 -- the same where they were found
 abbrev pieced : tie.Else3 → tie.After-buffers-for
@@ -184,7 +191,7 @@ returns-4 c =
     let e = here b in
     let a = start e .args in
     let few = leb-false (b .buffers-for .result) (length (freeBuffers (tables e))) (sym (enough-buffers q) ∙ not-true _ (c .if4 .taken)) in
-    (pack-buffers (a .pool .now) (a .storage .now) (a .s .0) (named-here e) (many (more b)) (omega (arith, pieces-room e3, counted b)) (omega (arith, few, counted b)), tt)
+    (pack-buffers (a .pool .now) (a .storage .now) (the-name e) (named-here e) (many (more b)) (omega (arith, pieces-room e3, counted b)) (omega (arith, few, counted b)), tt)
 
 -- and as many free buffers
 module _ (c : tie.Else4) where
@@ -277,9 +284,9 @@ returns-5 c =
     let z = start e in
     let a = z .args in
     let f = found e4 in (
-      pack-done (a .pool .now) (a .storage .now) (a .s .0) (named-here e) (many (more b)) (omega (arith, pieces-room e3, counted b)) (omega (arith, buffers-room e4, counted b)) (c .done2 .ensures)
+      pack-done (a .pool .now) (a .storage .now) (the-name e) (named-here e) (many (more b)) (omega (arith, pieces-room e3, counted b)) (omega (arith, buffers-room e4, counted b)) (c .done2 .ensures)
           (λ i. omega (arith, k .slice-known5 .given i)) (new-after f (y .lay .ensures .0) (y .lay .ensures .1) _ (t .turn .ensures))
-          (new-bytes f (a .storage .now) (z .pre .1) (entry e .good) (entry e .link-is) (w .refill .ensures)),
+          (new-bytes f (a .storage .now) (z .pre .1) (entry e .good) (head-is e) (w .refill .ensures)),
       rw (c .done2 .ensures),
     )
 

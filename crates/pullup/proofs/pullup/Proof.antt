@@ -11,12 +11,12 @@ use borrow.Author.Tests.{not-true, not-false, leb-true, leb-false}
 use Rattle.kinds.specs.Limits.{bufferSize}
 use Rattle.kinds.proofs.Laws.{entry-none, entry-some}
 use Rattle.rules.specs.Basics.{Is}
-use Rattle.rules.specs.Tables.{Tables, slipTotal, pieceTotal, bufferTotal}
+use Rattle.rules.specs.Tables.{Tables, headOf, slipTotal, pieceTotal, bufferTotal}
 use Rattle.rules.specs.Bytes.{decode}
 use Rattle.rules.specs.Chain.{spans, firstLength, lengthOf, ownPieces, ownOf}
 use Rattle.rules.specs.Room.{isFreeWith, isUnheld, freePieces, freeBuffers}
 use Rattle.rules.specs.Build.{Plan}
-use Rattle.rules.specs.Rule.{unnamed}
+use Rattle.rules.specs.Rule.{Name, name, unnamed}
 use Rattle.rules.specs.Drop.{dropped, dropBack}
 use Rattle.rules.proofs.Logic.{not-less}
 use Rattle.rules.proofs.Moves.{SoundNow}
@@ -51,12 +51,12 @@ returns : tie.Need-returns
 returns c =
     let a = c .before .before .before .before .before .before .before .args in
     let vacant = entry-none (c .before .before .state-of .ensures) (c .before .held .ensures) (not-true _ (c .if1 .taken)) in
-    (pullup-slip (a .pool .now) (a .storage .now) (a .s .0) (a .n) (c .before .before .before .enter .ensures .strange vacant), tt)
+    (pullup-slip (a .pool .now) (a .storage .now) (name (a .s .0) (a .serial .0)) (a .n) (c .before .before .before .enter .ensures .strange vacant), tt)
 
 -- ---- the slip is named
 
 module _ (e : tie.Else1) where
-  -- where the call started, the tables there, and the slip
+  -- where the call started, the tables there, the slip, and its name
   abbrev start : tie.Start
   start = e .before .before .before .before .before .before .before
 
@@ -66,14 +66,17 @@ module _ (e : tie.Else1) where
   abbrev slip : ℕ
   slip = start .args .s .0
 
-  -- what was looked up of it: it is not vacant, and one of the pool's
-  abbrev entry : Enters tables (start .args .shape) slip (e .before .before .before .enter .result)
+  abbrev the-name : Name
+  the-name = name slip (start .args .serial .0)
+
+  -- what was looked up of it: it is named, and one of the pool's
+  abbrev entry : Enters tables (start .args .shape) the-name (e .before .before .before .enter .result)
   entry = e .before .before .before .enter .ensures
 
   held-here : e .before .before .before .enter .result ≢ 0
   held-here = entry-some (e .before .before .state-of .ensures) (e .before .held .ensures) (not-false _ (e .if1 .left))
 
-  named-here : Is (unnamed tables slip) → ⊥
+  named-here : Is (unnamed tables the-name) → ⊥
   named-here = entry .named held-here
 
   below : slip < start .args .shape .slips
@@ -81,6 +84,10 @@ module _ (e : tie.Else1) where
 
   inside : slip < slipTotal tables
   inside = entry .inside held-here
+
+  -- the link that it holds leads to its chain
+  head-is : e .before .before .before .enter .result - 1 ≡ headOf tables slip
+  head-is = entry .link-is held-here
 
 fits-requires : tie.Need-fits-requires
 fits-requires c κs = search needs
@@ -94,7 +101,7 @@ returns-2 c =
     let e = y .before in
     let a = start e .args in
     let long = leb-false (a .n) bufferSize (sym (y .fits2 .ensures) ∙ not-true _ (c .if2 .taken)) in
-    (pullup-long (a .pool .now) (a .storage .now) (slip e) (a .n) (named-here e) (omega (arith, long)), tt)
+    (pullup-long (a .pool .now) (a .storage .now) (the-name e) (a .n) (named-here e) (omega (arith, long)), tt)
 
 -- ---- the bytes fit a buffer
 
@@ -121,7 +128,7 @@ module _ (f : tie.After-find) where
 
   -- it lies past the end where the chain is shorter
   past : pastEnd (f .find .result) ≡ ltb (lengthOf (tables from) (slip from)) (start from .args .n)
-  past = past-range (tables from) (slip from) (start from .args .n) (entry from .link-is) (f .find .ensures) (start from .pre .0 .sound) (inside from)
+  past = past-range (tables from) (slip from) (start from .args .n) (head-is from) (f .find .ensures) (start from .pre .0 .sound) (inside from)
 
 same-length-3 : tie.Need-same-length-3
 same-length-3 c = search needs
@@ -132,7 +139,7 @@ returns-3 c =
     let f = y .before in
     let e = from f in
     let a = start e .args in
-    (pullup-range (a .pool .now) (a .storage .now) (slip e) (a .n) (named-here e) (fits-here (fitting f)) (subst Is (sym (c .if3 .taken) ∙ y .past-end .ensures ∙ past f) tt), tt)
+    (pullup-range (a .pool .now) (a .storage .now) (the-name e) (a .n) (named-here e) (fits-here (fitting f)) (subst Is (sym (c .if3 .taken) ∙ y .past-end .ensures ∙ past f) tt), tt)
 
 -- the chain has the bytes
 in-range : (c : tie.Else3) → let e = from (c .before .before) in Is (ltb (lengthOf (tables e) (slip e)) (start e .args .n)) → ⊥
@@ -155,7 +162,7 @@ module _ (k : tie.After-in-first) where
 
   -- the test of the code is that of the rule
   first-has : k .in-first .result ≡ leb (start origin .args .n) (firstLength (spans (tables origin) (slip origin)))
-  first-has = k .in-first .ensures ∙ ap (λ (l : ℕ). leb (start origin .args .n) (firstLength (stretchesFrom (tables origin) l))) (entry origin .link-is)
+  first-has = k .in-first .ensures ∙ ap (λ (l : ℕ). leb (start origin .args .n) (firstLength (stretchesFrom (tables origin) l))) (head-is origin)
 
 done-requires : tie.Need-done-requires
 done-requires c κs = let e = origin (c .before .before) in (start e .pre .0 .shaped, below e)
@@ -170,7 +177,7 @@ returns-4 c =
     let e = origin k in
     let z = start e in
     let a = z .args in (
-      pullup-nothing (a .pool .now) (a .storage .now) (slip e) (a .n) (named-here e) (fits-here (fitting (there k))) (in-range (ranged k)) (subst Is (sym (t .if4 .taken) ∙ first-has k) tt)
+      pullup-nothing (a .pool .now) (a .storage .now) (the-name e) (a .n) (named-here e) (fits-here (fitting (there k))) (in-range (ranged k)) (subst Is (sym (t .if4 .taken) ∙ first-has k) tt)
           (c .done .ensures) (λ i. omega (arith, e .before .before .before .before .before .before .slice-known .given i)) (z .pre .0 .shaped),
       rw (c .done .ensures),
     )
@@ -206,7 +213,7 @@ module _ (w : tie.After-wanted) where
 
   wants : w .wanted .result ≡ more
   wants =
-      w .wanted .ensures (tables first) ∙ ap (λ (p : Plan). length (p .more)) (sym (dropped-at (tables first) (slip first) (start first .args .n) (entry first .link-is) (there looked .find .ensures)))
+      w .wanted .ensures (tables first) ∙ ap (λ (p : Plan). length (p .more)) (sym (dropped-at (tables first) (slip first) (start first .args .n) (head-is first) (there looked .find .ensures)))
 
   -- one at the most
   wants-one : w .wanted .result ≤ 1
@@ -234,7 +241,7 @@ module _ (r : tie.After-room-in-front) where
   own-is =
       let T = tables source in
       let e : asked .wanted .result + 1 ≡ suc (more asked) = omega (arith, wants asked) in
-      r .room-in-front .ensures .there ∙ (λ i. leb (e i) (length (ownPieces (pieceTotal T) T (entry source .link-is i)) + length (freePieces T)))
+      r .room-in-front .ensures .there ∙ (λ i. leb (e i) (length (ownPieces (pieceTotal T) T (head-is source i)) + length (freePieces T)))
 
   room-is : r .room-in-front .result .enough ≡ leb (suc (more asked)) (length (back asked) + length (freePieces (tables source)))
   room-is =
@@ -245,12 +252,12 @@ module _ (r : tie.After-room-in-front) where
   none-below : (d : ℕ) → d < r .room-in-front .result .from .0 → Is (isFreeWith (tables source) (ownOf (tables source) (slip source)) d) → ⊥
   none-below d l t =
       let T = tables source in
-      r .room-in-front .ensures .none-below d l (subst (λ n. Is (isFreeWith T (ownPieces (pieceTotal T) T n) d)) (sym (entry source .link-is)) t)
+      r .room-in-front .ensures .none-below d l (subst (λ n. Is (isFreeWith T (ownPieces (pieceTotal T) T n) d)) (sym (head-is source)) t)
 
   none-between : (d : ℕ) → r .room-in-front .result .from .0 < d → d < r .room-in-front .result .beyond .0 → Is (isFreeWith (tables source) (ownOf (tables source) (slip source)) d) → ⊥
   none-between d l m t =
       let T = tables source in
-      r .room-in-front .ensures .none-between d l m (subst (λ n. Is (isFreeWith T (ownPieces (pieceTotal T) T n) d)) (sym (entry source .link-is)) t)
+      r .room-in-front .ensures .none-between d l m (subst (λ n. Is (isFreeWith T (ownPieces (pieceTotal T) T n) d)) (sym (head-is source)) t)
 
 same-length-5 : tie.Need-same-length-5
 same-length-5 c = search needs
@@ -263,7 +270,7 @@ returns-5 c =
     let e = first w in
     let a = start e .args in
     let few = leb-false (suc (more w)) (length (back w) + length (freePieces (tables e))) (sym (room-is h) ∙ not-true _ (c .if5 .taken)) in
-    (pullup-pieces (a .pool .now) (a .storage .now) (slip e) (a .n) (named-here e) (fits-here (fitting (there k))) (in-range (ranged k)) (scattered (w .before)) (omega (arith, few)), tt)
+    (pullup-pieces (a .pool .now) (a .storage .now) (the-name e) (a .n) (named-here e) (fits-here (fitting (there k))) (in-range (ranged k)) (scattered (w .before)) (omega (arith, few)), tt)
 
 module _ (c : tie.Else5) where
   abbrev roomy : tie.After-room-in-front
@@ -299,7 +306,7 @@ returns-6 c =
     let a = start e .args in
     let all : u .next-free-buffer .result .0 ≡ bufferTotal (tables e) = omega (arith, c .if6 .taken, total-buffers (whole (start e .pre .0 .shaped))) in
     let none = ap length (no-buffer (tables e) (u .next-free-buffer .ensures) all) in
-    (pullup-buffers (a .pool .now) (a .storage .now) (slip e) (a .n) (named-here e) (fits-here (fitting (there k))) (in-range (ranged k)) (scattered (w .before)) (enough r) none, tt)
+    (pullup-buffers (a .pool .now) (a .storage .now) (the-name e) (a .n) (named-here e) (fits-here (fitting (there k))) (in-range (ranged k)) (scattered (w .before)) (enough r) none, tt)
 
 -- ---- there is room
 
@@ -331,7 +338,7 @@ module _ (c : tie.Else6) where
       let f = there (looked w) in
       record {
         named = inside base;
-        starts = entry base .link-is;
+        starts = head-is base;
         place = f .find .ensures;
         fits = fits-here (fitting f);
         enough = not-less _ _ (in-range (ranged (looked w)));
@@ -366,7 +373,7 @@ returns-7 c =
     let k = looked w in
     let e = base r in
     let a = start e .args in (
-      pullup-done (a .pool .now) (a .storage .now) (slip e) (a .n) (named-here e) (fits-here (fitting (there k))) (in-range (ranged k)) (scattered (w .before)) (enough (room r)) (buffer-there r)
+      pullup-done (a .pool .now) (a .storage .now) (the-name e) (a .n) (named-here e) (fits-here (fitting (there k))) (in-range (ranged k)) (scattered (w .before)) (enough (room r)) (buffer-there r)
           (c .done2 .ensures) (λ i. omega (arith, o .slice-known3 .given i)) (m .pull .ensures),
       rw (c .done2 .ensures),
     )

@@ -11,46 +11,47 @@ use Rattle.kinds.specs.Limits.{mostBuffers}
 use Rattle.rules.specs.Tables.{Tables, slipTotal, bufferTotal}
 use Rattle.rules.specs.Bytes.{decode}
 use Rattle.rules.specs.Chain.{Stretch}
-use Rattle.rules.specs.Room.{isVacant, isUnheld, vacantSlips, freePieces, freeBuffers, newSlip, newBuffers}
+use Rattle.rules.specs.Room.{isReady, isUnheld, readySlips, freePieces, freeBuffers, newSlip, newBuffers}
 use Rattle.rules.specs.Build.{plain, underNew, laid}
+use Rattle.rules.proofs.Build.{built-kept}
 use Rattle.tables.specs.Shape.{Holds}
 use Rattle.tables.proofs.Laws.{whole, total-slips, total-pieces, total-buffers}
 use Rattle.room.specs.Free.{lowestFor}
 use Rattle.room.proofs.Free.{first-lies, count-most, new-slip, no-slip}
-use Rattle.answer.proofs.New.{under-made, new-link}
+use Rattle.answer.proofs.New.{under-made, new-link, new-name, new-leaves}
 use Rattle.put.proofs.Laws.{put-slips, put-pieces, put-buffers, put-done}
 use Rattle.put.proofs.put.Statement.{statement}
 use Rattle.put.proofs.put.Tie as tie
 
-next-vacant-requires : tie.Need-next-vacant-requires
-next-vacant-requires c κs = search needs
+next-ready-requires : tie.Need-next-ready-requires
+next-ready-requires c κs = search needs
 
 same-length : tie.Need-same-length
 same-length c = search needs
 
 -- where the call started, and the tables there
-abbrev start : tie.After-next-vacant → tie.Start
+abbrev start : tie.After-next-ready → tie.Start
 start v = v .before .before .before .before .before
 
-abbrev tables : tie.After-next-vacant → Tables
+abbrev tables : tie.After-next-ready → Tables
 tables v = decode (start v .args .pool .now)
 
 returns : tie.Need-returns
 returns c =
     let v = c .before .before .before in
     let z = start v in
-    let all : v .next-vacant .result .0 ≡ slipTotal (tables v) = omega (arith, c .if1 .taken, total-slips (whole (z .pre .0 .shaped))) in
-    (put-slips (z .args .pool .now) (z .args .storage .now) (z .args .input .now) (no-slip (tables v) (v .next-vacant .ensures) all), tt)
+    let all : v .next-ready .result .0 ≡ slipTotal (tables v) = omega (arith, c .if1 .taken, total-slips (whole (z .pre .0 .shaped))) in
+    (put-slips (z .args .pool .now) (z .args .storage .now) (z .args .input .now) (no-slip (tables v) (v .next-ready .ensures) all), tt)
 
--- the new slip: the lowest vacant one
+-- the new slip: the lowest that may be given
 new : (c : tie.Else1) → let v = c .before .before .before in
-    (v .next-vacant .result .0 < slipTotal (tables v)) × (newSlip (tables v) ≡ v .next-vacant .result .0) × (1 ≤ length (vacantSlips (tables v)))
+    (v .next-ready .result .0 < slipTotal (tables v)) × (newSlip (tables v) ≡ v .next-ready .result .0) × (1 ≤ length (readySlips (tables v)))
 new c =
     let v = c .before .before .before in
     let T = tables v in
-    let below : v .next-vacant .result .0 < slipTotal T =
-    omega (arith, c .if1 .left, total-slips (whole (start v .pre .0 .shaped)), v .next-vacant .ensures, first-lies (isVacant T) 0 (slipTotal T) .0) in
-    let it = new-slip T (v .next-vacant .ensures) below in
+    let below : v .next-ready .result .0 < slipTotal T =
+    omega (arith, c .if1 .left, total-slips (whole (start v .pre .0 .shaped)), v .next-ready .ensures, first-lies (isReady T) 0 (slipTotal T) .0) in
+    let it = new-slip T (v .next-ready .ensures) below in
     (below, it .0, it .1)
 
 buffers-for-requires : tie.Need-buffers-for-requires
@@ -63,7 +64,7 @@ piece-room-requires c κs = search needs
 abbrev found : tie.After-buffers-for → tie.Else1
 found b = b .before
 
-abbrev from : tie.After-buffers-for → tie.After-next-vacant
+abbrev from : tie.After-buffers-for → tie.After-next-ready
 from b = found b .before .before .before
 
 -- where the free pieces were looked up, how many are wanted
@@ -197,22 +198,24 @@ returns-4 c =
     let z = start (from b) in
     let a = z .args in
     let T = tables (from b) in
-    let t = from b .next-vacant .result .0 in
+    let t = from b .next-ready .result .0 in
     let n = length (a .input .now) in
     let k = b .buffers-for .ensures in
     let xs : ℕ → List Stretch = λ m. laid (T .stock) (newBuffers T m) n in
     let made = under-made (plain T (xs (b .buffers-for .result))) (freePieces T) t (y .lay .ensures .0) (y .lay .ensures .1) (u .under-new .ensures .0) in
+    let plan = plain T (xs (b .buffers-for .result)) in
+    let named = new-name T plan (freePieces T) t (y .lay .ensures .0) (built-kept T (freePieces T) (plan .more) 0 .serials-kept) in
     let is : Holds _ (a .shape) _ = record { shaped = made .shaped; is = made .is ∙ ap (λ (m : ℕ). underNew (plain T (xs m)) (freePieces T) t) k } in (
-      put-done (a .pool .now) (a .storage .now) (a .input .now) (new (found b) .2) (omega (arith, pieces-room e2, k)) (omega (arith, buffers-room e3, k)) (new (found b) .1) (u .under-new .ensures .1)
+      put-done (a .pool .now) (a .storage .now) (a .input .now) (new (found b) .2) (omega (arith, pieces-room e2, k)) (omega (arith, buffers-room e3, k)) (new (found b) .1) (u .under-new .ensures .1) named
           (λ i. omega (arith, c .slice-known5 .given i)) is (w .fill-free .ensures),
-      rw (u .under-new .ensures .1),
+      new-leaves (decode (u .under-new .last .0)) (decode (y .lay .last .0)) t (omega (arith, new (found b) .0, total-slips (whole (z .pre .0 .shaped)), z .pre .0 .few-slips)) (u .under-new .ensures .1),
     )
 
 pub put-spec : {M : Type 1} → statement M
 put-spec =
     tie.close
     (tie.spec
-    next-vacant-requires
+    next-ready-requires
     same-length
     returns
     buffers-for-requires

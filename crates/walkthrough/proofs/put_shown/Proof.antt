@@ -1,5 +1,6 @@
 -- `walkthrough::put_shown` meets its contract. Assumes nothing.
 use borrow.Author.Needs.{needs}
+use Rattle.rules.specs.Rule.{name}
 use Rattle.page.proofs.Page.{on, same}
 use Rattle.walkthrough.proofs.Shown.{shown-row}
 use Rattle.walkthrough.proofs.put_shown.Statement.{statement}
@@ -41,8 +42,8 @@ returns c =
     let answer = place .before .before .before .before in
     let show = answer .before .before .before .before in
     let a = show .before .before .before .before .before .before .args in
-    same (shown-row (a .pool .now) (a .storage .now) (a .scratch .now) (a .slip) (a .n) (show .slp-show .ensures)
-    (part .part .ensures (a .pool .now) (a .scratch .now) (a .slip) (a .n) (show .slp-show .ensures)))
+    same (shown-row (a .pool .now) (a .storage .now) (a .scratch .now) (name (a .slip .0) 0) (a .n) (show .slp-show .ensures)
+    (part .part .ensures (a .pool .now) (a .scratch .now) (name (a .slip .0) 0) (a .n) (show .slp-show .ensures)))
     (on (on (on (answer .put-answer .ensures) (place .put-place .ensures)) (bytes .put-bytes .ensures)) (text .put-text .ensures))
 
 pub put-shown-spec : {M : Type 1} → statement M

@@ -41,6 +41,8 @@ const DATA: &str = "
 put BYTES puts so many bytes that count up: 0, 1, .. 250, 0, 1 and so on.
 put \"TEXT\" puts the text; in it \\\" \\\\ \\n \\r \\t \\0 and \\x41 are one byte each.
 list SLIP answers how many records there are, and prints each: position, length.
+A SLIP is written as it is answered: its number, and where its serial is not 0 a
+point and the serial, as 2 or 2.1. Once it is given up, its old name is refused.
 ";
 
 /// What stops a command: where and what, to be printed as one line.
@@ -272,7 +274,7 @@ fn list([pool, storage, slip]: [&OsString; 3]) -> Result<ExitCode, Trouble> {
         let fault = fault.map_or(String::new(), |fault| format!("; {fault}"));
         Trouble::new(
             Path::new(pool).display(),
-            format!("list {}: {refusal}{fault}", slip.0),
+            format!("list {slip}: {refusal}{fault}"),
         )
     })?;
     let mut out = io::stdout().lock();

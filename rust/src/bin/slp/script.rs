@@ -70,18 +70,18 @@ impl fmt::Display for Call {
             Call::Audit => write!(f, "audit"),
             Call::Put(Data::Counting(n)) => write!(f, "put {n}"),
             Call::Put(Data::Text { written, .. }) => write!(f, "put \"{written}\""),
-            Call::Free(slip) => write!(f, "free {}", slip.0),
-            Call::Dup(slip) => write!(f, "dup {}", slip.0),
-            Call::Cut(slip, offset, length) => write!(f, "cut {} {offset} {length}", slip.0),
-            Call::Append(a, b) => write!(f, "append {} {}", a.0, b.0),
-            Call::Drop(slip, n) => write!(f, "drop {} {n}", slip.0),
-            Call::Keep(slip, n) => write!(f, "keep {} {n}", slip.0),
-            Call::Pullup(slip, n) => write!(f, "pullup {} {n}", slip.0),
-            Call::Pack(slip) => write!(f, "pack {}", slip.0),
-            Call::Length(slip) => write!(f, "length {}", slip.0),
-            Call::Read(slip, offset, length) => write!(f, "read {} {offset} {length}", slip.0),
-            Call::Show(slip, n) => write!(f, "show {} {n}", slip.0),
-            Call::List(slip) => write!(f, "list {}", slip.0),
+            Call::Free(slip) => write!(f, "free {slip}"),
+            Call::Dup(slip) => write!(f, "dup {slip}"),
+            Call::Cut(slip, offset, length) => write!(f, "cut {slip} {offset} {length}"),
+            Call::Append(a, b) => write!(f, "append {a} {b}"),
+            Call::Drop(slip, n) => write!(f, "drop {slip} {n}"),
+            Call::Keep(slip, n) => write!(f, "keep {slip} {n}"),
+            Call::Pullup(slip, n) => write!(f, "pullup {slip} {n}"),
+            Call::Pack(slip) => write!(f, "pack {slip}"),
+            Call::Length(slip) => write!(f, "length {slip}"),
+            Call::Read(slip, offset, length) => write!(f, "read {slip} {offset} {length}"),
+            Call::Show(slip, n) => write!(f, "show {slip} {n}"),
+            Call::List(slip) => write!(f, "list {slip}"),
         }
     }
 }
@@ -108,7 +108,8 @@ pub fn parse(line: &str) -> Result<Option<Call>, String> {
     Ok(Some(call(name, &numbers)))
 }
 
-/// The arguments of a call as numbers, each within the bits that it is lent in.
+/// The arguments of a call as numbers, each within the bits that it is lent in, slips as they are
+/// answered.
 fn numbers(name: &str, form: &str, given: &[&str]) -> Result<Vec<u32>, String> {
     let wanted: Vec<&str> = form.split_whitespace().collect();
     if given.len() != wanted.len() {
@@ -120,12 +121,13 @@ fn numbers(name: &str, form: &str, given: &[&str]) -> Result<Vec<u32>, String> {
         return Err(format!("{name} takes {takes}, {} given", given.len()));
     }
     let number = |(word, what): (&&str, &&str)| {
-        let most = match *what {
-            "BYTES" => MOST_BYTES,
-            "OFFSET" | "LENGTH" | "N" => u32::MAX,
-            _ => u32::from(u16::MAX),
+        let read = match *what {
+            "SLIP" => named(word),
+            "BYTES" => number(word, MOST_BYTES),
+            "OFFSET" | "LENGTH" | "N" => number(word, u32::MAX),
+            _ => number(word, u32::from(u16::MAX)),
         };
-        number(word, most).map_err(|wrong| format!("{name}: {what} '{word}' {wrong}"))
+        read.map_err(|wrong| format!("{name}: {what} '{word}' {wrong}"))
     };
     given.iter().zip(&wanted).map(number).collect()
 }
@@ -133,7 +135,14 @@ fn numbers(name: &str, form: &str, given: &[&str]) -> Result<Vec<u32>, String> {
 /// The slip that a word names, for a call of this name.
 pub fn slip(name: &str, word: &str) -> Result<Slip, String> {
     let numbers = numbers(name, "SLIP", &[word])?;
-    Ok(Slip(numbers[0] as u16))
+    Ok(Slip::from_answer(numbers[0]))
+}
+
+/// A slip, as the number that is answered for it.
+fn named(word: &str) -> Result<u32, String> {
+    let slip = word.parse::<Slip>();
+    slip.map(Slip::answer)
+        .map_err(|wrong| format!("is {wrong}"))
 }
 
 /// A whole number from 0 to the most.
@@ -147,9 +156,9 @@ fn number(word: &str, most: u32) -> Result<u32, String> {
     }
 }
 
-/// The call of this name; slips and counts have been held to 16 bits.
+/// The call of this name; counts have been held to 16 bits.
 fn call(name: &str, numbers: &[u32]) -> Call {
-    let slip = |k: usize| Slip(numbers[k] as u16);
+    let slip = |k: usize| Slip::from_answer(numbers[k]);
     match name {
         "pool" => Call::Pool(Shape {
             buffers: numbers[0] as u16,

@@ -32,7 +32,7 @@ impl fmt::Display for Answer {
     fn fmt(&self, f: &mut fmt::Formatter<'_>) -> fmt::Result {
         match self {
             Answer::Done => write!(f, "done"),
-            Answer::Slip(slip) => write!(f, "{slip}"),
+            Answer::Slip(slip) => write!(f, "slip {slip}"),
             Answer::Number(number) => write!(f, "{number}"),
             Answer::Read(bytes) => {
                 write!(f, "{}", bytes.len())?;
@@ -154,7 +154,7 @@ fn made(pool: &mut [u8], storage: &mut [u8], call: &Call) -> Result<Answer, Refu
 /// A show, with the place where its view lies.
 fn show(pool: &[u8], storage: &[u8], slip: Slip, n: u32) -> Answer {
     let mut scratch = [0; BUFFER_LENGTH];
-    let shown = calls::show(pool, storage, slip.0, n, &mut scratch);
+    let shown = calls::show(pool, storage, slip, n, &mut scratch);
     if let Err(refusal) = shown.result() {
         return Answer::Refused(refusal);
     }
@@ -170,7 +170,7 @@ fn show(pool: &[u8], storage: &[u8], slip: Slip, n: u32) -> Answer {
 pub fn listed(pool: &[u8], storage: &[u8], slip: Slip) -> Result<Vec<Stretch>, Refusal> {
     // No chain has more pieces, so a list of as many records is never too short.
     let mut list = vec![Stretch::default(); Shape::MOST.pieces as usize];
-    let records = calls::stretches(pool, storage, slip.0, &mut list).result()?;
+    let records = calls::stretches(pool, storage, slip, &mut list).result()?;
     list.truncate(records as usize);
     Ok(list)
 }
