@@ -74,16 +74,16 @@ typedef struct {
     uint8_t *storage;
     size_t storage_length;
     uint8_t *output;
-} box;
+} lent;
 #define LENT(b) (b).pool, (b).pool_length, (b).storage, (b).storage_length
 /* The output as a lent list, of 16 numbers or 8 records. */
 #define NUMBERS(b) ((uint32_t *)(void *)(b).output)
 #define RECORDS(b) ((slp_stretch *)(void *)(b).output)
 
-/* A box for these counts, opened over old bytes; its storage and output hold old bytes still. */
-static box fresh(uint16_t buffers, uint16_t pieces, uint16_t slips)
+/* What is lent for these counts, opened over old bytes; its storage and output hold old bytes still. */
+static lent fresh(uint16_t buffers, uint16_t pieces, uint16_t slips)
 {
-    box b;
+    lent b;
     b.pool_length = SLP_POOL_LENGTH(buffers, pieces, slips);
     b.storage_length = SLP_STORAGE_LENGTH(buffers);
     b.pool = lend(b.pool_length, OLD);
@@ -94,10 +94,10 @@ static box fresh(uint16_t buffers, uint16_t pieces, uint16_t slips)
     return b;
 }
 
-/* A copy of all that a box holds. */
-static box copy_of(box b)
+/* A copy of all that is lent. */
+static lent copy_of(lent b)
 {
-    box c = b;
+    lent c = b;
     c.pool = (uint8_t *)memcpy(lend(b.pool_length, 0), b.pool, b.pool_length);
     c.storage = (uint8_t *)memcpy(lend(b.storage_length, 0), b.storage, b.storage_length);
     c.output = (uint8_t *)memcpy(lend(OUTPUT, 0), b.output, OUTPUT);
@@ -105,21 +105,21 @@ static box copy_of(box b)
 }
 
 /* Whether two boxes hold the same bytes. */
-static int same(box b, box c)
+static int same(lent b, lent c)
 {
     return memcmp(b.pool, c.pool, b.pool_length) == 0 && memcmp(b.storage, c.storage, b.storage_length) == 0
         && memcmp(b.output, c.output, OUTPUT) == 0;
 }
 
-static void give_back(box b)
+static void give_back(lent b)
 {
     free(b.pool);
     free(b.storage);
     free(b.output);
 }
 
-/* An answer, and that the box holds what it held before the call. */
-static void check_still(slp_answer a, unsigned code, box b, box before, int line, const char *call)
+/* An answer, and that all that is lent is as it was before the call. */
+static void check_still(slp_answer a, unsigned code, lent b, lent before, int line, const char *call)
 {
     check(a.code == code && a.number == 0, line, call);
     check(same(b, before), line, "the call above changes nothing");
@@ -128,7 +128,7 @@ static void check_still(slp_answer a, unsigned code, box b, box before, int line
 /* The call is refused with the code, and changes nothing. */
 #define REFUSES(wanted, b, call)                                    \
     do {                                                            \
-        box before = copy_of(b);                                    \
+        lent before = copy_of(b);                                    \
         slp_answer answer = (call);                                 \
         check_still(answer, (wanted), (b), before, __LINE__, #call); \
     } while (0)
@@ -163,7 +163,7 @@ static void check_done(slp_answer a, uint32_t number, int line, const char *call
 #define ANSWERS(wanted, call) check_done((call), (wanted), __LINE__, #call)
 
 /* put of n bytes of the morning's data. */
-static slp_answer put(box b, size_t n)
+static slp_answer put(lent b, size_t n)
 {
     uint8_t *data = morning_data(n);
     slp_answer a = slp_put(LENT(b), data, n);
@@ -172,7 +172,7 @@ static slp_answer put(box b, size_t n)
 }
 
 /* Whether a slip reads as n bytes of the morning's data from `from` on. */
-static int reads(box b, uint32_t slip, uint32_t n, uint32_t from)
+static int reads(lent b, uint32_t slip, uint32_t n, uint32_t from)
 {
     uint8_t *data = morning_data(from + n);
     uint8_t *out = lend(n, OLD);
@@ -196,7 +196,7 @@ static int listed(const void *list, const uint32_t *wanted, size_t numbers, size
 }
 
 /* Whether a slip's wire list is these records, in numbers and in records, and what is lent past them stays as it is. */
-static int lists(box b, uint32_t slip, size_t records, const uint32_t *wanted)
+static int lists(lent b, uint32_t slip, size_t records, const uint32_t *wanted)
 {
     uint32_t *list = (uint32_t *)(void *)lend(4 * (2 * records + 1), OLD);
     slp_stretch *stretches = (slp_stretch *)(void *)lend(8 * (records + 1), OLD);
@@ -210,7 +210,7 @@ static int lists(box b, uint32_t slip, size_t records, const uint32_t *wanted)
 }
 
 /* The 16-bit number at a position of the pool, low byte first. */
-static unsigned word_at(box b, size_t at)
+static unsigned word_at(lent b, size_t at)
 {
     return b.pool[at] + 256u * b.pool[at + 1];
 }
@@ -226,14 +226,14 @@ static size_t serial_at(unsigned slip)
 }
 
 /* Sets a slip's serial, which soundness asks nothing of. */
-static void set_serial(box b, unsigned slip, unsigned serial)
+static void set_serial(lent b, unsigned slip, unsigned serial)
 {
     b.pool[serial_at(slip)] = (uint8_t)(serial % 256);
     b.pool[serial_at(slip) + 1] = (uint8_t)(serial / 256);
 }
 
 /* Whether the pool's tables are those of a fresh one, but for the serials. */
-static int fresh_but_serials(box b)
+static int fresh_but_serials(lent b)
 {
     size_t slips_end = state_at(word_at(b, 9));
     for (size_t i = 11; i < b.pool_length; i++) {
@@ -295,7 +295,7 @@ static void write_pool(uint8_t bytes[95], const entries *e)
 }
 
 /* The call of a row. */
-static slp_answer row_call(int row, box b)
+static slp_answer row_call(int row, lent b)
 {
     switch (row) {
     case 1: return put(b, 600);
@@ -331,7 +331,7 @@ static void row_storage(int row, uint8_t *storage)
 }
 
 /* A row's answer, and every byte of pool and storage after it. */
-static void check_row(int row, box b, uint8_t *storage)
+static void check_row(int row, lent b, uint8_t *storage)
 {
     static const uint32_t number[11] = {0, 0, 1, 2, 0, 0, 0, 0, 0, 0, 0};
     uint8_t pool[95];
@@ -351,7 +351,7 @@ static void morning(void)
     static const uint8_t packed[40] = {249, 250, 0, 1, 2, 3, 4, 5, 6, 7, 8, 9, 10, 11, 12, 13, 14, 15, 16, 17,
                                        18, 19, 20, 21, 22, 23, 24, 25, 26, 27, 28, 29, 30, 31, 32, 33, 34, 35, 36, 37};
     uint8_t *storage = lend(2048, OLD);
-    box b = fresh(4, 6, 4);
+    lent b = fresh(4, 6, 4);
     for (int row = 0; row <= 10; row++) {
         check_row(row, b, storage);
         if (row == 1) CHECK(memcmp(b.pool + 11, row_1, sizeof row_1) == 0);
@@ -372,10 +372,10 @@ static void morning_lists(void)
     static const uint32_t whole[4] = {0, 512, 512, 88}, part[4] = {500, 12, 512, 38}, rest[2] = {520, 80};
     static const uint32_t joined[6] = {500, 12, 512, 38, 520, 80}, kept[4] = {500, 12, 512, 28};
     static const uint32_t pulled[4] = {1024, 20, 520, 20}, packed[2] = {0, 40};
-    box b = fresh(4, 6, 4);
+    lent b = fresh(4, 6, 4);
     for (int row = 1; row <= 10; row++) {
         row_call(row, b);
-        box before = copy_of(b);
+        lent before = copy_of(b);
         if (row <= 3) CHECK(lists(b, 0, 2, whole));
         if (row >= 2 && row <= 5) CHECK(lists(b, 1, 2, part));
         if (row == 3 || row == 4) CHECK(lists(b, 2, 2, whole));
@@ -394,7 +394,7 @@ static void morning_lists(void)
 static void edges_of_lists(void)
 {
     static const uint32_t whole[4] = {0, 512, 512, 88};
-    box b = fresh(4, 6, 4);
+    lent b = fresh(4, 6, 4);
     put(b, 600);
     put(b, 0);
     for (size_t n = 0; n < 4; n++) REFUSES(SLP_NARROW, b, slp_list(LENT(b), NAME(0), NUMBERS(b), n));
@@ -415,8 +415,8 @@ static void edges_of_lists(void)
     give_back(b);
 }
 
-/* A gather from the box's storage into its output. */
-static slp_gathered gather(box b, const uint32_t *list, size_t numbers, size_t output)
+/* A gather from lent storage into its output. */
+static slp_gathered gather(lent b, const uint32_t *list, size_t numbers, size_t output)
 {
     return slp_gather(b.storage, b.storage_length, list, numbers, b.output, output);
 }
@@ -427,7 +427,7 @@ static void gathers(void)
     static const uint32_t part[5] = {500, 12, 512, 38, 7}, twice[6] = {3, 2, 2, 3, 3, 2}, last[2] = {2047, 1};
     static const uint8_t bytes[7] = {3, 4, 2, 3, 4, 3, 4};
     uint8_t *data = morning_data(600);
-    box b = fresh(4, 6, 4);
+    lent b = fresh(4, 6, 4);
     put(b, 600);
     slp_gathered g = gather(b, part, 4, 50);
     CHECK(g.code == SLP_DONE && g.number == 50 && memcmp(b.output, data + 500, 50) == 0 && b.output[50] == OLD);
@@ -453,7 +453,7 @@ static void refusals_of_gathers(void)
     const uint32_t short_by_one[4] = {500, 12, 512, 38}, none[4] = {0, 1, 9, 0}, past[4] = {0, 1, 2047, 2}, after_end[2] = {2048, 1};
     const uint32_t round[2] = {most, 1}, rounds[4] = {most - 9, 20, 0, 1}, halves[4] = {0, 1u << 31, 0, 1u << 31};
     const uint32_t sum[6] = {0, most, 0, 1, 0, 5}, both[4] = {0, 0, 0, OUTPUT + 1};
-    box b = fresh(4, 6, 4);
+    lent b = fresh(4, 6, 4);
     REFUSES(SLP_NARROW, b, refused_gather(gather(b, short_by_one, 4, 49)));
     REFUSES(SLP_NARROW, b, refused_gather(gather(b, short_by_one, 4, 0)));
     REFUSES(SLP_NARROW, b, refused_gather(slp_gather(b.storage, b.storage_length, short_by_one, 4, NULL, 0)));
@@ -481,14 +481,14 @@ static void edges_of_put(void)
     static const uint32_t bytes[3] = {512, 513, 2048};
     for (int i = 0; i < 3; i++) {
         uint8_t pool[95];
-        box b = fresh(4, 6, 4);
+        lent b = fresh(4, 6, 4);
         ANSWERS(0, put(b, bytes[i]));
         write_pool(pool, wanted[i]);
         CHECK(memcmp(b.pool, pool, 95) == 0);
         CHECK(reads(b, 0, bytes[i], 0));
         give_back(b);
     }
-    box b = fresh(4, 6, 4);
+    lent b = fresh(4, 6, 4);
     REFUSES(SLP_BUFFERS, b, put(b, 2049));
     give_back(b);
 }
@@ -496,7 +496,7 @@ static void edges_of_put(void)
 /* The edges of cut, pullup and append, each in a fresh pool. */
 static void edges_of_others(void)
 {
-    box b = fresh(4, 6, 4);
+    lent b = fresh(4, 6, 4);
     put(b, 600);
     REFUSES(SLP_RANGE, b, slp_cut(LENT(b), NAME(0), 601, 0));
     ANSWERS(1, slp_cut(LENT(b), NAME(0), 600, 0));
@@ -524,7 +524,7 @@ typedef struct {
     uint32_t slip, first, second, number;
 } asked;
 
-static slp_answer ask(box b, asked c)
+static slp_answer ask(lent b, asked c)
 {
     switch (c.operation) {
     case PUT: return put(b, c.first);
@@ -592,9 +592,9 @@ static void full_tables(void)
         const asked *call = full_table[i].call;
         unsigned last = full_table[i].calls - 1;
         uint8_t pool[95];
-        box b = fresh(4, 6, 4);
+        lent b = fresh(4, 6, 4);
         for (unsigned k = 0; k < last; k++) check_done(ask(b, call[k]), call[k].number, __LINE__, what);
-        box before = copy_of(b);
+        lent before = copy_of(b);
         if (full_table[i].buffer >= 0) {
             uint8_t *filled = before.storage + 512 * full_table[i].buffer;
             memset(filled, 0, 512);
@@ -613,7 +613,7 @@ static void full_tables(void)
 }
 
 /* The serials of a pool with four slips. */
-static int serials(box b, unsigned s0, unsigned s1, unsigned s2, unsigned s3)
+static int serials(lent b, unsigned s0, unsigned s1, unsigned s2, unsigned s3)
 {
     return word_at(b, serial_at(0)) == s0 && word_at(b, serial_at(1)) == s1 && word_at(b, serial_at(2)) == s2 && word_at(b, serial_at(3)) == s3;
 }
@@ -621,7 +621,7 @@ static int serials(box b, unsigned s0, unsigned s1, unsigned s2, unsigned s3)
 /* A name that was given up, by free or by append, is refused while the slip is vacant and when it is given again. */
 static void old_names(void)
 {
-    box b = fresh(4, 6, 4);
+    lent b = fresh(4, 6, 4);
     ANSWERS(0, put(b, 600));
     ANSWERS(1, slp_dup(LENT(b), NAME(0)));
     ANSWERS(0, slp_free(LENT(b), NAME(0)));
@@ -645,7 +645,7 @@ static void old_names(void)
 /* append: 3 is judged of both slips by number and serial, then 4 of the numbers; b's serial moves where a call is done, an empty side or not. */
 static void serials_of_append(void)
 {
-    box b = fresh(4, 4, 4);
+    lent b = fresh(4, 4, 4);
     put(b, 0);
     ANSWERS(0, slp_free(LENT(b), NAME(0)));
     ANSWERS(AT(0, 1), put(b, 600));
@@ -672,7 +672,7 @@ static void serials_of_append(void)
 /* At the last serial a held slip is a slip like any other; given up, it keeps the serial and is spent: refused, and passed over by put, dup and cut. */
 static void spent_slips(void)
 {
-    box b = fresh(4, 6, 4);
+    lent b = fresh(4, 6, 4);
     for (unsigned s = 0; s < 4; s++) set_serial(b, s, s == 1 ? LAST - 1 : LAST);
     set_serial(b, 3, 0);
     ANSWERS(AT(1, LAST - 1), put(b, 600));
@@ -702,7 +702,7 @@ static void spent_slips(void)
 /* append for b at the last serial: it stays, and b is spent. */
 static void spent_by_append(void)
 {
-    box b = fresh(4, 6, 2);
+    lent b = fresh(4, 6, 2);
     set_serial(b, 1, LAST);
     ANSWERS(0, put(b, 10));
     REFUSES(SLP_SLIPS, b, put(b, 10));
@@ -718,7 +718,7 @@ static void spent_by_append(void)
 /* One slip given and given up as often as it can be, by calls alone: each name once, the last serial never, and then none until an open. */
 static void worn_out(void)
 {
-    box b = fresh(1, 1, 1);
+    lent b = fresh(1, 1, 1);
     for (uint32_t serial = 0; serial < LAST; serial++) {
         ANSWERS(AT(0, serial), slp_put(LENT(b), NULL, 0));
         ANSWERS(0, slp_free(LENT(b), NAME(AT(0, serial))));
@@ -734,7 +734,7 @@ static void worn_out(void)
 static void refusals_of_slips(void)
 {
     static const uint32_t bad[10] = {1, 3, 4, 65535, AT(0, 0), AT(0, 2), AT(0, 257), AT(0, LAST), AT(1, 1), AT(4, 1)};
-    box b = fresh(4, 6, 4);
+    lent b = fresh(4, 6, 4);
     put(b, 600);
     ANSWERS(0, slp_free(LENT(b), NAME(0)));
     ANSWERS(AT(0, 1), put(b, 600));
@@ -762,7 +762,7 @@ static void refusals_of_slips(void)
 static void refusals_of_ranges(void)
 {
     const uint32_t most = UINT32_MAX;
-    box b = fresh(4, 6, 4);
+    lent b = fresh(4, 6, 4);
     put(b, 600);
     slp_cut(LENT(b), NAME(0), 500, 50);
     REFUSES(SLP_RANGE, b, slp_cut(LENT(b), NAME(0), 1, 600));
@@ -789,7 +789,7 @@ static void refusals_of_ranges(void)
 /* No vacant slip; then no free piece, each call that wants one; then no free buffer. */
 static void refusals_of_room(void)
 {
-    box b = fresh(4, 6, 4);
+    lent b = fresh(4, 6, 4);
     put(b, 2048);
     for (int i = 0; i < 3; i++) put(b, 0);
     REFUSES(SLP_SLIPS, b, put(b, 0));
@@ -825,7 +825,7 @@ static void refusals_of_room(void)
 }
 
 /* Every call but open on a pool that isn't sound. */
-static void refuses_torn(box b)
+static void refuses_torn(lent b)
 {
     REFUSES(SLP_TORN, b, slp_audit(LENT(b)));
     REFUSES(SLP_TORN, b, put(b, 600));
@@ -850,7 +850,7 @@ static void refuses_torn(box b)
 static void refusals_of_torn_pools(void)
 {
     static const size_t at[6] = {0, 3, 9, 15, 27, 87};
-    box b = fresh(4, 6, 4);
+    lent b = fresh(4, 6, 4);
     put(b, 600);
     for (int i = 0; i < 6; i++) {
         b.pool[at[i]] = (uint8_t)(b.pool[at[i]] + 7);
@@ -873,7 +873,7 @@ static void refusals_of_torn_pools(void)
 /* Calls with nothing to do, done and without a change; empty slices with null for a pointer. */
 static void idle_calls(void)
 {
-    box b = fresh(4, 6, 4);
+    lent b = fresh(4, 6, 4);
     put(b, 600);
     IDLE(b, slp_audit(LENT(b)));
     IDLE(b, slp_drop(LENT(b), NAME(0), 0));
@@ -896,7 +896,7 @@ static void idle_calls(void)
 }
 
 /* What show answers, and the bytes of its view: n of the morning's data from `from` on. */
-static void check_view(box b, slp_shown v, uint32_t n, uint16_t in_scratch, uint32_t start, uint32_t from, int line)
+static void check_view(lent b, slp_shown v, uint32_t n, uint16_t in_scratch, uint32_t start, uint32_t from, int line)
 {
     uint8_t *data = morning_data(from + n);
     check(v.code == SLP_DONE && v.number == n && v.in_scratch == in_scratch && v.start == start, line, "the place of the view");
@@ -908,10 +908,10 @@ static void check_view(box b, slp_shown v, uint32_t n, uint16_t in_scratch, uint
 /* The view in storage, where the scratch is neither asked for nor touched, and in the scratch, where nothing past it is. */
 static void views(void)
 {
-    box b = fresh(4, 6, 4);
+    lent b = fresh(4, 6, 4);
     put(b, 600);
     slp_cut(LENT(b), NAME(0), 500, 50);
-    box before = copy_of(b);
+    lent before = copy_of(b);
     SHOWS(b, slp_show(LENT(b), NAME(0), 512, b.output, OUTPUT), 512, 0, 0, 0);
     SHOWS(b, slp_show(LENT(b), NAME(0), 512, NULL, 0), 512, 0, 0, 0);
     SHOWS(b, slp_show(LENT(b), NAME(1), 12, NULL, 0), 12, 0, 500, 500);
@@ -975,7 +975,7 @@ static void macros(void)
 static void largest(void)
 {
     const uint32_t all = SLP_STORAGE_LENGTH(SLP_MOST_BUFFERS);
-    box b = fresh(SLP_MOST_BUFFERS, SLP_MOST_PIECES, SLP_MOST_SLIPS);
+    lent b = fresh(SLP_MOST_BUFFERS, SLP_MOST_PIECES, SLP_MOST_SLIPS);
     ANSWERS(0, put(b, all));
     REFUSES(SLP_BUFFERS, b, put(b, 1));
     ANSWERS(1, slp_cut(LENT(b), NAME(0), 100, all - 100));
@@ -996,7 +996,7 @@ static void largest(void)
 static void largest_full_table(void)
 {
     const uint32_t stored = SLP_MOST_BUFFERS - 2, all = SLP_BUFFER_SIZE * stored, pieces = 11 + 4 * SLP_MOST_SLIPS;
-    box b = fresh(SLP_MOST_BUFFERS, SLP_MOST_PIECES, SLP_MOST_SLIPS);
+    lent b = fresh(SLP_MOST_BUFFERS, SLP_MOST_PIECES, SLP_MOST_SLIPS);
     ANSWERS(0, put(b, all));
     ANSWERS(1, slp_cut(LENT(b), NAME(0), 0, all));
     ANSWERS(2, slp_dup(LENT(b), NAME(0)));

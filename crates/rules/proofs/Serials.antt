@@ -415,19 +415,50 @@ reads-at : (x : Name) (xs : List ℕ) (cs : List Call) (m : Lent) → Lives x xs
 reads-at x xs [] m l u = l .bytes
 reads-at x xs (d ∷ cs) m l u = reads-at x (madeBy d m x xs) cs (next d m) (l .2 (⊎-elim (not-reopened d m (u .0)) (not-ended x d m (u .1)))) (u .2)
 
--- what comes after a done operation that gives x up refuses x
-given-refused : (o : Operation) (x : Name) (cs : List Call) (c : Call) (m : Lent) → step (Do o) m .code ≡ 0 → GivesUp o x → Unopened cs (next (Do o) m) → NamedBy c x
-    → step c (afterCalls cs (next (Do o) m)) .code ≡ 3
-given-refused o x cs c m e g u n = refused-at x cs c (next (Do o) m) (serials-ok (Do o ∷ (cs ++ (c ∷ []))) m .0 e .given-up x g) u n
+-- every call that names s alone is so; and both that name s and a
+abbrev pub Naming : (Operation → Type 0) → Name → ℕ → ℕ → List ℕ → Type 0
+Naming P s off n xs =
+    P (Free s) × P (Dup s) × P (Cut s off n) × P (Drop s n) × P (Keep s n) × P (Pullup s n) × P (Pack s) × P (Length s) × P (Read s off n xs) × P (Show s n xs) × P (WireList s xs)
 
--- A name that a done free, or a done append as b, has given up is refused with 3 wherever it is named, whatever calls but a done open come between.
-pub freed-refused : (s a : Name) (cs : List Call) (m : Lent) → step (Do (Free s)) m .code ≡ 0 → Unopened cs (next (Do (Free s)) m)
-    → let m₁ = afterCalls cs (next (Do (Free s)) m) in (step (Do (Length s)) m₁ .code ≡ 3) × (step (Do (Append a s)) m₁ .code ≡ 3)
-freed-refused s a cs m e u = (given-refused (Free s) s cs (Do (Length s)) m e refl u refl, given-refused (Free s) s cs (Do (Append a s)) m e refl u (inr refl))
+abbrev pub Joining : (Operation → Type 0) → Name → Name → Type 0
+Joining P s a = P (Append s a) × P (Append a s)
 
-pub joined-refused : (a b : Name) (cs : List Call) (m : Lent) → step (Do (Append a b)) m .code ≡ 0 → Unopened cs (next (Do (Append a b)) m)
-    → step (Do (Length b)) (afterCalls cs (next (Do (Append a b)) m)) .code ≡ 3
-joined-refused a b cs m e u = given-refused (Append a b) b cs (Do (Length b)) m e refl u refl
+each-naming : (P : Operation → Type 0) (s : Name) (off n : ℕ) (xs : List ℕ) → ((o : Operation) → ((y : Name) → NamedBy (Do o) y → y ≡ s) → NamedBy (Do o) s → P o)
+    → Naming P s off n xs
+each-naming P s off n xs f = (
+  f (Free s) (λ y k. k) refl,
+  f (Dup s) (λ y k. k) refl,
+  f (Cut s off n) (λ y k. k) refl,
+  f (Drop s n) (λ y k. k) refl,
+  f (Keep s n) (λ y k. k) refl,
+  f (Pullup s n) (λ y k. k) refl,
+  f (Pack s) (λ y k. k) refl,
+  f (Length s) (λ y k. k) refl,
+  f (Read s off n xs) (λ y k. k) refl,
+  f (Show s n xs) (λ y k. k) refl,
+  f (WireList s xs) (λ y k. k) refl,
+)
+
+-- every call that names s is refused with 3, alone or beside a
+abbrev pub AllRefuse : Name → Name → ℕ → ℕ → List ℕ → Lent → Type 0
+AllRefuse s a off n xs m = Joining (λ o. step (Do o) m .code ≡ 3) s a × Naming (λ o. step (Do o) m .code ≡ 3) s off n xs
+
+given-refused : (o : Operation) (x a : Name) (off n : ℕ) (xs : List ℕ) (cs : List Call) (m : Lent) → step (Do o) m .code ≡ 0 → GivesUp o x → Unopened cs (next (Do o) m)
+    → AllRefuse x a off n xs (afterCalls cs (next (Do o) m))
+given-refused o x a off n xs cs m e g u =
+    let m₁ = next (Do o) m in
+    let r : (p : Operation) → NamedBy (Do p) x → step (Do p) (afterCalls cs m₁) .code ≡ 3 = λ p.
+    refused-at x cs (Do p) m₁ (serials-ok (Do o ∷ (cs ++ (Do p ∷ []))) m .0 e .given-up x g) u in
+    ((r (Append x a) (inl refl), r (Append a x) (inr refl)), each-naming (λ p. step (Do p) (afterCalls cs m₁) .code ≡ 3) x off n xs (λ p _. r p))
+
+-- A name that a done free, or a done append as b, has given up is refused with 3 by every call that names it, whatever calls but a done open come between.
+pub freed-refused : (s a : Name) (off n : ℕ) (xs : List ℕ) (cs : List Call) (m : Lent) → step (Do (Free s)) m .code ≡ 0 → Unopened cs (next (Do (Free s)) m)
+    → AllRefuse s a off n xs (afterCalls cs (next (Do (Free s)) m))
+freed-refused s a off n xs cs m e u = given-refused (Free s) s a off n xs cs m e refl u
+
+pub joined-refused : (a b c : Name) (off n : ℕ) (xs : List ℕ) (cs : List Call) (m : Lent) → step (Do (Append a b)) m .code ≡ 0 → Unopened cs (next (Do (Append a b)) m)
+    → AllRefuse b c off n xs (afterCalls cs (next (Do (Append a b)) m))
+joined-refused a b c off n xs cs m e u = given-refused (Append a b) b c off n xs cs m e refl u
 
 -- put, dup and cut answer names
 pub new-names : (input : List ℕ) (s : Name) (off n : ℕ) → NewName (Put input) × NewName (Dup s) × NewName (Cut s off n)
@@ -435,12 +466,22 @@ new-names input s off n = (tt, tt, tt)
 
 -- The name that a done put, dup or cut answers is not refused with 3 until it is given up, and reads what the calls have made of its bytes; and no other done call answers its number.
 module _ (o : Operation) (n : NewName o) (cs : List Call) (m : Lent) (e : step (Do o) m .code ≡ 0) where
-  pub answered-accepted : let x = answered (step (Do o) m .number) in Holding x cs (next (Do o) m) → step (Do (Length x)) (afterCalls cs (next (Do o) m)) .code ≢ 3
-  answered-accepted u q =
+  pub answered-accepted : (a : Name) (off k : ℕ) (xs : List ℕ) → let x = answered (step (Do o) m .number) in Holding x cs (next (Do o) m)
+      → let m₁ = afterCalls cs (next (Do o) m) in
+      Naming (λ p. step (Do p) m₁ .code ≢ 3) x off k xs × Joining (λ p. step (Do p) m₁ .code ≡ 3 → Missing (decode (m₁ .pool)) a) x a
+  answered-accepted a off k xs u =
       let x = answered (step (Do o) m .number) in
-      let c = Do (Length x) in
-      let y = accepts-at x (firstBytes o (stateIn m)) cs c (next (Do o) m) (serials-ok (Do o ∷ (cs ++ (c ∷ []))) m .0 e .lives n) u refl q in
-      y .2 (y .1)
+      let m₁ = afterCalls cs (next (Do o) m) in
+      let good : (p : Operation) → Accepts x (Do p) m₁ = λ p.
+      accepts-at x (firstBytes o (stateIn m)) cs (Do p) (next (Do o) m) (serials-ok (Do o ∷ (cs ++ (Do p ∷ []))) m .0 e .lives n) u in
+      let other : (y : Name) → (y ≢ x) → Missing (decode (m₁ .pool)) y → (y ≡ x) ⊎ (y ≡ a) → Missing (decode (m₁ .pool)) a = λ y d w z.
+      ⊎-elim (λ q. absurd (d q)) (λ q. subst (Missing (decode (m₁ .pool))) q w) z in (
+        each-naming (λ p. step (Do p) m₁ .code ≢ 3) x off k xs (λ p h g q. (let y = good p g q in y .2 (h (y .0) (y .1)))),
+        (
+          λ q. (let y = good (Append x a) (inl refl) q in other (y .0) (y .2) (y .3) (y .1)),
+          λ q. (let y = good (Append a x) (inr refl) q in other (y .0) (y .2) (y .3) (⊎-elim inr inl (y .1))),
+        ),
+      )
 
   pub answered-reads : let x = answered (step (Do o) m .number) in Holding x cs (next (Do o) m)
       → reads (stateIn (afterCalls cs (next (Do o) m))) (x .slip) ≡ madeByAll cs (next (Do o) m) x (firstBytes o (stateIn m))
