@@ -35,8 +35,10 @@
  * Stack. No call takes more than 16 KiB, whatever it is lent, and no call allocates or keeps anything. Measured at the largest pool (tests/c/stack.c),
  * done and refused: slp_open and slp_gather take less than 256 bytes, every other call at most 6,544, of which 6,144 are the audit's counters.
  *
- * The pool is written by every call whose pool isn't const, storage by slp_put, slp_pullup and slp_pack alone. They write only buffers
- * that no piece lay on when they began.
+ * Storage. The pool is written by every call whose pool isn't const. Storage is written so alone: slp_put, slp_pullup and slp_pack fill buffers that no
+ * piece lay on when they began, whole, with the bytes and then zeros; slp_free, slp_drop, slp_keep, and slp_pullup and slp_pack once they have copied,
+ * clean every buffer that loses its last piece: all its 512 bytes are then zero. Any other buffer keeps its bytes. A free buffer need not be clean,
+ * and slp_audit does not ask it; in a pool opened over zeroed storage every free one is, after any calls but another done slp_open.
  */
 #ifndef SLP_H
 #define SLP_H
@@ -96,7 +98,7 @@ typedef struct { uint16_t code; uint64_t number; } slp_gathered;
 
 /* In every call below that names a slip, `slip` is its number and `serial` its serial. */
 
-/* Writes the fresh pool, whatever the bytes were, every serial 0; answers 0. No: 1 COUNTS. */
+/* Writes the fresh pool, whatever the bytes were, every serial 0; answers 0. Storage is not touched. No: 1 COUNTS. */
 slp_answer slp_open(uint8_t *pool, size_t pool_length, uint8_t *storage, size_t storage_length,
                     uint16_t buffers, uint16_t pieces, uint16_t slips);
 
@@ -107,7 +109,8 @@ slp_answer slp_audit(const uint8_t *pool, size_t pool_length, const uint8_t *sto
 slp_answer slp_put(uint8_t *pool, size_t pool_length, uint8_t *storage, size_t storage_length,
                    const uint8_t *data, size_t data_length);
 
-/* Gives up the slip's chain, and frees what nobody else holds; the slip is vacant, its serial 1 more; answers 0. No: 2 TORN, 3 SLIP. */
+/* Gives up the slip's chain, and frees what nobody else holds; the slip is vacant, its serial 1 more; answers 0. No: 2 TORN, 3 SLIP.
+ * Cleaned: the buffers that lose their last piece with the chain. */
 slp_answer slp_free(uint8_t *pool, size_t pool_length, uint8_t *storage, size_t storage_length, uint16_t slip, uint16_t serial);
 
 /* A new slip that reads the same and shares its buffers, at one new piece; answers it and its serial. No: 2 TORN, 3 SLIP, 8 SLIPS, 9 PIECES. */
@@ -118,20 +121,24 @@ slp_answer slp_cut(uint8_t *pool, size_t pool_length, const uint8_t *storage, si
                    uint16_t slip, uint16_t serial, uint32_t offset, uint32_t length);
 
 /* Slip a reads as a then b, other slips as before; b is vacant, its serial 1 more; answers 0.
- * No: 2 TORN, 3 SLIP (of either), 4 SAME (the numbers are one), 9 PIECES. */
+ * No: 2 TORN, 3 SLIP (of either), 4 SAME (the numbers are one), 9 PIECES. Cleaned: none, no buffer is given back and no byte of storage written. */
 slp_answer slp_append(uint8_t *pool, size_t pool_length, uint8_t *storage, size_t storage_length,
                       uint16_t a, uint16_t a_serial, uint16_t b, uint16_t b_serial);
 
-/* The slip's first n bytes go, other slips read as before; answers 0. No: 2 TORN, 3 SLIP, 6 RANGE, 9 PIECES. */
+/* The slip's first n bytes go, other slips read as before; answers 0. No: 2 TORN, 3 SLIP, 6 RANGE, 9 PIECES.
+ * Cleaned: the buffers that lose their last piece in front of what stays. */
 slp_answer slp_drop(uint8_t *pool, size_t pool_length, uint8_t *storage, size_t storage_length, uint16_t slip, uint16_t serial, uint32_t n);
 
-/* The slip's first n bytes stay and the rest goes, other slips read as before; answers 0. No: 2 TORN, 3 SLIP, 6 RANGE, 9 PIECES. */
+/* The slip's first n bytes stay and the rest goes, other slips read as before; answers 0. No: 2 TORN, 3 SLIP, 6 RANGE, 9 PIECES.
+ * Cleaned: the buffers that lose their last piece behind what stays. */
 slp_answer slp_keep(uint8_t *pool, size_t pool_length, uint8_t *storage, size_t storage_length, uint16_t slip, uint16_t serial, uint32_t n);
 
-/* The slip's first n bytes, at most 512, come to lie in one piece; answers 0. No: 2 TORN, 3 SLIP, 5 LONG, 6 RANGE, 9 PIECES, 10 BUFFERS. */
+/* The slip's first n bytes, at most 512, come to lie in one piece; answers 0. No: 2 TORN, 3 SLIP, 5 LONG, 6 RANGE, 9 PIECES, 10 BUFFERS.
+ * Cleaned, once the bytes are copied: the buffers that lose their last piece in front of what stays. */
 slp_answer slp_pullup(uint8_t *pool, size_t pool_length, uint8_t *storage, size_t storage_length, uint16_t slip, uint16_t serial, uint32_t n);
 
-/* Puts a chain of two or more pieces afresh, under the same slip, in as few buffers as hold it; answers 0. No: 2 TORN, 3 SLIP, 9 PIECES, 10 BUFFERS. */
+/* Puts a chain of two or more pieces afresh, under the same slip, in as few buffers as hold it; answers 0. No: 2 TORN, 3 SLIP, 9 PIECES, 10 BUFFERS.
+ * Cleaned, once the bytes are copied: the buffers that lose their last piece with the old chain. */
 slp_answer slp_pack(uint8_t *pool, size_t pool_length, uint8_t *storage, size_t storage_length, uint16_t slip, uint16_t serial);
 
 /* Answers the chain's length in bytes. No: 2 TORN, 3 SLIP. */

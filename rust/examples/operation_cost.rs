@@ -3,9 +3,9 @@
 //! `operation_cost WHO CASE TIMES`: WHO is `library` (audit and operation), `audit` (slp_audit alone on the same
 //! pool), `yardstick` (the same operation written by hand, unaudited), `audited` (the audit by hand and then the same)
 //! or `empty` (a call that does nothing). Every call starts from the case's pool, storage, output and list, which are
-//! copied back in each run alike, storage where the operation writes it. Before that the library and the yardstick do
-//! the case once, and must leave the very same bytes, list and answer. Gather has no pool, so `library` and `audited`
-//! audit nothing there.
+//! copied back in each run alike, storage where the case writes it. Before that the library and the yardstick do
+//! the case once, and must leave the very same bytes, list and answer, and give back as many buffers as the case says.
+//! Gather has no pool, so `library` and `audited` audit nothing there.
 //!
 //! Without arguments it lists the cases, one a line: name, operation and what is done.
 
@@ -68,6 +68,8 @@ struct Lent {
     other: Slip,
     offset: u32,
     n: u32,
+    /// How many buffers the call gives back, where the case is about that.
+    given: Option<usize>,
     answer: Answer,
     shown: Shown,
     gathered: Gathered,
@@ -87,6 +89,7 @@ impl Lent {
             other: slip(0),
             offset: 0,
             n: 0,
+            given: None,
             answer: Answer { code: 0, number: 0 },
             shown: Shown {
                 code: 0,
@@ -130,7 +133,12 @@ impl Lent {
         Lent { n, ..self }
     }
 
-    /// Pool, output and list become those of the case again, and storage where the operation writes it.
+    fn given(self, buffers: usize) -> Lent {
+        let given = Some(buffers);
+        Lent { given, ..self }
+    }
+
+    /// Pool, output and list become those of the case again, and storage where the case writes it.
     fn reset(&mut self, case: &Lent, stores: bool) {
         self.pool.copy_from_slice(&case.pool);
         if stores {
@@ -162,6 +170,8 @@ const fn room(slips: usize, pieces: usize, buffers: usize) -> Room {
 struct Builder {
     pool: Vec<u8>,
     room: Room,
+    /// So many of the first pieces lie alone, each on a buffer that no other piece lies on.
+    alone: usize,
     slips: usize,
     pieces: usize,
 }
@@ -200,9 +210,14 @@ impl Builder {
         Builder {
             pool,
             room,
+            alone: 0,
             slips: 0,
             pieces: 0,
         }
+    }
+
+    fn alone(self, alone: usize) -> Builder {
+        Builder { alone, ..self }
     }
 
     /// The next slip takes this state.
@@ -214,12 +229,16 @@ impl Builder {
 
     /// The next slip takes a chain of new pieces of `length` bytes, each on the next buffer.
     fn chain(mut self, pieces: usize, length: usize) -> Builder {
-        let buffers = buffers() - self.room.buffers;
+        let shared = buffers() - self.room.buffers - self.alone;
         let first = self.pieces;
         let end = first + pieces;
         for d in first..end {
             let next = if d + 1 < end { d + 2 } else { 0 };
-            let entry = [0, d % buffers, PIECE * (d / buffers % 2), length, next];
+            let (buffer, turn) = match d.checked_sub(self.alone) {
+                None => (d, 0),
+                Some(other) => (self.alone + other % shared, other / shared),
+            };
+            let entry = [0, buffer, PIECE * (turn % 2), length, next];
             for (k, v) in entry.into_iter().enumerate() {
                 put16(&mut self.pool, piece_at(d) + 2 * k, v);
             }
@@ -253,6 +272,12 @@ impl Builder {
 /// A full pool whose slip 0 has a chain of so many pieces, all own.
 fn own(pieces: usize, length: usize, room: Room) -> Lent {
     Builder::new(room).chain(pieces, length).full()
+}
+
+/// The same, each of its pieces alone on its buffer.
+fn alone(pieces: usize, room: Room) -> Lent {
+    let built = Builder::new(room).alone(pieces);
+    built.chain(pieces, PIECE).full()
 }
 
 /// A full pool whose slip 0 has a chain of so many pieces, while slip 1 heads its piece `from`.
@@ -356,6 +381,11 @@ fn frees() -> States {
         ("4 pieces", own(4, PIECE, NONE)),
         ("4 pieces, shared from the third on", shared(4, 2, NONE)),
         ("100 pieces", own(100, PIECE, NONE)),
+        ("4 pieces: 4 buffers given back", alone(4, NONE).given(4)),
+        (
+            "100 pieces: 100 buffers given back",
+            alone(100, NONE).given(100),
+        ),
     ]
 }
 
@@ -419,6 +449,14 @@ fn drops() -> States {
             "25,500 bytes of 100 pieces, shared from the last on: 1 new piece",
             front(100, 99, 25_500),
         ),
+        (
+            "600 bytes of 4 pieces, inside the third: 2 buffers given back",
+            alone(4, NONE).n(600).given(2),
+        ),
+        (
+            "25,500 bytes of 100 pieces, inside the last: 99 buffers given back",
+            alone(100, NONE).n(25_500).given(99),
+        ),
     ]
 }
 
@@ -438,6 +476,14 @@ fn keeps() -> States {
         (
             "25,500 bytes of 100 pieces, shared: 100 new pieces",
             shared(100, 100, 25_500),
+        ),
+        (
+            "500 bytes of 4 pieces, inside the second: 2 buffers given back",
+            alone(4, NONE).n(500).given(2),
+        ),
+        (
+            "100 bytes of 100 pieces, inside the first: 99 buffers given back",
+            alone(100, NONE).n(100).given(99),
         ),
     ]
 }
@@ -476,6 +522,10 @@ fn pullups() -> States {
             "498 bytes of 100 pieces of 5, shared from the last on, the last of the table: 2 new pieces",
             shared_last(100, 5, 99, BUFFER).n(498),
         ),
+        (
+            "512 bytes of 4 pieces: 1 new piece, 2 buffers given back",
+            alone(4, BUFFER).n(512).given(2),
+        ),
     ]
 }
 
@@ -485,6 +535,14 @@ fn packs() -> States {
         (
             "100 pieces: 50 new pieces",
             own(100, PIECE, room(0, 50, 50)),
+        ),
+        (
+            "4 pieces: 2 new pieces, 4 buffers given back",
+            alone(4, room(0, 2, 2)).given(4),
+        ),
+        (
+            "50 pieces: 25 new pieces, 50 buffers given back",
+            alone(50, room(0, 25, 25)).given(50),
         ),
     ]
 }
@@ -587,8 +645,8 @@ fn nothing(_pool: &mut [u8], _storage: &mut [u8]) -> Answer {
     black_box(Answer { code: 0, number: 0 })
 }
 
-/// Both ways leave the same bytes and answer, done, and the pool is sound before and after.
-fn compare(case: &Case) {
+/// Both ways leave the same bytes and answer, done, and the pool is sound before and after. Answers whether storage is written.
+fn compare(case: &Case) -> bool {
     let sound = |lent: &Lent| {
         let by_hand = by_hand::audit(&lent.pool, &lent.storage);
         fulcrumnest::calls::audit(&lent.pool, &lent.storage).code == 0 && by_hand.code == 0
@@ -601,6 +659,11 @@ fn compare(case: &Case) {
     let codes = (one.answer.code, one.shown.code, one.gathered.code);
     assert_eq!(codes, (0, 0, 0), "{}", case.name);
     assert!(sound(&one), "{}: the pool left", case.name);
+    // A buffer given back had a piece before and has none now.
+    let count = |lent: &Lent, b: usize| get16(&lent.pool, count_at(b));
+    let given = (0..buffers()).filter(|b| count(&case.lent, *b) > 0 && count(&one, *b) == 0);
+    let given = given.count();
+    assert_eq!(given, case.lent.given.unwrap_or(given), "{}", case.name);
     // All that was free is taken: the pool was full but for exactly that.
     let slips = (0..slips()).map(slip_at);
     let pieces = (0..pieces()).map(piece_at);
@@ -609,6 +672,7 @@ fn compare(case: &Case) {
         let taken = get16(&case.lent.pool, at) != 0 || get16(&one.pool, at) != 0;
         assert!(taken, "{}: byte {at} stays free", case.name);
     }
+    one.storage != case.lent.storage
 }
 
 fn main() {
@@ -631,8 +695,7 @@ fn main() {
         "empty" => |l| l.answer = nothing(&mut l.pool, &mut l.storage),
         _ => panic!("library, audit, yardstick, audited or empty"),
     };
-    compare(case);
-    let stores = ["put", "pullup", "pack"].contains(&case.operation.name);
+    let stores = compare(case);
     let mut lent = case.lent.clone();
     for _ in 0..times {
         lent.reset(&case.lent, stores);

@@ -45,7 +45,7 @@ pub fn put(pool: &mut [u8], storage: &mut [u8], data: &[u8]) -> Answer {
     }
 }
 
-/// Releases the head; the slip is vacant, and its serial one more.
+/// Releases the head; the slip is vacant, and its serial one more. Buffers given back are zeroed.
 pub fn free(pool: &mut [u8], storage: &mut [u8], slip: Slip) -> Answer {
     unsafe {
         ffi::slp_free(
@@ -89,7 +89,8 @@ pub fn cut(pool: &mut [u8], storage: &[u8], slip: Slip, offset: u32, length: u32
     }
 }
 
-/// Slip a reads as a then b; slip b is vacant, and its serial one more.
+/// Slip a reads as a then b; slip b is vacant, and its serial one more. No buffer is given back, and
+/// storage is unchanged.
 pub fn append(pool: &mut [u8], storage: &mut [u8], a: Slip, b: Slip) -> Answer {
     unsafe {
         ffi::slp_append(
@@ -105,7 +106,7 @@ pub fn append(pool: &mut [u8], storage: &mut [u8], a: Slip, b: Slip) -> Answer {
     }
 }
 
-/// The first n bytes go.
+/// The first n bytes go. Buffers given back are zeroed.
 pub fn drop(pool: &mut [u8], storage: &mut [u8], slip: Slip, n: u32) -> Answer {
     unsafe {
         ffi::slp_drop(
@@ -120,7 +121,7 @@ pub fn drop(pool: &mut [u8], storage: &mut [u8], slip: Slip, n: u32) -> Answer {
     }
 }
 
-/// The first n bytes stay.
+/// The first n bytes stay. Buffers given back are zeroed.
 pub fn keep(pool: &mut [u8], storage: &mut [u8], slip: Slip, n: u32) -> Answer {
     unsafe {
         ffi::slp_keep(
@@ -135,7 +136,8 @@ pub fn keep(pool: &mut [u8], storage: &mut [u8], slip: Slip, n: u32) -> Answer {
     }
 }
 
-/// The first n bytes come to lie in the first piece.
+/// The first n bytes come to lie in the first piece. Buffers given back are zeroed, once these are
+/// copied.
 pub fn pullup(pool: &mut [u8], storage: &mut [u8], slip: Slip, n: u32) -> Answer {
     unsafe {
         ffi::slp_pullup(
@@ -150,7 +152,8 @@ pub fn pullup(pool: &mut [u8], storage: &mut [u8], slip: Slip, n: u32) -> Answer
     }
 }
 
-/// The chain's bytes are put afresh under the same slip.
+/// The chain's bytes are put afresh under the same slip. Buffers given back are zeroed, once these
+/// are copied.
 pub fn pack(pool: &mut [u8], storage: &mut [u8], slip: Slip) -> Answer {
     unsafe {
         ffi::slp_pack(

@@ -22,6 +22,11 @@ use crate::slip::Slip;
 /// pieces in front of what stays, those that no other chain reaches: their numbers are then free for
 /// the call, their buffers are not.
 ///
+/// A buffer that loses its last piece, by [`free`](Pool::free), [`drop`](Pool::drop),
+/// [`keep`](Pool::keep), [`pullup`](Pool::pullup) or [`pack`](Pool::pack), is cleaned: all its 512
+/// bytes are zero after the call. No other call writes a buffer but to fill one that was free. So in
+/// a pool opened over zeroed storage every free buffer is zero.
+///
 /// ```
 /// use fulcrumnest::{Pool, Shape};
 ///
@@ -151,7 +156,8 @@ impl<'a> Pool<'a> {
 
     /// Gives up a chain and with it what nobody else holds; the slip is vacant and its serial one
     /// more, so that the old name is refused, also when the slip is given again. Once the serial has
-    /// come to 65,535 the slip is spent and not given again.
+    /// come to 65,535 the slip is spent and not given again. Buffers on which then no piece lies are
+    /// zeroed.
     ///
     /// Refused with [`Slip`](Refusal::Slip).
     ///
@@ -165,6 +171,8 @@ impl<'a> Pool<'a> {
     /// let other = pool.put(b"another")?;
     /// assert_eq!((other.number, other.serial), (slip.number, slip.serial + 1));
     /// assert_eq!(pool.free(slip), Err(Refusal::Slip));
+    /// pool.free(other)?;
+    /// assert_eq!(pool.storage(), [0; 2048]);
     /// # Ok::<(), Refusal>(())
     /// ```
     pub fn free(&mut self, slip: Slip) -> Result<(), Refusal> {
@@ -214,7 +222,7 @@ impl<'a> Pool<'a> {
     }
 
     /// Slip `a` reads as `a` and then `b`; `b` is vacant and its serial one more, as after
-    /// [`free`](Pool::free). Other slips read as before.
+    /// [`free`](Pool::free). Other slips read as before; no buffer is given back.
     ///
     /// Refused with [`Slip`](Refusal::Slip), [`Same`](Refusal::Same) or
     /// [`Pieces`](Refusal::Pieces): pieces of `a` that others hold too are replaced by new ones.
@@ -237,7 +245,7 @@ impl<'a> Pool<'a> {
     }
 
     /// The first `n` bytes go; of the whole length, an empty chain stays. Other slips read as
-    /// before.
+    /// before. Buffers in front of what stays on which then no piece lies are zeroed.
     ///
     /// Refused with [`Slip`](Refusal::Slip), [`Range`](Refusal::Range) or
     /// [`Pieces`](Refusal::Pieces), this never where the first piece is own.
@@ -259,7 +267,7 @@ impl<'a> Pool<'a> {
     }
 
     /// The first `n` bytes stay and the rest goes; of 0, an empty chain stays. Other slips read as
-    /// before.
+    /// before. Buffers behind what stays on which then no piece lies are zeroed.
     ///
     /// Refused with [`Slip`](Refusal::Slip), [`Range`](Refusal::Range) or
     /// [`Pieces`](Refusal::Pieces).
@@ -280,7 +288,7 @@ impl<'a> Pool<'a> {
     }
 
     /// The first `n` bytes, at most 512, come to lie in the first piece, where they don't already:
-    /// they are copied to a fresh buffer.
+    /// they are copied to a fresh buffer, and then those on which no piece lies any more are zeroed.
     ///
     /// Refused with [`Slip`](Refusal::Slip), [`Long`](Refusal::Long), [`Range`](Refusal::Range),
     /// [`Pieces`](Refusal::Pieces) or [`Buffers`](Refusal::Buffers).
@@ -302,7 +310,8 @@ impl<'a> Pool<'a> {
         done(calls::pullup(self.pool, self.storage, slip, n))
     }
 
-    /// Puts a chain of two or more pieces afresh under the same slip, in as few buffers as hold it.
+    /// Puts a chain of two or more pieces afresh under the same slip, in as few buffers as hold it;
+    /// the old ones on which then no piece lies are zeroed.
     ///
     /// Refused with [`Slip`](Refusal::Slip), [`Pieces`](Refusal::Pieces) or
     /// [`Buffers`](Refusal::Buffers).

@@ -544,6 +544,39 @@ fn gather() {
     assert_eq!(fulcrumnest::gather(&[], &[7], &mut []).unwrap(), b"");
 }
 
+/// Each call that gives buffers back leaves them zero, and the others as they were.
+#[test]
+fn given_back_is_clean() {
+    let mut memory = Memory::new(SHAPE);
+    let mut pool = memory.open(SHAPE);
+    let buffers = |pool: &Pool<'_>| {
+        let whole = pool.storage().chunks(BUFFER_LENGTH);
+        let zero = |buffer: &[u8]| buffer.iter().all(|byte| *byte == 0);
+        whole.map(zero).collect::<Vec<bool>>()
+    };
+    let slip = pool.put(&[7; 1_024]).unwrap();
+    let part = pool.cut(slip, 500, 30).unwrap();
+    assert_eq!(buffers(&pool), [false; 4]);
+    assert_eq!(pool.drop(slip, 600), Ok(()));
+    assert_eq!(buffers(&pool), [false; 4]);
+    assert_eq!(pool.drop(part, 12), Ok(()));
+    assert_eq!(buffers(&pool), [true, false, false, false]);
+    assert_eq!(pool.append(part, slip), Ok(()));
+    assert_eq!(buffers(&pool), [true, false, false, false]);
+    assert_eq!(pool.pullup(part, 442), Ok(()));
+    assert_eq!(buffers(&pool), [false, true, false, false]);
+    assert_eq!(bytes(&pool, part), [7; 442]);
+    let rest = pool.put(&[8; 80]).unwrap();
+    assert_eq!(pool.append(part, rest), Ok(()));
+    assert_eq!(pool.pack(part), Ok(()));
+    assert_eq!(buffers(&pool), [true, true, false, false]);
+    assert_eq!(bytes(&pool, part), [vec![7; 442], vec![8; 80]].concat());
+    assert_eq!(pool.keep(part, 512), Ok(()));
+    assert_eq!(buffers(&pool), [true, true, false, true]);
+    assert_eq!(pool.free(part), Ok(()));
+    assert_eq!(pool.storage(), [0; 2_048]);
+}
+
 /// A refused call leaves every byte of pool and storage.
 #[test]
 fn refusals_change_nothing() {

@@ -6,6 +6,7 @@ mod common;
 
 use std::time::Instant;
 
+use common::clean;
 use common::model::{Call, Name, Outcome, View, NO_VIEW, TRUE};
 use common::random::{Mood, SHAPES};
 use common::sequence::{largest, run_lists, run_on, setting, Tally, KINDS};
@@ -120,9 +121,10 @@ fn shown(shown: Shown, view: &mut View) -> Answer {
 }
 
 paper_cases! { step; serials }
+paper_cases! { step; clean }
 paper_cases! { step; morning; ten_rows, full_table_done, full_table_refused, }
 paper_cases! { step; scenarios;
-    reading_31_front_given_back, reading_32_room_in_front, reading_33_copied_first, full_table_of_the_largest,
+    reading_19_filled_whole, reading_31_front_given_back, reading_32_room_in_front, reading_33_copied_first, full_table_of_the_largest,
 }
 
 /// Random lists over all shapes: code, number and every byte after every call.
@@ -159,4 +161,20 @@ fn random_gathers() {
     let calls = setting("FULCRUMNEST_MODEL_CALLS", 300_000) / 4;
     let seed = setting("FULCRUMNEST_SEED", 2_000_000);
     wire::all_met(wire::run_gathers(step, seed, calls), calls);
+}
+
+/// Over zeroed storage every free buffer is zero after every call.
+#[test]
+fn zeroed_lists() {
+    let calls = setting("FULCRUMNEST_MODEL_CALLS", 300_000) / 6;
+    let seed = setting("FULCRUMNEST_SEED", 5_000_000);
+    clean::zeroed_lists(step, seed, calls);
+}
+
+/// Over old storage those given back are zero, and those neither taken nor given back keep every byte.
+#[test]
+fn old_lists() {
+    let calls = setting("FULCRUMNEST_MODEL_CALLS", 300_000) / 6;
+    let seed = setting("FULCRUMNEST_SEED", 5_000_000);
+    clean::old_lists(step, seed, calls);
 }

@@ -735,6 +735,46 @@ fn save_replaces() {
     assert_eq!(files(&place), ["plain", "pool", "storage"]);
 }
 
+/// The storage that is saved holds no byte of what was given back, and every byte of what is held.
+#[test]
+fn save_cleaned() {
+    let place = directory("save-cleaned");
+    let (pool, storage) = (named(&place, "pool"), named(&place, "storage"));
+    let filled = |bytes: &[u8]| [bytes, &vec![0; 512 - bytes.len()]].concat();
+    let bytes = data(1_100);
+    let (first, second) = (filled(&bytes[..512]), filled(&bytes[512..1_024]));
+    let clean = filled(b"");
+    let put = "pool 4 6 4\nput 1100\n";
+    for (calls, buffers) in [
+        ("free 0", [&clean; 4]),
+        (
+            "drop 0 600",
+            [&clean, &second, &filled(&bytes[1_024..]), &clean],
+        ),
+        ("keep 0 600", [&first, &second, &clean, &clean]),
+        (
+            "keep 0 600\npack 0",
+            [&clean, &clean, &first, &filled(&bytes[512..600])],
+        ),
+        (
+            "keep 0 600\ndrop 0 500\npullup 0 100",
+            [&clean, &clean, &filled(&bytes[500..600]), &clean],
+        ),
+        ("cut 0 0 5\nfree 0", [&first, &clean, &clean, &clean]),
+    ] {
+        let calls = format!("{put}{calls}\n");
+        let left = slp(&["save", "-", &pool, &storage], calls.as_bytes());
+        assert_eq!((left.err.as_str(), left.status), ("", 0));
+        assert_eq!(
+            fs::read(&storage).unwrap(),
+            buffers.map(|b| b.clone()).concat(),
+            "{calls}"
+        );
+        let left = slp(&["audit", &pool, &storage], b"");
+        assert_eq!((left.out.as_str(), left.status), ("audit -> done\n", 0));
+    }
+}
+
 /// A link stays a link, to a file replaced or made; another name of that file keeps the old bytes.
 #[test]
 fn save_by_links() {

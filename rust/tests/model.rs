@@ -1,10 +1,11 @@
-//! The model against the paper: its rows, edges and readings, the recount of demand 3, and the law
-//! of the wire list.
+//! The model against the paper: its rows, edges and readings, the recount of demand 3, the law of
+//! the wire list, and cleaned buffers.
 
 mod common;
 
 use std::time::Instant;
 
+use common::clean;
 use common::desk::{by_model, cut, dup, Desk};
 use common::model::{Call, Name, Tables, LAST, TRUE};
 use common::morning::{Full, FULL};
@@ -215,4 +216,20 @@ fn random_gathers() {
     let calls = setting("FULCRUMNEST_MODEL_CALLS", 300_000) / 4;
     let seed = setting("FULCRUMNEST_SEED", 1);
     wire::all_met(wire::run_gathers(by_model, seed, calls), calls);
+}
+
+/// Over zeroed storage every free buffer is zero after every call.
+#[test]
+fn zeroed_lists() {
+    let calls = setting("FULCRUMNEST_MODEL_CALLS", 300_000) / 3;
+    let seed = setting("FULCRUMNEST_SEED", 3_000_000);
+    clean::zeroed_lists(by_model, seed, calls);
+}
+
+/// Over old storage those given back are zero, and those neither taken nor given back keep every byte.
+#[test]
+fn old_lists() {
+    let calls = setting("FULCRUMNEST_MODEL_CALLS", 300_000) / 3;
+    let seed = setting("FULCRUMNEST_SEED", 3_000_000);
+    clean::old_lists(by_model, seed, calls);
 }

@@ -89,7 +89,7 @@ fn caught_after(mutant: &dyn Rules, first_seed: u64) -> Option<(u64, String)> {
 
 #[test]
 fn each_mutant_is_caught() {
-    assert!(MUTATIONS.len() >= 99, "{} mutants", MUTATIONS.len());
+    assert!(MUTATIONS.len() >= 117, "{} mutants", MUTATIONS.len());
     let mut free = Vec::new();
     for (name, mutant) in MUTATIONS {
         match caught_after(*mutant, 100) {

@@ -1,7 +1,7 @@
 /*
  * The calls from C, beside document 01: the ten marked rows of its morning with answers and every byte, its edges, full tables of pieces, the
- * serials of slips and spent ones, the refusals, the two views of show, the wire lists and their reader, and the macros of slp.h. What is lent
- * stands in memory of exactly its length, so that a checker of memory sees one byte too far.
+ * buffers given back and cleaned, the serials of slips and spent ones, the refusals, the two views of show, the wire lists and their reader, and
+ * the macros of slp.h. What is lent stands in memory of exactly its length, so that a checker of memory sees one byte too far.
  * C11 and C++17 alike. Exit status 0 only where every check holds.
  */
 #include <slp.h>
@@ -28,7 +28,7 @@ static_assert(sizeof(SLP_NUMBER(0)) == 2 && sizeof(SLP_SERIAL(0)) == 2, "16 bits
 #error "the lengths of the largest pool"
 #endif
 
-enum { OUTPUT = 64, OLD = 0xA5, LAST = SLP_LAST_SERIAL };
+enum { OUTPUT = 64, OLD = 238, LAST = SLP_LAST_SERIAL };
 
 /* What is answered for a slip at a serial; at serial 0 it is the slip's number alone. And an answered slip as the calls take it. */
 #define AT(slip, serial) ((slip) + 65536u * (serial))
@@ -311,7 +311,7 @@ static slp_answer row_call(int row, lent b)
     }
 }
 
-/* What a row writes into storage: a taken buffer holds its bytes, then zeros. */
+/* What a row writes into storage: a taken buffer holds its bytes, then zeros; one given back is zero. */
 static void row_storage(int row, uint8_t *storage)
 {
     uint8_t *data = morning_data(600);
@@ -322,12 +322,23 @@ static void row_storage(int row, uint8_t *storage)
     if (row == 8) {
         memset(storage + 1024, 0, 512);
         memcpy(storage + 1024, data + 500, 20);
+        memset(storage, 0, 512);
     }
     if (row == 9) {
-        memset(storage, 0, 512);
+        memset(storage, 0, 1536);
         memcpy(storage, data + 500, 40);
     }
+    if (row == 10) memset(storage, 0, 512);
     free(data);
+}
+
+/* Whether each of the buffers from `first` to before `end` is the wanted byte, all over. */
+static int all_over(lent b, size_t first, size_t end, int byte)
+{
+    for (size_t i = 512 * first; i < 512 * end; i++) {
+        if (b.storage[i] != byte) return 0;
+    }
+    return 1;
 }
 
 /* A row's answer, and every byte of pool and storage after it. */
@@ -361,6 +372,11 @@ static void morning(void)
         if (row == 6) ANSWERS(130, slp_length(LENT(b), NAME(1)));
         if (row == 9) ANSWERS(40, slp_read(LENT(b), NAME(1), 0, 40, b.output, OUTPUT));
         if (row == 9) CHECK(memcmp(b.output, packed, 40) == 0 && b.output[40] == OLD);
+        if (row < 8) CHECK(all_over(b, 2, 3, OLD));
+        if (row == 8) CHECK(all_over(b, 0, 1, 0));
+        if (row == 9) CHECK(memcmp(b.storage, packed, 40) == 0 && b.storage[40] == 0 && b.storage[511] == 0 && all_over(b, 1, 3, 0));
+        if (row == 10) CHECK(all_over(b, 0, 3, 0));
+        CHECK(all_over(b, 3, 4, OLD));
     }
     give_back(b);
     free(storage);
@@ -610,6 +626,167 @@ static void full_tables(void)
         give_back(before);
         give_back(b);
     }
+}
+
+/* The call is done, and storage is as before but for the buffers from `first` to before `end`, which are zero. */
+static void check_cleaned(slp_answer a, lent b, lent before, size_t first, size_t end, int line, const char *call)
+{
+    check(a.code == SLP_DONE && a.number == 0, line, call);
+    memset(before.storage + 512 * first, 0, 512 * (end - first));
+    check(memcmp(b.storage, before.storage, b.storage_length) == 0, line, "the call above cleans these buffers and writes no other");
+    check(slp_audit(LENT(b)).code == SLP_DONE, line, "the call above leaves a sound pool");
+    give_back(before);
+}
+#define CLEANS(b, first, end, call)                                     \
+    do {                                                                \
+        lent before = copy_of(b);                                       \
+        slp_answer answer = (call);                                     \
+        check_cleaned(answer, (b), before, (first), (end), __LINE__, #call); \
+    } while (0)
+/* The call writes no byte of storage. */
+#define CLEANS_NONE(b, call) CLEANS(b, 0, 0, call)
+
+/* The same of a call that also fills buffers from `filled` on with the slip's first n bytes, and then zeros. */
+#define FILLS_AND_CLEANS(b, filled, slip, n, first, end, call)          \
+    do {                                                                \
+        lent before = copy_of(b);                                       \
+        fill(before, (filled), (slip), (n));                            \
+        slp_answer answer = (call);                                     \
+        check_cleaned(answer, (b), before, (first), (end), __LINE__, #call); \
+    } while (0)
+
+/* Fills whole buffers from `filled` on with the slip's first n bytes, and then zeros. */
+static void fill(lent b, size_t filled, uint32_t slip, uint32_t n)
+{
+    uint8_t *out = lend(n, OLD);
+    ANSWERS(n, slp_read(LENT(b), NAME(slip), 0, n, out, n));
+    memset(b.storage + 512 * filled, 0, 512 * ((n + 511) / 512));
+    memcpy(b.storage + 512 * filled, out, n);
+    free(out);
+}
+
+/* free: a buffer is cleaned with the last piece on it, all 512 bytes, and not before. */
+static void cleaned_by_free(void)
+{
+    lent b = fresh(4, 8, 4);
+    put(b, 600);
+    ANSWERS(1, slp_cut(LENT(b), NAME(0), 500, 50));
+    CLEANS_NONE(b, slp_free(LENT(b), NAME(0)));
+    CHECK(reads(b, 1, 50, 500));
+    ANSWERS(AT(0, 1), slp_cut(LENT(b), NAME(1), 0, 12));
+    CLEANS(b, 1, 2, slp_free(LENT(b), NAME(1)));
+    CHECK(reads(b, AT(0, 1), 12, 500));
+    CLEANS(b, 0, 1, slp_free(LENT(b), NAME(AT(0, 1))));
+    CHECK(all_over(b, 0, 2, 0) && all_over(b, 2, 4, OLD));
+
+    /* The last piece is in the middle of its buffer, whose neighbours are in use, and free with old bytes. */
+    ANSWERS(AT(0, 2), put(b, 512));
+    ANSWERS(AT(1, 1), put(b, 512));
+    CLEANS_NONE(b, slp_drop(LENT(b), NAME(AT(1, 1)), 100));
+    CLEANS_NONE(b, slp_keep(LENT(b), NAME(AT(1, 1)), 50));
+    CLEANS(b, 1, 2, slp_free(LENT(b), NAME(AT(1, 1))));
+    CHECK(reads(b, AT(0, 2), 512, 0) && all_over(b, 1, 2, 0) && all_over(b, 2, 4, OLD));
+    give_back(b);
+}
+
+/* drop: the buffers wholly in front of what stays, across one border or more, and where a piece is wanted for what stays. */
+static void cleaned_by_drop(void)
+{
+    lent b = fresh(4, 8, 4);
+    put(b, 1100);
+    CLEANS(b, 0, 1, slp_drop(LENT(b), NAME(0), 512));
+    CLEANS_NONE(b, slp_drop(LENT(b), NAME(0), 100));
+    CLEANS(b, 1, 2, slp_drop(LENT(b), NAME(0), 422));
+    CHECK(reads(b, 0, 66, 1034));
+    CLEANS(b, 2, 3, slp_drop(LENT(b), NAME(0), 66));
+    CHECK(all_over(b, 0, 3, 0) && all_over(b, 3, 4, OLD));
+    give_back(b);
+
+    b = fresh(4, 8, 4);
+    put(b, 1100);
+    CLEANS(b, 0, 2, slp_drop(LENT(b), NAME(0), 1030));
+    CHECK(reads(b, 0, 70, 1030));
+    give_back(b);
+
+    b = fresh(4, 3, 4);
+    put(b, 600);
+    ANSWERS(1, slp_dup(LENT(b), NAME(0)));
+    CLEANS_NONE(b, slp_drop(LENT(b), NAME(1), 512));
+    CLEANS(b, 0, 1, slp_drop(LENT(b), NAME(0), 520));
+    CHECK(reads(b, 0, 80, 520) && reads(b, 1, 88, 512));
+    give_back(b);
+}
+
+/* keep: the buffers wholly behind what stays; where pieces are replaced, another slip holds them still. */
+static void cleaned_by_keep(void)
+{
+    lent b = fresh(4, 8, 4);
+    put(b, 1100);
+    CLEANS_NONE(b, slp_keep(LENT(b), NAME(0), 1030));
+    CLEANS(b, 2, 3, slp_keep(LENT(b), NAME(0), 600));
+    CHECK(reads(b, 0, 600, 0));
+    CLEANS(b, 1, 2, slp_keep(LENT(b), NAME(0), 512));
+    CLEANS_NONE(b, slp_keep(LENT(b), NAME(0), 1));
+    CLEANS(b, 0, 1, slp_keep(LENT(b), NAME(0), 0));
+    CHECK(all_over(b, 0, 3, 0) && all_over(b, 3, 4, OLD));
+    give_back(b);
+
+    b = fresh(4, 8, 4);
+    put(b, 1100);
+    ANSWERS(1, slp_dup(LENT(b), NAME(0)));
+    CLEANS_NONE(b, slp_keep(LENT(b), NAME(0), 520));
+    CLEANS(b, 2, 3, slp_free(LENT(b), NAME(1)));
+    CHECK(reads(b, 0, 520, 0));
+    give_back(b);
+}
+
+/* pullup and pack: what they copy is copied first, and a buffer on which a cut lies stays. */
+static void cleaned_by_pullup_and_pack(void)
+{
+    lent b = fresh(4, 8, 4);
+    put(b, 600);
+    CLEANS_NONE(b, slp_drop(LENT(b), NAME(0), 500));
+    FILLS_AND_CLEANS(b, 2, 0, 60, 0, 1, slp_pullup(LENT(b), NAME(0), 60));
+    CHECK(reads(b, 0, 100, 500));
+    FILLS_AND_CLEANS(b, 0, 0, 100, 1, 3, slp_pullup(LENT(b), NAME(0), 100));
+    CHECK(reads(b, 0, 100, 500) && all_over(b, 1, 3, 0) && all_over(b, 3, 4, OLD));
+    give_back(b);
+
+    b = fresh(4, 8, 4);
+    put(b, 600);
+    FILLS_AND_CLEANS(b, 2, 0, 600, 0, 2, slp_pack(LENT(b), NAME(0)));
+    FILLS_AND_CLEANS(b, 0, 0, 600, 2, 4, slp_pack(LENT(b), NAME(0)));
+    CHECK(reads(b, 0, 600, 0));
+    ANSWERS(1, slp_cut(LENT(b), NAME(0), 3, 5));
+    FILLS_AND_CLEANS(b, 2, 0, 600, 1, 2, slp_pack(LENT(b), NAME(0)));
+    CHECK(reads(b, 0, 600, 0) && reads(b, 1, 5, 3));
+    CLEANS(b, 0, 1, slp_free(LENT(b), NAME(1)));
+    give_back(b);
+}
+
+/* append, open and every refused call write no byte of storage; the audit does not ask whether what is free is clean. */
+static void cleaned_by_none(void)
+{
+    lent b = fresh(4, 8, 4);
+    put(b, 1100);
+    ANSWERS(1, slp_dup(LENT(b), NAME(0)));
+    ANSWERS(2, put(b, 7));
+    CLEANS_NONE(b, slp_append(LENT(b), NAME(0), NAME(2)));
+    CHECK(reads(b, 1, 1100, 0));
+    REFUSES(SLP_SLIP, b, slp_free(LENT(b), NAME(AT(0, 1))));
+    REFUSES(SLP_RANGE, b, slp_drop(LENT(b), NAME(0), 1108));
+    REFUSES(SLP_RANGE, b, slp_keep(LENT(b), NAME(0), 1108));
+    REFUSES(SLP_PIECES, b, slp_pack(LENT(b), NAME(0)));
+    CLEANS_NONE(b, slp_free(LENT(b), NAME(1)));
+    REFUSES(SLP_BUFFERS, b, slp_pack(LENT(b), NAME(0)));
+    ANSWERS(0, slp_drop(LENT(b), NAME(0), 1));
+    REFUSES(SLP_BUFFERS, b, slp_pullup(LENT(b), NAME(0), 512));
+    CLEANS_NONE(b, slp_open(LENT(b), 4, 8, 4));
+    ANSWERS(0, put(b, 3));
+    CLEANS(b, 0, 1, slp_free(LENT(b), NAME(0)));
+    CHECK(!all_over(b, 1, 2, 0) && !all_over(b, 2, 3, 0) && !all_over(b, 3, 4, 0) && fresh_but_serials(b));
+    IDLE(b, slp_audit(LENT(b)));
+    give_back(b);
 }
 
 /* The serials of a pool with four slips. */
@@ -987,7 +1164,7 @@ static void largest(void)
     REFUSES(SLP_SLIPS, b, slp_dup(LENT(b), NAME(1)));
     CHECK(reads(b, SLP_MOST_SLIPS - 1, all - 100, 100));
     for (uint32_t s = 0; s < SLP_MOST_SLIPS; s++) ANSWERS(0, slp_free(LENT(b), NAME(AT(s, s == 0))));
-    CHECK(fresh_but_serials(b));
+    CHECK(fresh_but_serials(b) && all_over(b, 0, SLP_MOST_BUFFERS, 0));
     for (unsigned s = 0; s < SLP_MOST_SLIPS; s++) CHECK(word_at(b, serial_at(s)) == 1u + (s == 0));
     give_back(b);
 }
@@ -1027,6 +1204,11 @@ int main(void)
     edges_of_put();
     edges_of_others();
     full_tables();
+    cleaned_by_free();
+    cleaned_by_drop();
+    cleaned_by_keep();
+    cleaned_by_pullup_and_pack();
+    cleaned_by_none();
     old_names();
     serials_of_append();
     spent_slips();

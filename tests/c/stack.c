@@ -189,6 +189,7 @@ static void listed(void)
     X(drop, long_front, SLP_DONE, ended, slp_drop(LENT, NAME(0), ALL - 1)) \
     X(drop, pieces, SLP_PIECES, headed, slp_drop(LENT, NAME(1), 600)) \
     X(keep, own, SLP_DONE, longest, slp_keep(LENT, NAME(0), LONGEST - 1)) \
+    X(keep, front, SLP_DONE, longest, slp_keep(LENT, NAME(0), 1)) \
     X(keep, shared, SLP_DONE, shared, slp_keep(LENT, NAME(0), 400000)) \
     X(keep, torn, SLP_TORN, torn, slp_keep(LENT, NAME(0), 1)) \
     X(keep, slip, SLP_SLIP, longest, slp_keep(LENT, NAME(1), 1)) \

@@ -21,8 +21,9 @@ use Rattle.rules.specs.Rule.{_⇐_, firstCode, Name, name, unnamed, want, noVie
 use Rattle.rules.specs.Append.{notOwn, oneEmpty, joined, appended, appendAfter}
 use Rattle.rules.specs.Step.{Append, Result, rule, stateIn, perform}
 use Rattle.rules.proofs.Logic.{if-T, if-F, eq→eqb, or-left, or-right, or-cases}
-use Rattle.rules.proofs.Codes.{first-yes, first-no, first-none, named-all}
-use Rattle.rules.proofs.Writes.{joined-storage}
+use Rattle.rules.proofs.Moves.{SoundNow}
+use Rattle.rules.proofs.Codes.{first-yes, first-no, first-none, named, named-all}
+use Rattle.rules.proofs.Append.{joined-is}
 use Rattle.rules.proofs.Bytes.{AllBytes}
 use Rattle.layout.specs.declared.Shape.{Shape}
 use Rattle.tables.specs.Shape.{Holds}
@@ -148,8 +149,10 @@ module _ (p st : List ℕ) (x y : Name) where
           append-pieces l = perform-pieces (Append x y) (lent p st) early (omega arith) (omega (arith, others-wanted))
 
           -- the two are joined
-          pub append-joined : {o : Outcome} {w : SlipState} {q : List ℕ} {g : Shape} → length (notOwn (decode p) a) ≤ length (freePieces (decode p))
+          pub append-joined : {o : Outcome} {w : SlipState} {q : List ℕ} {g : Shape} → SoundNow (decode p)
+              → length (notOwn (decode p) a) ≤ length (freePieces (decode p))
               → o ≡ Done (record { state = w; number = 0 }) → AllBytes q → Holds q g (aged (joined a b (stateIn (lent p st)) .tables) b) → resultOf o q st [] noView ≡ perform (Append x y) (lent p st)
-          append-joined l d c is =
+          append-joined h l d c is =
               let S = stateIn (lent p st) in
-              left (omega (arith, others-wanted)) d c _ (after-joined S a b some more) (joined-storage a b S) is
+              let same = ap (λ (X : State). X .storage) (joined-is a b S apart (named (decode p) x u .0) (named (decode p) y v .0) h) in
+              left (omega (arith, others-wanted)) d c _ (after-joined S a b some more) same is

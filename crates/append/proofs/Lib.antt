@@ -1,3 +1,4 @@
 -- The laws of append.
+pub mod Linked
 pub mod Ready
 pub mod Laws

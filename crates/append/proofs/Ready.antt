@@ -1,22 +1,25 @@
--- The tables on the way of a join: b is made vacant after the new pieces, if any, are built, and what stands before the hanging is sound. Assumes nothing.
-use mathlib.Core.Path.{_≡_, sym, ap, subst, _∙_}
-use mathlib.Core.List.{List, []}
-use Prim.Native.Nat.{ℕ, _-_, _≤_, _<_}
+-- The tables on the way of a join: new pieces, if any, are built, b is made vacant, they are linked, and what stood there loses a reference. Assumes nothing.
+use mathlib.Core.Path.{_≡_, refl, sym, ap, subst, _∙_}
+use mathlib.Core.List.{List, [], _∷_}
+use Prim.Native.Nat.{ℕ, zero, suc, _-_, _≤_, _<_}
 use native.Mathlib.Omega.{arith}
 use lib.ListN.{length}
 use Rattle.kinds.specs.Limits.{mostPieces}
 use Rattle.rules.specs.Basics.{Is}
-use Rattle.rules.specs.Tables.{Tables, piece, headOf, vacant, pieceTotal, setSlip}
+use Rattle.rules.specs.Tables.{Tables, piece, headOf, vacant, slipTotal, pieceTotal, setSlip}
 use Rattle.rules.specs.Bytes.{decode}
-use Rattle.rules.specs.Chain.{Stretch, follow, ownOf, cutOut, withTables}
+use Rattle.rules.specs.Chain.{State, Stretch, follow, ownOf, cutOut}
 use Rattle.rules.specs.Sound.{linkOk, lent}
 use Rattle.rules.specs.Room.{freePieces}
+use Rattle.rules.specs.Release.{lowered}
 use Rattle.rules.specs.Build.{built, builtLink}
 use Rattle.rules.specs.Append.{notOwn, joined}
 use Rattle.rules.specs.Step.{stateIn}
 use Rattle.rules.proofs.Audit.{tables-now}
 use Rattle.rules.proofs.Codes.{named}
-use Rattle.rules.proofs.Append.{ready, readyLink, join-ready}
+use Rattle.rules.proofs.Moves.{used-in-range}
+use Rattle.rules.proofs.Release.{Shared, unshared}
+use Rattle.rules.proofs.Append.{ready, readyLink, linkBehind, linkedBehind, own-follow, joined-shared, joined-is}
 use Rattle.layout.specs.declared.Shape.{Shape}
 use Rattle.tables.specs.Shape.{Holds}
 use Rattle.tables.proofs.Laws.{whole, total-pieces}
@@ -28,12 +31,24 @@ use Rattle.own.specs.declared.OwnRun.{OwnRun}
 use Rattle.own.specs.Own.{lastLink, ownRun}
 use Rattle.own.proofs.Own.{OwnLaws, own-laws}
 use Rattle.answer.proofs.New.{new-link}
-use Rattle.release.specs.Hang.{Hangable, hungTo}
-use Rattle.release.proofs.Behind.{behind-tables, hangable}
 use Rattle.build.proofs.Forward.{built-slip}
-use Rattle.append.specs.Join.{goodName, Joinable}
+use Rattle.append.specs.Join.{goodName, Joinable, linked}
 
--- the tables of r are those before the hanging, and first is the link held there
+-- a link put behind own pieces
+linked-behind : (T : Tables) (s n : ℕ) (own : List ℕ) → linked T s (lastLink own) n ≡ linkedBehind T s own n
+linked-behind T s n [] = refl
+linked-behind T s n (d ∷ ds) = refl
+
+-- a link that leads to a piece, and is shared
+shared-at : (T : Tables) (n : ℕ) → (n ≡ 0 → ⊥) → Shared T n → 1 < piece T (n - 1) .count
+shared-at T zero z h = absurd (z refl)
+shared-at T (suc d) z h = let e : suc d - 1 ≡ d = omega arith in omega (arith, ap (λ x. piece T x .count) e)
+
+unshared-at : (T : Tables) (n : ℕ) → (n ≡ 0 → ⊥) → lowered T (n - 1) ≡ unshared T n
+unshared-at T zero z = absurd (z refl)
+unshared-at T (suc d) z = let e : suc d - 1 ≡ d = omega arith in ap (lowered T) e
+
+-- the tables of r are those before the linking, and first is the link held there
 pub record IsReady (T : Tables) (a b : ℕ) (r : List ℕ) (first : ℕ) : Type 0 where
   pub is : decode r ≡ ready T a b
   pub link : first ≡ readyLink T a b
@@ -58,6 +73,20 @@ module _ {p : List ℕ} {h : Shape} {a b head tail : ℕ} (o : Opened p h) (j : 
       let b-ok = o .sound .slips-ok b (named T (goodName T b) (j .b-named) .0) in
       omega (arith, link-leads T (headOf T b) (o .sound) b-ok (λ z. j .tail-some (j .tail-is ∙ z)) .below)
 
+  -- the rule: what stands behind a's own pieces is shared, and loses a reference
+  abbrev a-below : a < slipTotal T
+  a-below = named T (goodName T a) (j .a-named) .0
+
+  abbrev b-below : b < slipTotal T
+  b-below = named T (goodName T b) (j .b-named) .0
+
+  rule-is : (st : List ℕ) → joined a b (stateIn (lent p st)) .tables
+      ≡ unshared (linkedBehind (ready T a b) a (ownOf T a) (readyLink T a b)) (linkBehind T (headOf T a) (ownOf T a))
+  rule-is st = ap (λ (X : State). X .tables) (joined-is a b (stateIn (lent p st)) (j .apart) a-below b-below (tables-now T (o .sound)))
+
+  old-rule : Shared (linkedBehind (ready T a b) a (ownOf T a) (readyLink T a b)) (linkBehind T (headOf T a) (ownOf T a))
+  old-rule = joined-shared a b (stateIn (lent p [])) (j .apart) a-below b-below (tables-now T (o .sound))
+
   -- the link to a's head is good
   pub head-ok : Is (linkOk T head)
   head-ok = subst (λ (x : ℕ). Is (linkOk T x)) (sym (j .head-is)) a-ok
@@ -74,6 +103,10 @@ module _ {p : List ℕ} {h : Shape} {a b head tail : ℕ} (o : Opened p h) (j : 
     next-is : own .next ≡ follow T (length (ownOf T a)) (headOf T a)
     unfolding ownRun
     next-is = ap (λ (r : OwnRun). r .next) run-is
+
+    -- what stands behind them
+    old-is : own .next ≡ linkBehind T (headOf T a) (ownOf T a)
+    old-is = next-is ∙ own-follow (pieceTotal T) (headOf T a) T
 
     laws : OwnLaws T (headOf T a) (ownOf T a) (own .next)
     laws = subst (OwnLaws T (headOf T a) (ownOf T a)) (sym next-is) (own-laws (pieceTotal T) (headOf T a) T (o .sound) a-ok)
@@ -128,16 +161,34 @@ module _ {p : List ℕ} {h : Shape} {a b head tail : ℕ} (o : Opened p h) (j : 
       pub first-small : first < 65535
       first-small = omega (arith, new-link T (notOwn T a) (headOf T b) (it .link) tail-most, few)
 
-      pub join-hangable : Hangable (decode r) (own .last) first
-      join-hangable =
-          let y = join-ready T a b (j .apart) (named T (goodName T a) (j .a-named) .0) (named T (goodName T b) (j .b-named) .0) (tables-now T (o .sound)) in
-          rw (it .is, last-is, it .link) (hangable (ready T a b) a (readyLink T a b) (ownOf T a) (y .below) (y .own) (y .held))
+      -- once it is linked the tables are the rule's
+      linked-is : {x : List ℕ} → Holds x h (linked (decode r) a (own .last) first) → decode x ≡ linkedBehind (ready T a b) a (ownOf T a) (readyLink T a b)
+      linked-is is = is .is ∙ (λ i. linked (it .is i) a (last-is i) (it .link i)) ∙ linked-behind (ready T a b) a (readyLink T a b) (ownOf T a)
 
-      -- what the hanging leaves is the rule's
-      pub join-after : (st : List ℕ) {x : List ℕ} → Holds x h (hungTo (decode r) a (own .last) first) → Holds x h (joined a b (stateIn (lent p st)) .tables)
-      unfolding joined
-      join-after st is =
-          let S = stateIn (lent p st) in
-          let e : hungTo (decode r) a (own .last) first ≡ joined a b S .tables =
-          (λ i. hungTo (it .is i) a (last-is i) (it .link i)) ∙ sym (behind-tables (withTables S (ready T a b)) a (readyLink T a b) (ownOf T a)) in
-          record { shaped = is .shaped; is = is .is ∙ e }
+      -- where nothing stood there, that is all
+      pub join-all : (st : List ℕ) {x : List ℕ} → own .next ≡ 0 → Holds x h (linked (decode r) a (own .last) first)
+          → Holds x h (joined a b (stateIn (lent p st)) .tables)
+      join-all st z is =
+          let J = linkedBehind (ready T a b) a (ownOf T a) (readyLink T a b) in
+          record { shaped = is .shaped; is = linked-is is ∙ ap (unshared J) (sym z ∙ old-is) ∙ sym (rule-is st) }
+
+      module _ (some : own .next ≡ 0 → ⊥) {x : List ℕ} (was : Holds x h (linked (decode r) a (own .last) first)) where
+        -- what stood there has another reference
+        pub old-shared : 1 < piece (decode x) (own .next - 1) .count
+        old-shared =
+            let J = linkedBehind (ready T a b) a (ownOf T a) (readyLink T a b) in
+            subst (λ (U : Tables). 1 < piece U (own .next - 1) .count) (sym (linked-is was))
+            (shared-at J (own .next) some (subst (Shared J) (sym old-is) old-rule))
+
+        pub old-below : own .next - 1 < h .pieces
+        old-below = omega (arith, used-in-range (decode x) (own .next - 1) (omega (arith, old-shared)), total-pieces (whole (was .shaped)))
+
+        -- and it loses one
+        pub join-lowered : (st : List ℕ) {y : List ℕ} → Holds y h (lowered (decode x) (own .next - 1)) → Holds y h (joined a b (stateIn (lent p st)) .tables)
+        join-lowered st is =
+            let J = linkedBehind (ready T a b) a (ownOf T a) (readyLink T a b) in
+            record {
+              shaped = is .shaped;
+              is = is .is ∙ ap (λ (U : Tables). lowered U (own .next - 1)) (linked-is was) ∙ unshared-at J (own .next) some ∙ ap (unshared J) old-is
+                  ∙ sym (rule-is st);
+            }

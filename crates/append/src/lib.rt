@@ -1,22 +1,45 @@
 // append: one chain behind another, over a's own pieces and new ones for those that others hold.
 use kinds::Outcome;
+use kinds::PieceNumber;
 use kinds::Refusal;
 use kinds::Serial;
 use kinds::SlipNumber;
 use layout::Shape;
 ghost use mathlib.Core.Path.{_≡_};
 ghost use mathlib.Core.List.{List, []};
-ghost use Prim.Native.Nat.{ℕ, _<_};
+ghost use Prim.Native.Nat.{ℕ, _≤_, _<_};
 ghost use Rattle.kinds.specs.SlipState.{stateOf};
-ghost use Rattle.rules.specs.Tables.{slip, aged};
+ghost use Rattle.rules.specs.Tables.{slip, piece, aged};
 ghost use Rattle.rules.specs.Bytes.{decode};
 ghost use Rattle.rules.specs.Sound.{lent};
+ghost use Rattle.rules.specs.Release.{lowered};
 ghost use Rattle.rules.specs.Rule.{name, noView};
 ghost use Rattle.rules.specs.Step.{Append, perform};
 ghost use Rattle.tables.specs.Shape.{Shaped, Becomes};
 ghost use Rattle.chain.specs.Opened.{Opened};
 ghost use Rattle.answer.specs.Result.{resultOf, Leaves};
-ghost use Rattle.append.specs.Join.{goodName, Joinable};
+ghost use Rattle.append.specs.Join.{goodName, Joinable, linked};
+
+// The link `n` goes behind the piece that `last` leads to, or under slip `s` where that is 0: a tail linked.
+fn link(pool: &mut [u8], shape: Shape, s: SlipNumber, last: u16, n: u16)
+    requires { ⌜ Shaped (now pool) shape × (s .0 < shape .slips) × (last ≤ shape .pieces) × (n < 65535) ⌝ }
+    ensures { λ _. ⌜ Becomes (now (pool .entry)) (now (pool .exit)) shape (λ T. linked T (s .0) last n) ⌝ }
+{
+    if last == 0 {
+        tables::set_slip(pool, shape, s, n + 1);
+        return;
+    }
+    tables::set_piece_next(pool, shape, PieceNumber(last - 1), n);
+}
+
+// Gives up a reference to piece `d`, which has another, so nothing is freed: a count lowered.
+fn lower(pool: &mut [u8], shape: Shape, d: PieceNumber)
+    requires { ⌜ Shaped (now pool) shape × (d .0 < shape .pieces) × (1 < piece (decode (now pool)) (d .0) .count) ⌝ }
+    ensures { λ _. ⌜ Becomes (now (pool .entry)) (now (pool .exit)) shape (λ T. lowered T (d .0)) ⌝ }
+{
+    let n = tables::piece_count(pool, shape, d);
+    tables::set_piece_count(pool, shape, d, n - 1);
+}
 
 // Slip `b` is vacant, and its serial goes up; the answer is slip `a`'s: a handle retired.
 fn retire(pool: &mut [u8], shape: Shape, a: SlipNumber, b: SlipNumber) -> Outcome
@@ -47,7 +70,7 @@ fn join(
     let next = own.next;
     if next == 0 {
         tables::set_slip(pool, shape, b, 0);
-        release::hang(pool, shape, a, last, tail);
+        link(pool, shape, a, last, tail);
         return retire(pool, shape, a, b);
     }
     let pieces = chain::pieces_from(pool, shape, next);
@@ -58,7 +81,8 @@ fn join(
     let lowest = room.lowest;
     let first = build::copy_pieces(pool, shape, next, 0, u32::MAX, pieces, lowest, tail);
     tables::set_slip(pool, shape, b, 0);
-    release::hang(pool, shape, a, last, first);
+    link(pool, shape, a, last, first);
+    lower(pool, shape, PieceNumber(next - 1));
     retire(pool, shape, a, b)
 }
 

@@ -1,4 +1,4 @@
-// The bodies of free, append, drop and keep, which change chains and write no storage: each audits and then does its operation.
+// The bodies of free, append, drop and keep, which change chains: each audits and then does its operation. append gives no buffer back and writes no storage.
 use kinds::Answer;
 use kinds::Refusal;
 use kinds::Serial;
@@ -11,8 +11,8 @@ ghost use Rattle.rules.specs.Step.{Free, Append, Drop, Keep, Do, step};
 ghost use Rattle.calls.specs.Result.{resultOf};
 
 // free: a slip gives up its chain.
-pub fn free(pool: &mut [u8], storage: &[u8], slip: SlipNumber, serial: Serial) -> Answer
-    ensures { λ r. ⌜ resultOf r (now (pool .exit)) (now (storage .entry)) [] noView
+pub fn free(pool: &mut [u8], storage: &mut [u8], slip: SlipNumber, serial: Serial) -> Answer
+    ensures { λ r. ⌜ resultOf r (now (pool .exit)) (now (storage .exit)) [] noView
         ≡ step (Do (Free (name (slip .0) (serial .0)))) (lent (now (pool .entry)) (now (storage .entry))) ⌝ }
 {
     let audited = audit::audit(pool, storage.len());
@@ -20,7 +20,7 @@ pub fn free(pool: &mut [u8], storage: &[u8], slip: SlipNumber, serial: Serial) -
         return calls::refused(Refusal::Torn);
     }
     let shape = audited.shape;
-    kinds::answer_of(free::free(pool, shape, slip, serial))
+    kinds::answer_of(free::free(pool, shape, storage, slip, serial))
 }
 
 // append: one chain behind another.
@@ -44,8 +44,8 @@ pub fn append(
 }
 
 // drop: the first bytes of a chain go.
-pub fn drop(pool: &mut [u8], storage: &[u8], slip: SlipNumber, serial: Serial, n: u32) -> Answer
-    ensures { λ r. ⌜ resultOf r (now (pool .exit)) (now (storage .entry)) [] noView
+pub fn drop(pool: &mut [u8], storage: &mut [u8], slip: SlipNumber, serial: Serial, n: u32) -> Answer
+    ensures { λ r. ⌜ resultOf r (now (pool .exit)) (now (storage .exit)) [] noView
         ≡ step (Do (Drop (name (slip .0) (serial .0)) n)) (lent (now (pool .entry)) (now (storage .entry))) ⌝ }
 {
     let audited = audit::audit(pool, storage.len());
@@ -53,12 +53,12 @@ pub fn drop(pool: &mut [u8], storage: &[u8], slip: SlipNumber, serial: Serial, n
         return calls::refused(Refusal::Torn);
     }
     let shape = audited.shape;
-    kinds::answer_of(drop::drop_first(pool, shape, slip, serial, n))
+    kinds::answer_of(drop::drop_first(pool, shape, storage, slip, serial, n))
 }
 
 // keep: the first bytes of a chain stay.
-pub fn keep(pool: &mut [u8], storage: &[u8], slip: SlipNumber, serial: Serial, n: u32) -> Answer
-    ensures { λ r. ⌜ resultOf r (now (pool .exit)) (now (storage .entry)) [] noView
+pub fn keep(pool: &mut [u8], storage: &mut [u8], slip: SlipNumber, serial: Serial, n: u32) -> Answer
+    ensures { λ r. ⌜ resultOf r (now (pool .exit)) (now (storage .exit)) [] noView
         ≡ step (Do (Keep (name (slip .0) (serial .0)) n)) (lent (now (pool .entry)) (now (storage .entry))) ⌝ }
 {
     let audited = audit::audit(pool, storage.len());
@@ -66,5 +66,5 @@ pub fn keep(pool: &mut [u8], storage: &[u8], slip: SlipNumber, serial: Serial, n
         return calls::refused(Refusal::Torn);
     }
     let shape = audited.shape;
-    kinds::answer_of(keep::keep(pool, shape, slip, serial, n))
+    kinds::answer_of(keep::keep(pool, shape, storage, slip, serial, n))
 }

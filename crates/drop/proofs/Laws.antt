@@ -22,7 +22,6 @@ use Rattle.rules.specs.Drop.{dropped, dropBack, dropAfter}
 use Rattle.rules.specs.Step.{Drop, rule, stateIn, perform}
 use Rattle.rules.proofs.Logic.{if-T, if-F, eq→eqb}
 use Rattle.rules.proofs.Codes.{first-yes, first-no, first-none}
-use Rattle.rules.proofs.Writes.{freed-storage}
 use Rattle.rules.proofs.Drop.{drop-none}
 use Rattle.rules.proofs.Bytes.{AllBytes}
 use Rattle.layout.specs.declared.Shape.{Shape}
@@ -95,17 +94,19 @@ module _ (p st : List ℕ) (x : Name) (n : ℕ) where
           ∙ perform-all (Drop x n) (lent p st) early (omega arith) (omega (arith, ap length (drop-none T true (chain T s) n z))) (omega arith)
 
       -- what stays is under the slip
-      pub drop-done : {o : Outcome} {v : SlipState} {q : List ℕ} {h : Shape} → (n ≡ 0 → ⊥) → length (dropped (decode p) s n .more) ≤ length (dropBack (decode p) s n) + length (freePieces (decode p))
+      pub drop-done : {o : Outcome} {v : SlipState} {q sq : List ℕ} {h : Shape} → (n ≡ 0 → ⊥)
+          → length (dropped (decode p) s n .more) ≤ length (dropBack (decode p) s n) + length (freePieces (decode p))
           → o ≡ Done (record { state = v; number = 0 }) → AllBytes q
-          → ((S : State) → Holds q h (underFreed S (dropped (decode p) s n) s .tables)) → resultOf o q st [] noView ≡ perform (Drop x n) (lent p st)
+          → Holds q h (underFreed (stateIn (lent p st)) (dropped (decode p) s n) s .tables)
+          → sq ≡ underFreed (stateIn (lent p st)) (dropped (decode p) s n) s .storage
+          → resultOf o q sq [] noView ≡ perform (Drop x n) (lent p st)
       unfolding rule dropAfter
-      drop-done i l a b is =
+      drop-done i l a b now cleans =
           let T = decode p in
           let S = stateIn (lent p st) in
           let r = underFreed S (dropped T s n) s in
           let e : dropAfter s n S ≡ r = if-F (eqb n 0) _ _ (λ t. i (eqb→eq n 0 t)) in
-          let now = is S in
           changed _ (giving (dropBack T s n) (length (dropped T s n .more)) 0) 0 (dropAfter s n S) a refl b
           (record { shaped = now .shaped; is = now .is ∙ sym (ap (λ (X : State). X .tables) e) })
-          (sym (ap (λ (X : State). X .storage) e ∙ freed-storage S (dropped T s n) s))
+          (cleans ∙ sym (ap (λ (X : State). X .storage) e))
           ∙ perform-all (Drop x n) (lent p st) early (omega arith) l (omega arith)

@@ -5,21 +5,31 @@ use kinds::Serial;
 use kinds::SlipNumber;
 use layout::Shape;
 ghost use mathlib.Core.Path.{_≡_};
-ghost use mathlib.Core.List.{List, []};
-ghost use Prim.Native.Nat.{ℕ};
+ghost use mathlib.Core.List.{[]};
+ghost use lib.ListN.{length};
 ghost use Rattle.kinds.specs.SlipState.{stateOf};
+ghost use Rattle.rules.specs.Layout.{storageLength};
 ghost use Rattle.rules.specs.Tables.{slip};
 ghost use Rattle.rules.specs.Bytes.{decode};
 ghost use Rattle.rules.specs.Sound.{lent};
 ghost use Rattle.rules.specs.Rule.{name, noView};
 ghost use Rattle.rules.specs.Step.{Drop, perform};
+ghost use Rattle.tables.specs.Shape.{stockOf};
 ghost use Rattle.chain.specs.Opened.{Opened};
 ghost use Rattle.answer.specs.Result.{resultOf, Leaves};
 
 // Takes the first `n` bytes from the chain of slip `s`: a chain trimmed at its front.
-pub fn drop_first(pool: &mut [u8], shape: Shape, s: SlipNumber, serial: Serial, n: u32) -> Outcome
-    requires { ⌜ Opened (now pool) shape ⌝ }
-    ensures { λ r. ⌜ ((st : List ℕ) → resultOf r (now (pool .exit)) st [] noView ≡ perform (Drop (name (s .0) (serial .0)) n) (lent (now (pool .entry)) st)) ⌝ }
+pub fn drop_first(
+    pool: &mut [u8],
+    shape: Shape,
+    storage: &mut [u8],
+    s: SlipNumber,
+    serial: Serial,
+    n: u32,
+) -> Outcome
+    requires { ⌜ Opened (now pool) shape × (length (now storage) ≡ storageLength (stockOf shape) (shape .buffers)) ⌝ }
+    ensures { λ r. ⌜ resultOf r (now (pool .exit)) (now (storage .exit)) [] noView
+        ≡ perform (Drop (name (s .0) (serial .0)) n) (lent (now (pool .entry)) (now (storage .entry))) ⌝ }
     ensures { λ r. ⌜ Leaves r (stateOf (slip (decode (now (pool .exit))) (s .0))) ⌝ }
 {
     let entry = chain::enter(pool, shape, s, serial);
@@ -36,7 +46,7 @@ pub fn drop_first(pool: &mut [u8], shape: Shape, s: SlipNumber, serial: Serial, 
     }
     let wanted = rest::wanted(at.link, at.into, at.own);
     if wanted == 0 {
-        rest::move_to(pool, shape, s, at.link, at.into, at.own);
+        rest::move_to(pool, shape, storage, s, at.link, at.into, at.own);
         return answer::done(pool, shape, s, 0);
     }
     let room = front::room_in_front(pool, shape, head, wanted);
@@ -44,7 +54,7 @@ pub fn drop_first(pool: &mut [u8], shape: Shape, s: SlipNumber, serial: Serial, 
         return Outcome::Refused(Refusal::Pieces);
     }
     let from = room.from;
-    let tail = rest::give_back(pool, shape, s, at.link, at.into, at.own);
+    let tail = rest::give_back(pool, shape, storage, s, at.link, at.into, at.own);
     let link = rest::make(pool, shape, tail, from);
     tables::set_slip(pool, shape, s, link + 1);
     answer::done(pool, shape, s, 0)

@@ -28,7 +28,6 @@ use Rattle.rules.proofs.Hang.{own-front, own-short}
 use Rattle.rules.proofs.Audit.{tables-now}
 use Rattle.rules.proofs.Codes.{first-yes, first-no, first-none}
 use Rattle.rules.proofs.Keep.{shortened-ok, kept-good}
-use Rattle.rules.proofs.Writes.{kept-storage}
 use Rattle.rules.proofs.Bytes.{AllBytes}
 use Rattle.layout.specs.declared.Shape.{Shape}
 use Rattle.tables.specs.Shape.{Holds}
@@ -44,8 +43,8 @@ use Rattle.own.proofs.Own.{OwnLaws, own-laws}
 use Rattle.answer.specs.Result.{resultOf}
 use Rattle.answer.proofs.New.{new-link}
 use Rattle.answer.proofs.Perform.{perform-first, perform-none, perform-pieces, perform-all, changed}
-use Rattle.release.specs.Hang.{Hangable, hungTo}
-use Rattle.release.proofs.Behind.{behind-tables, hangable}
+use Rattle.release.specs.Hang.{Hangable, hungTo, hungStorage}
+use Rattle.release.proofs.Behind.{behind-tables, behind-storage, hangable}
 use Rattle.keep.specs.Shorten.{shortenedBy}
 use Rattle.keep.proofs.Stays.{cut-behind, cut-enough, own-reach, shortened-is}
 
@@ -55,6 +54,13 @@ kept-others : (S : State) (s : ℕ) (own : List ℕ) (xs rest : List Stretch) �
 unfolding keptBy
 kept-others S s own xs [] h = absurd (omega arith)
 kept-others S s own xs (y ∷ ys) h = refl
+
+-- the pool r and the storage `after` are what the rule makes of the pool p and the storage st
+abbrev pub Kept : List ℕ → List ℕ → Shape → ℕ → ℕ → List ℕ → List ℕ → Type 0
+Kept p st h s n r after =
+    let T = decode p in
+    let X = keptBy (stateIn (lent p st)) s (keptOwn T s n) (kept T s n) (keptNotOwn T s n) in
+    Holds r h (X .tables) × (after ≡ X .storage)
 
 -- ---- what the code finds before it acts
 
@@ -151,15 +157,22 @@ module _ {p : List ℕ} {h : Shape} {s n : ℕ} {own : OwnPart} (w : Seen p h s 
         let it = hangable T₁ s 0 mine (subst (λ (l : List ℕ). s < length l) (sym (ok .1)) (w .below)) (subst (λ (l : List ℕ). OwnList T₁ (pred (getD l s 0)) mine) (sym (ok .1)) (ok .2)) (ok .0 .0, reorder (λ x. omega arith) (ok .0 .1)) in
         rw (is .is ∙ short-is, own-last) it
 
-    -- and the rule's tables are what is left
-    pub short-after : (st : List ℕ) {q r : List ℕ} → Holds q h (shortenedBy T (own .last) (own .bytes - n)) → Holds r h (hungTo (decode q) s (own .last) 0)
-        → Holds r h (keptBy (stateIn (lent p st)) s mine (kept T s n) (keptNotOwn T s n) .tables)
+    -- and the rule's tables and storage are what is left
+    pub short-after : (st : List ℕ) {q r after : List ℕ} → Holds q h (shortenedBy T (own .last) (own .bytes - n))
+        → Holds r h (hungTo (decode q) s (own .last) 0) × (after ≡ hungStorage (decode q) st s (own .last) 0) → Kept p st h s n r after
     unfolding keptBy
-    short-after st was is =
+    short-after st {q} was (is, cleans) =
         let S = stateIn (lent p st) in
-        let e : hungTo (decode _) s (own .last) 0 ≡ keptBy S s mine (kept T s n) [] .tables =
-        (λ i. hungTo ((was .is ∙ short-is) i) s (own-last i) 0) ∙ sym (behind-tables (withTables S (shortened T mine (kept T s n))) s 0 mine) in
-        record { shaped = is .shaped; is = is .is ∙ e ∙ ap (λ (xs : List Stretch). keptBy S s mine (kept T s n) xs .tables) (sym no-others) }
+        let X = withTables S (shortened T mine (kept T s n)) in
+        let t : decode q ≡ shortened T mine (kept T s n) = was .is ∙ short-is in
+        let same = ap (keptBy S s mine (kept T s n)) (sym no-others) in
+        let e : hungTo (decode q) s (own .last) 0 ≡ keptBy S s mine (kept T s n) [] .tables =
+        (λ i. hungTo (t i) s (own-last i) 0) ∙ sym (behind-tables X s 0 mine) in
+        let c : hungStorage (decode q) st s (own .last) 0 ≡ keptBy S s mine (kept T s n) [] .storage =
+        (λ i. hungStorage (t i) st s (own-last i) 0) ∙ sym (behind-storage X s 0 mine) in (
+          record { shaped = is .shaped; is = is .is ∙ e ∙ ap (λ (Y : State). Y .tables) same },
+          cleans ∙ c ∙ ap (λ (Y : State). Y .storage) same,
+        )
 
   -- ---- some that stay are not own
 
@@ -200,14 +213,22 @@ module _ {p : List ℕ} {h : Shape} {s n : ℕ} {own : OwnPart} (w : Seen p h s 
         let it = hangable T₁ s (builtLink fs ys 0) mine (subst (λ (l : List ℕ). s < length l) (sym e) (w .below)) (subst (λ (l : List ℕ). OwnList T₁ (pred (getD l s 0)) mine) (sym e) o) ok in
         rw (is-built, own-last, is-link) it
 
-    pub new-after : own .bytes < n → (st : List ℕ) {r : List ℕ} → Holds r h (hungTo (decode q) s (own .last) first) → Holds r h (keptBy (stateIn (lent p st)) s mine (kept T s n) (keptNotOwn T s n) .tables)
-    new-after some st is =
+    pub new-after : own .bytes < n → (st : List ℕ) {r after : List ℕ}
+        → Holds r h (hungTo (decode q) s (own .last) first) × (after ≡ hungStorage (decode q) st s (own .last) first) → Kept p st h s n r after
+    new-after some st (is, cleans) =
         let S = stateIn (lent p st) in
         let fs = freePieces T in
         let ys = keptNotOwn T s n in
-        let e : hungTo (decode q) s (own .last) first ≡ behindOwn (withTables S (built T fs ys 0)) s mine (builtLink fs ys 0) .tables =
-        (λ i. hungTo (is-built i) s (own-last i) (is-link i)) ∙ sym (behind-tables (withTables S (built T fs ys 0)) s (builtLink fs ys 0) mine) in
-        record { shaped = is .shaped; is = is .is ∙ e ∙ ap (λ (X : State). X .tables) (kept-others S s mine (kept T s n) ys (omega (arith, few, not-all some, length-drop (length mine) (kept T s n)))) }
+        let l = builtLink fs ys 0 in
+        let X = withTables S (built T fs ys 0) in
+        let same = kept-others S s mine (kept T s n) ys (omega (arith, few, not-all some, length-drop (length mine) (kept T s n))) in
+        let e : hungTo (decode q) s (own .last) first ≡ behindOwn X s mine l .tables =
+        (λ i. hungTo (is-built i) s (own-last i) (is-link i)) ∙ sym (behind-tables X s l mine) in
+        let c : hungStorage (decode q) st s (own .last) first ≡ behindOwn X s mine l .storage =
+        (λ i. hungStorage (is-built i) st s (own-last i) (is-link i)) ∙ sym (behind-storage X s l mine) in (
+          record { shaped = is .shaped; is = is .is ∙ e ∙ ap (λ (Y : State). Y .tables) same },
+          cleans ∙ c ∙ ap (λ (Y : State). Y .storage) same,
+        )
 
 -- ---- the answers
 
@@ -262,16 +283,15 @@ module _ (p st : List ℕ) (x : Name) (n : ℕ) where
         keep-pieces f = perform-pieces (Keep x n) (lent p st) early (omega arith) (omega (arith, wants-others))
 
         -- a part of the chain stays
-        pub keep-done : {o : Outcome} {v : SlipState} {q : List ℕ} {h : Shape} → length (keptNotOwn (decode p) s n) ≤ length (freePieces (decode p)) → o ≡ Done (record { state = v; number = 0 }) → AllBytes q
-            → Holds q h (keptBy (stateIn (lent p st)) s (keptOwn (decode p) s n) (kept (decode p) s n) (keptNotOwn (decode p) s n) .tables)
-            → resultOf o q st [] noView ≡ perform (Keep x n) (lent p st)
+        pub keep-done : {o : Outcome} {v : SlipState} {q after : List ℕ} {h : Shape} → length (keptNotOwn (decode p) s n) ≤ length (freePieces (decode p))
+            → o ≡ Done (record { state = v; number = 0 }) → AllBytes q → Kept p st h s n q after → resultOf o q after [] noView ≡ perform (Keep x n) (lent p st)
         unfolding rule keepAfter
-        keep-done f a b is =
+        keep-done f a b (is, cleans) =
             let T = decode p in
             let S = stateIn (lent p st) in
             let X = keptBy S s (keptOwn T s n) (kept T s n) (keptNotOwn T s n) in
             let same : X ≡ keepAfter s n S = sym (if-F (eqb n (lengthOf T s)) S X not-whole) in
             changed _ (want 0 (if eqb n (lengthOf T s) then 0 else length (keptNotOwn T s n)) 0) 0 (keepAfter s n S) a refl b
             (record { shaped = is .shaped; is = is .is ∙ ap (λ (Y : State). Y .tables) same })
-            (sym (kept-storage S s (keptOwn T s n) (kept T s n) (keptNotOwn T s n)) ∙ ap (λ (Y : State). Y .storage) same)
+            (cleans ∙ ap (λ (Y : State). Y .storage) same)
             ∙ perform-all (Keep x n) (lent p st) early (omega arith) (omega (arith, wants-others)) (omega arith)

@@ -6,15 +6,17 @@ use kinds::Serial;
 use kinds::SlipNumber;
 use layout::Shape;
 ghost use mathlib.Core.Path.{_≡_};
-ghost use mathlib.Core.List.{List, []};
-ghost use Prim.Native.Nat.{ℕ, _+_, _-_, _≤_, _<_};
+ghost use mathlib.Core.List.{[]};
+ghost use Prim.Native.Nat.{_+_, _-_, _≤_, _<_};
+ghost use lib.ListN.{length};
 ghost use Rattle.kinds.specs.SlipState.{stateOf};
+ghost use Rattle.rules.specs.Layout.{storageLength};
 ghost use Rattle.rules.specs.Tables.{slip, piece};
 ghost use Rattle.rules.specs.Bytes.{decode};
 ghost use Rattle.rules.specs.Sound.{lent};
 ghost use Rattle.rules.specs.Rule.{name, noView};
 ghost use Rattle.rules.specs.Step.{Keep, perform};
-ghost use Rattle.tables.specs.Shape.{Shaped, Becomes};
+ghost use Rattle.tables.specs.Shape.{Shaped, Becomes, stockOf};
 ghost use Rattle.chain.specs.Opened.{Opened};
 ghost use Rattle.answer.specs.Result.{resultOf, Leaves};
 ghost use Rattle.keep.specs.Shorten.{shortenedBy};
@@ -32,9 +34,17 @@ fn trim_end(pool: &mut [u8], shape: Shape, last: u16, over: u32)
 }
 
 // Keeps the first `n` bytes of the chain of slip `s`, in its own pieces and in new ones for those that others hold: a chain trimmed at its end.
-pub fn keep(pool: &mut [u8], shape: Shape, s: SlipNumber, serial: Serial, n: u32) -> Outcome
-    requires { ⌜ Opened (now pool) shape ⌝ }
-    ensures { λ r. ⌜ ((st : List ℕ) → resultOf r (now (pool .exit)) st [] noView ≡ perform (Keep (name (s .0) (serial .0)) n) (lent (now (pool .entry)) st)) ⌝ }
+pub fn keep(
+    pool: &mut [u8],
+    shape: Shape,
+    storage: &mut [u8],
+    s: SlipNumber,
+    serial: Serial,
+    n: u32,
+) -> Outcome
+    requires { ⌜ Opened (now pool) shape × (length (now storage) ≡ storageLength (stockOf shape) (shape .buffers)) ⌝ }
+    ensures { λ r. ⌜ resultOf r (now (pool .exit)) (now (storage .exit)) [] noView
+        ≡ perform (Keep (name (s .0) (serial .0)) n) (lent (now (pool .entry)) (now (storage .entry))) ⌝ }
     ensures { λ r. ⌜ Leaves r (stateOf (slip (decode (now (pool .exit))) (s .0))) ⌝ }
 {
     let entry = chain::enter(pool, shape, s, serial);
@@ -52,7 +62,7 @@ pub fn keep(pool: &mut [u8], shape: Shape, s: SlipNumber, serial: Serial, n: u32
     let own = own::own_part(pool, shape, head, n);
     if n <= own.bytes {
         trim_end(pool, shape, own.last, own.bytes - n);
-        release::hang(pool, shape, s, own.last, 0);
+        release::hang(pool, shape, storage, s, own.last, 0);
         return answer::done(pool, shape, s, 0);
     }
     let left = n - own.bytes;
@@ -63,6 +73,6 @@ pub fn keep(pool: &mut [u8], shape: Shape, s: SlipNumber, serial: Serial, n: u32
     }
     let lowest = room.lowest;
     let first = build::copy_pieces(pool, shape, own.next, 0, left, others, lowest, 0);
-    release::hang(pool, shape, s, own.last, first);
+    release::hang(pool, shape, storage, s, own.last, first);
     answer::done(pool, shape, s, 0)
 }

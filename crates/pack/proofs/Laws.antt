@@ -29,7 +29,6 @@ use Rattle.rules.proofs.Room.{free-pieces}
 use Rattle.rules.proofs.Contents.{Fit}
 use Rattle.rules.proofs.Audit.{tables-now}
 use Rattle.rules.proofs.Codes.{first-yes, first-no, first-none}
-use Rattle.rules.proofs.Writes.{old-storage}
 use Rattle.rules.proofs.Put.{new-good}
 use Rattle.rules.proofs.Bytes.{AllBytes}
 use Rattle.layout.specs.declared.Shape.{Shape}
@@ -41,7 +40,7 @@ use Rattle.chain.proofs.Links.{walk-none, walk-on, walk-less, link-leads}
 use Rattle.answer.specs.Result.{resultOf}
 use Rattle.answer.proofs.New.{new-link}
 use Rattle.answer.proofs.Perform.{perform-first, perform-none, perform-pieces, perform-buffers, perform-all, changed}
-use Rattle.release.specs.Release.{Releasable, turnedTo}
+use Rattle.release.specs.Release.{Releasable, turnedTo, turnedStorage}
 use Rattle.release.proofs.Laws.{turned-tables}
 use Rattle.transfer.proofs.Afresh.{bytes-all}
 
@@ -69,6 +68,10 @@ scattered-on T n (suc d) S t i e =
 -- the pieces that pack makes of the chain of slip s
 abbrev pub packed : Tables → ℕ → List Stretch
 packed T s = laid (T .stock) (newBuffers T (buffersFor (lengthOf T s))) (lengthOf T s)
+
+-- what the rule makes of the tables T and the storage st, once the bytes are in the new buffers
+abbrev pub underPacked : Tables → List ℕ → ℕ → State
+underPacked T st s = underOld (stateOf T st) (plain T (packed T s)) (freePieces T) s
 
 -- what the code finds before it acts: the chain's length, and how many buffers it needs
 pub record Found (p : List ℕ) (h : Shape) (s n count : ℕ) : Type 0 where
@@ -113,13 +116,17 @@ module _ {p : List ℕ} {h : Shape} {s n count : ℕ} (w : Found p h s n count) 
         let it = plan-built (plain T (packed T s)) (freePieces T) (plain-planned T (packed T s) (new-good T (lengthOf T s)) (tables-now T (w .opened .sound))) (free-pieces T) in
         rw (is-built, e) (record { others = []; sound = it })
 
-    -- once the slip holds it, the tables are the rule's
-    pub new-after : (st : List ℕ) {r : List ℕ} → Holds r h (turnedTo (decode q) s (first + 1)) → Holds r h (underOld (stateOf T st) (plain T (packed T s)) (freePieces T) s .tables)
-    unfolding underOld
-    new-after st is =
+    -- once the slip holds it, the tables and the storage are the rule's
+    pub new-after : (st : List ℕ) {r after : List ℕ} → Holds r h (turnedTo (decode q) s (first + 1)) × (after ≡ turnedStorage (decode q) st s (first + 1))
+        → Holds r h (underPacked T st s .tables) × (after ≡ underPacked T st s .storage)
+    unfolding underOld turnedStorage
+    new-after st (is, cleans) =
         let X = stateOf (built T (freePieces T) (packed T s) 0) st in
-        let e : first + 1 ≡ holding (builtLink (freePieces T) (packed T s) 0) = omega (arith, is-link) in
-        record { shaped = is .shaped; is = is .is ∙ (λ i. turnedTo (is-built i) s (e i)) ∙ sym (turned-tables X s (holding (builtLink (freePieces T) (packed T s) 0))) }
+        let v = holding (builtLink (freePieces T) (packed T s) 0) in
+        let e : first + 1 ≡ v = omega (arith, is-link) in (
+          record { shaped = is .shaped; is = is .is ∙ (λ i. turnedTo (is-built i) s (e i)) ∙ sym (turned-tables X s v) },
+          cleans ∙ (λ i. turnedStorage (is-built i) st s (e i)),
+        )
 
 -- ---- the answers
 
@@ -186,16 +193,17 @@ module _ (p st : List ℕ) (x : Name) where
         pack-buffers l = perform-buffers (Pack x) (lent p st) early (omega (arith, wants-slips)) (omega (arith, wants-pieces, ap length wants-back)) (omega (arith, wants-buffers))
 
         -- the new pieces under the same slip, and the bytes in the new buffers
-        pub pack-done : {o : Outcome} {v : SlipState} {q after : List ℕ} {h : Shape} → k ≤ length (freeBuffers (decode p)) → o ≡ Done (record { state = v; number = 0 }) → AllBytes q
-            → Holds q h (underOld (stateOf (decode p) after) (plain (decode p) (packed (decode p) s)) (freePieces (decode p)) s .tables)
-            → after ≡ stored (decode p .stock) st (newBuffers (decode p) k) (reads (stateIn (lent p st)) s) → resultOf o q after [] noView ≡ perform (Pack x) (lent p st)
+        pub pack-done : {o : Outcome} {v : SlipState} {q full after : List ℕ} {h : Shape} → k ≤ length (freeBuffers (decode p))
+            → o ≡ Done (record { state = v; number = 0 }) → AllBytes q
+            → full ≡ stored (decode p .stock) st (newBuffers (decode p) k) (reads (stateIn (lent p st)) s)
+            → Holds q h (underPacked (decode p) full s .tables) × (after ≡ underPacked (decode p) full s .storage)
+            → resultOf o q after [] noView ≡ perform (Pack x) (lent p st)
         unfolding rule packAfter
-        pack-done {after = after} most a b is f =
+        pack-done {full = full} most a b f (is, cleans) =
             let T = decode p in
             let S = stateIn (lent p st) in
-            let X : List ℕ → State = λ z. underOld (stateOf T z) (plain T (packed T s)) (freePieces T) s in
-            let same : X after ≡ packAfter s S = ap X f ∙ sym (if-F _ S _ not-whole) in
+            let same : underPacked T full s ≡ packAfter s S = ap (λ (z : List ℕ). underPacked T z s) f ∙ sym (if-F _ S _ not-whole) in
             changed _ (packWants T s) 0 (packAfter s S) a refl b
             (record { shaped = is .shaped; is = is .is ∙ ap (λ (Y : State). Y .tables) same })
-            (sym (old-storage _ (plain T (packed T s)) (freePieces T) s) ∙ ap (λ (Y : State). Y .storage) same)
+            (cleans ∙ ap (λ (Y : State). Y .storage) same)
             ∙ perform-all (Pack x) (lent p st) early (omega (arith, wants-slips)) (omega (arith, wants-pieces, ap length wants-back)) (omega (arith, wants-buffers))

@@ -70,6 +70,6 @@ pub fn pack(
     let buffer = buffers.lowest;
     transfer::refill(pool, shape, storage, head, n, buffer);
     let first = build::lay(pool, shape, n, count as u16, piece, buffer);
-    release::turn(pool, shape, s, first + 1);
+    release::turn(pool, shape, storage, s, first + 1);
     answer::done(pool, shape, s, 0)
 }

@@ -10,7 +10,7 @@ use lib.Dec.{leb, leb→le, le→leb}
 use Rattle.kinds.specs.Sizes.{sizeOf}
 use Rattle.kinds.proofs.Sizes.{size-one}
 use Rattle.rules.specs.Basics.{Is, places}
-use Rattle.rules.specs.Tables.{Tables, bufferCount, pieceTotal, bufferTotal}
+use Rattle.rules.specs.Tables.{Tables, bufferCount, holding, pieceTotal, bufferTotal}
 use Rattle.rules.specs.Bytes.{decode}
 use Rattle.rules.specs.Chain.{State, Stretch, spans, firstLength, total, contents, reads, stateOf, ownOf}
 use Rattle.rules.specs.Room.{isFree, isUnheld, freePieces, freeFrom, freeBuffers, newBuffers}
@@ -19,7 +19,6 @@ use Rattle.rules.specs.Drop.{dropped, dropBack}
 use Rattle.rules.specs.Pullup.{pulled, pullupAfter}
 use Rattle.rules.proofs.Logic.{if-F}
 use Rattle.rules.proofs.Moves.{SoundNow, by-place}
-use Rattle.rules.proofs.Writes.{freed-storage}
 use Rattle.rules.proofs.Build.{Planned}
 use Rattle.rules.proofs.Back.{pullup-room, back-own}
 use Rattle.layout.specs.declared.Shape.{Shape}
@@ -30,11 +29,12 @@ use Rattle.chain.specs.Length.{stretchesFrom}
 use Rattle.room.specs.Free.{firstFrom, lowestFor}
 use Rattle.room.proofs.Free.{lowest-some, buffer-first, places-between}
 use Rattle.build.proofs.Line.{First, from-first}
+use Rattle.release.specs.Release.{turnedStorage}
 use Rattle.rest.specs.declared.Tail.{Tail}
 use Rattle.rest.specs.Rest.{restFrom, newOf, Stays, Makable}
 use Rattle.rest.proofs.Rest.{new-none, new-one}
 use Rattle.rest.proofs.Dropped.{dropped-at, more-dropped, next-dropped, buffer-dropped}
-use Rattle.rest.proofs.Freed.{emptiedTo, freed-buffers, freed-count, freed-free, freed-from, freed-counts}
+use Rattle.rest.proofs.Freed.{emptiedTo, freed-buffers, freed-count, freed-free, freed-from, freed-counts, freed-storage}
 use Rattle.transfer.proofs.Fill.{for-one}
 use Rattle.pullup.specs.Pull.{firstOn, FirstMakable, Pullable, Pulled}
 
@@ -179,19 +179,21 @@ module _ {T : Tables} {s n head : ℕ} {at : Spot} {from beyond b : ℕ} (h : Pu
       l ∙ (λ j. builtLink (pulled-free j) (more-pulled j) (next-pulled j)),
     )
 
--- the plan under the slip, and the bytes on their buffer, are what pullup leaves
-pub pull-done : (p st : List ℕ) {g : Shape} {s n head : ℕ} {at : Spot} {from beyond b : ℕ} {q st′ : List ℕ} → Pullable (decode p) s n head at from beyond b
+-- the plan under the slip, and the bytes on their buffer before the front is given back, are what pullup leaves
+pub pull-done : (p st : List ℕ) {g : Shape} {s n head : ℕ} {at : Spot} {from beyond b : ℕ} {q st₁ st′ : List ℕ} → Pullable (decode p) s n head at from beyond b
     → ((S : State) → Holds q g (underFreed S (pulled (decode p) s n) s .tables))
-    → st′ ≡ stored (decode p .stock) st (newBuffers (decode p) (buffersFor n)) (take n (contents (decode p .stock) st (stretchesFrom (decode p) head))) → Pulled p st g s n q st′
+    → st₁ ≡ stored (decode p .stock) st (newBuffers (decode p) (buffersFor n)) (take n (contents (decode p .stock) st (stretchesFrom (decode p) head)))
+    → st′ ≡ turnedStorage (restFrom (decode p) (at .own) (at .link) (at .into) .base) st₁ s (holding 0) → Pulled p st g s n q st′
 unfolding pullupAfter
-pull-done p st {s = s} {n = n} h is e =
+pull-done p st {s = s} {n = n} h is filled given =
     let T = decode p in
     let S = stateOf T st in
     let S₁ = stateOf T (stored (T .stock) st (newBuffers T 1) (take n (reads S s))) in
     let after : pullupAfter s n S ≡ underFreed S₁ (pulled T s n) s = if-F (leb n (firstLength (spans T s))) _ _ (λ t. omega (arith, leb→le n (firstLength (spans T s)) t, h .scattered)) in
     let now = is S₁ in
+    let copied = filled ∙ (λ i. stored (T .stock) st (newBuffers T (one-buffer h i)) (take n (contents (T .stock) st (stretchesFrom T (h .starts i))))) in
     record {
       tables-are = record { shaped = now .shaped; is = now .is ∙ sym (ap (λ (X : State). X .tables) after) };
-      storage-is = e ∙ (λ i. stored (T .stock) st (newBuffers T (one-buffer h i)) (take n (contents (T .stock) st (stretchesFrom T (h .starts i)))))
-          ∙ sym (ap (λ (X : State). X .storage) after ∙ freed-storage S₁ (pulled T s n) s);
+      storage-is = given ∙ (λ i. turnedStorage (sym (dropped-there h) i .base) (copied i) s (holding 0)) ∙ freed-storage S₁ (pulled T s n) s
+          ∙ sym (ap (λ (X : State). X .storage) after);
     }

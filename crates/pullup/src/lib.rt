@@ -74,7 +74,7 @@ fn pull(
     ensures { λ _. ⌜ Pulled (now (pool .entry)) (now (storage .entry)) shape (s .0) n (now (pool .exit)) (now (storage .exit)) ⌝ }
 {
     transfer::refill(pool, shape, storage, head, n, b);
-    let tail = rest::give_back(pool, shape, s, at.link, at.into, at.own);
+    let tail = rest::give_back(pool, shape, storage, s, at.link, at.into, at.own);
     let first = make_first(pool, shape, tail, from, beyond, b, n as u16);
     tables::set_slip(pool, shape, s, first + 1);
 }

@@ -1,4 +1,4 @@
--- Release over the tables alone, its single steps, and when a reference can be released.
+-- Release over the tables alone and over the storage beside them, its single steps, and when a reference can be released.
 use mathlib.Core.List.{List, [], _∷_}
 use Prim.Native.Nat.{ℕ, _<_}
 use Rattle.rules.specs.Basics.{if_then_else_}
@@ -29,6 +29,22 @@ stepped T d = if another T d then lowered T d else (freed (bare T) d .tables)
 
 unfoldable pub stepNext : Tables → ℕ → ℕ
 stepNext T d = if another T d then 0 else (piece T d .next)
+
+-- ---- the storage st beside the tables T, after each of these
+
+unfoldable pub releasedStorage : Tables → List ℕ → ℕ → List ℕ
+releasedStorage T st n = release (stateOf T st) n .storage
+
+unfoldable pub turnedStorage : Tables → List ℕ → ℕ → ℕ → List ℕ
+turnedStorage T st s v = turned (stateOf T st) s v .storage
+
+unfoldable pub relinkedStorage : Tables → List ℕ → ℕ → ℕ → List ℕ
+relinkedStorage T st l n = relinked (stateOf T st) l n .storage
+
+unfoldable pub steppedStorage : Tables → List ℕ → ℕ → List ℕ
+steppedStorage T st d = if another T d then st else (freed (stateOf T st) d .storage)
+
+-- ---- when
 
 -- piece d has a reference to give up, and its buffer counts it
 pub record Held (T : Tables) (d : ℕ) : Type 0 where

@@ -15,14 +15,14 @@ use Rattle.rules.specs.Build.{Plan, built, builtLink, underNew, underFreed}
 use Rattle.rules.proofs.Moves.{SoundWith}
 use Rattle.rules.proofs.Build.{Planned, plan-built, built-kept}
 use Rattle.rules.proofs.Room.{free-pieces}
-use Rattle.rules.proofs.Release.{stored-after}
+use Rattle.rules.proofs.Release.{stored-after, same-storage}
 use Rattle.rules.proofs.Freed.{emptied, emptied-sound, emptied-sizes, emptied-frees, made-there, planned-there}
 use Rattle.layout.specs.declared.Shape.{Shape}
 use Rattle.tables.specs.Shape.{Holds}
 use Rattle.tables.proofs.Laws.{onward}
 use Rattle.room.proofs.Free.{places-under}
 use Rattle.build.proofs.Laws.{buffer-most}
-use Rattle.release.specs.Release.{bare, turnedTo}
+use Rattle.release.specs.Release.{bare, turnedTo, turnedStorage}
 use Rattle.release.proofs.Laws.{turned-tables}
 use Rattle.release.proofs.Under.{held-below}
 
@@ -88,6 +88,16 @@ module _ {T : Tables} (p : Plan) (s : ℕ) (ok : Planned T p) (l : s < slipTotal
         shaped = now .shaped;
         is = now .is ∙ ap (setSlip (built there (freePieces there) (p .more) (p .tail)) s) (add-one n ∙ ap holding e) ∙ ap put (sym (emptied-tables S p s));
       }
+
+-- storage is what the release leaves
+pub freed-storage : (S : State) (p : Plan) (s : ℕ) → turnedStorage (p .base) (S .storage) s (holding 0) ≡ underFreed S p s .storage
+unfolding underFreed turnedStorage
+freed-storage S p s = refl
+
+-- whatever entry the slip takes
+pub moved-storage : (S : State) (p : Plan) (s : ℕ) → turnedStorage (p .base) (S .storage) s (holding (p .tail)) ≡ underFreed S p s .storage
+unfolding underFreed turnedStorage
+moved-storage S p s = same-storage (withTables S (p .base)) s (holding (p .tail)) (holding 0)
 
 -- where no piece is to be made the slip can take what stays at once
 pub moved-done : (S : State) (p : Plan) (s : ℕ) {h : Shape} {q : List ℕ} → p .more ≡ [] → Holds q h (turnedTo (p .base) s (holding (p .tail))) → Holds q h (underFreed S p s .tables)

@@ -7,6 +7,7 @@ ghost use mathlib.Core.Path.{_≡_};
 ghost use Prim.Native.Nat.{_-_, _≤_, _<_};
 ghost use lib.ListN.{length};
 ghost use Rattle.rules.specs.Basics.{Is};
+ghost use Rattle.rules.specs.Layout.{storageLength};
 ghost use Rattle.rules.specs.Tables.{Tables, piece, holding};
 ghost use Rattle.rules.specs.Bytes.{decode};
 ghost use Rattle.rules.specs.Chain.{stretch};
@@ -15,11 +16,11 @@ ghost use Rattle.rules.specs.Room.{freeFrom};
 ghost use Rattle.rules.specs.Release.{shared};
 ghost use Rattle.rules.specs.Build.{taken, fresh, built, builtLink};
 ghost use Rattle.rules.specs.Drop.{shorter};
-ghost use Rattle.tables.specs.Shape.{Shaped, Becomes};
+ghost use Rattle.tables.specs.Shape.{Shaped, Becomes, stockOf};
 ghost use Rattle.chain.specs.Opened.{Opened};
 ghost use Rattle.build.specs.Share.{Sharable};
 ghost use Rattle.build.specs.Clone.{Copyable};
-ghost use Rattle.release.specs.Release.{turnedTo};
+ghost use Rattle.release.specs.Release.{turnedTo, turnedStorage};
 ghost use Rattle.rest.specs.Rest.{restFrom, newOf, copyOf, Stays, Makable};
 
 // What stays from a place on: the part of a buffer for a new first piece, none where its length is 0, and the link behind it (a descriptor to be made).
@@ -123,14 +124,25 @@ fn hold(pool: &mut [u8], shape: Shape, link: u16, into: u32, own: bool) -> Tail
 }
 
 // Slip `s` takes what stays from a place on, where that needs no new piece, and what stands before it is released: a handle moved along its chain.
-pub fn move_to(pool: &mut [u8], shape: Shape, s: SlipNumber, link: u16, into: u32, own: bool)
+pub fn move_to(
+    pool: &mut [u8],
+    shape: Shape,
+    storage: &mut [u8],
+    s: SlipNumber,
+    link: u16,
+    into: u32,
+    own: bool,
+)
     requires { ⌜ Opened (now pool) shape × Is (linkOk (decode (now pool)) link) × (s .0 < shape .slips) ⌝ }
-    requires { ⌜ ((link ≡ 0 → ⊥) → into < piece (decode (now pool)) (link - 1) .len) ⌝ }
+    requires { ⌜ ((link ≡ 0 → ⊥) → into < piece (decode (now pool)) (link - 1) .len)
+        × (length (now storage) ≡ storageLength (stockOf shape) (shape .buffers)) ⌝ }
     ensures { λ _. ⌜ Becomes (now (pool .entry)) (now (pool .exit)) shape
-        (λ T. turnedTo (restFrom T own link into .base) (s .0) (holding (restFrom T own link into .tail))) ⌝ }
+        (λ T. turnedTo (restFrom T own link into .base) (s .0) (holding (restFrom T own link into .tail)))
+        × (now (storage .exit) ≡ turnedStorage (restFrom (decode (now (pool .entry))) own link into .base) (now (storage .entry)) (s .0)
+        (holding (restFrom (decode (now (pool .entry))) own link into .tail))) ⌝ }
 {
     let tail = hold(pool, shape, link, into, own);
-    release::turn(pool, shape, s, tail.next + 1);
+    release::turn(pool, shape, storage, s, tail.next + 1);
 }
 
 // Gives back what release frees of the chain of slip `s` before a place: what stays from there is held, the slip is emptied and its old chain released.
@@ -138,18 +150,22 @@ pub fn move_to(pool: &mut [u8], shape: Shape, s: SlipNumber, link: u16, into: u3
 pub fn give_back(
     pool: &mut [u8],
     shape: Shape,
+    storage: &mut [u8],
     s: SlipNumber,
     link: u16,
     into: u32,
     own: bool,
 ) -> Tail
     requires { ⌜ Opened (now pool) shape × Is (linkOk (decode (now pool)) link) × (s .0 < shape .slips) ⌝ }
-    requires { ⌜ ((link ≡ 0 → ⊥) → into < piece (decode (now pool)) (link - 1) .len) ⌝ }
+    requires { ⌜ ((link ≡ 0 → ⊥) → into < piece (decode (now pool)) (link - 1) .len)
+        × (length (now storage) ≡ storageLength (stockOf shape) (shape .buffers)) ⌝ }
     ensures { λ r. ⌜ Becomes (now (pool .entry)) (now (pool .exit)) shape (λ T. turnedTo (restFrom T own link into .base) (s .0) (holding 0))
         × Stays r (restFrom (decode (now (pool .entry))) own link into) ⌝ }
+    ensures { λ r. ⌜ now (storage .exit)
+        ≡ turnedStorage (restFrom (decode (now (pool .entry))) own link into .base) (now (storage .entry)) (s .0) (holding 0) ⌝ }
 {
     let tail = hold(pool, shape, link, into, own);
-    release::turn(pool, shape, s, 1);
+    release::turn(pool, shape, storage, s, 1);
     tail
 }
 

@@ -42,7 +42,7 @@ aged-reading S S′ s cs r = record {
 }
 
 pub aged-stays : (S S′ : State) (s k : ℕ) → StorageStays S S′ k → StorageStays S (aging s S′) k
-aged-stays S S′ s k r = record { as-long = r .as-long; others = r .others }
+aged-stays S S′ s k r = record { as-long = r .as-long; others = r .others; clean = r .clean }
 
 pub aged-took : {T T′ : Tables} {w : Wants} {t : ℕ} (s : ℕ) → Took T T′ w t → Took T (aged T′ s) w t
 aged-took {T} {T′} {w} {t} s r = record {

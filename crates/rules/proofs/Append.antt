@@ -3,30 +3,34 @@ use mathlib.Core.Path.{_≡_, refl, sym, ap, subst, _∙_}
 use mathlib.Core.Logic.{_≢_, inl, inr, ⊎-elim}
 use mathlib.Core.Bool.{Bool, false, true, _||_}
 use mathlib.Core.List.{List, [], _∷_, _++_, append-assoc, append-nil, map-append}
-use Prim.Native.Nat.{ℕ, _<_, pred, _≤_, suc, _+_, _-_}
+use Prim.Native.Nat.{ℕ, zero, suc, pred, _<_, _≤_, _+_, _-_}
 use native.Mathlib.Omega.{arith}
 use native.Mathlib.Decide.{ℕ-discrete}
 use lib.ListN.{length, getD, set, length-set, take, take-append-drop, length-drop}
 use lib.Seq.{getD-set-other, getD-set-same}
 use lib.Dec.{eqb, eqb→eq}
 use Rattle.kinds.specs.Serial.{older}
-use Rattle.rules.specs.Basics.{Is, if_then_else_, passing}
-use Rattle.rules.specs.Tables.{Tables, slip, headOf, vacant, slipTotal, pieceTotal, bufferTotal, setSlip, withSerials, piece}
-use Rattle.rules.specs.Chain.{State, spans, Stretch, chain, stretches, withTables, contents, reads, ownOf, stretch, total}
+use Rattle.rules.specs.Basics.{Is, if_then_else_, lastOf, passing}
+use Rattle.rules.specs.Tables.{Piece, Tables, blank, slip, headOf, holding, vacant, slipTotal, pieceTotal, bufferTotal, setSlip, withNext}
+use Rattle.rules.specs.Tables.{withSerials, piece}
+use Rattle.rules.specs.Chain.{State, follow, ownPieces, spans, Stretch, chain, stretches, withTables, contents, reads, ownOf, stretch, total}
 use Rattle.rules.specs.Room.{freePieces, isFree, isUnheld, isVacant}
-use Rattle.rules.specs.Build.{built, builtLink}
+use Rattle.rules.specs.Release.{turned, relinked}
+use Rattle.rules.specs.Build.{built, builtLink, behindOwn}
 use Rattle.rules.specs.Rule.{Name, reading, vacating, want}
 use Rattle.rules.specs.Append.{notOwn, joined, appended, appendAfter, appendCall, oneEmpty, isEmpty}
 use Rattle.rules.specs.Takes.{Took}
-use Rattle.rules.proofs.Logic.{if-either, if-F, or-cases, is-false}
-use Rattle.rules.proofs.Moves.{SoundNow, hit, reorder, slip-move, SoundWith}
-use Rattle.rules.proofs.Rank.{head-pos}
-use Rattle.rules.proofs.Build.{OwnList, own-pieces, own-list-still, built-sound, built-kept, behind-sound, Good}
+use Rattle.rules.proofs.Logic.{if-either, if-F, or-cases, is-false, eq→eqb}
+use Rattle.rules.proofs.Moves.{SoundNow, SoundWith, hit, used-in-range, by-place, reorder, slip-move}
+use Rattle.rules.proofs.Rank.{head-pos, next-pos}
+use Rattle.rules.proofs.Release.{Shared, unshared, release-shared}
+use Rattle.rules.proofs.Build.{OwnTo, OwnList, withTail, own-pieces, own-list-still, built-sound, built-kept, built-other, behind-sound, Good}
 use Rattle.rules.proofs.Room.{free-pieces, passing-front, passing-none}
-use Rattle.rules.proofs.Chain.{spans-good, good-drop, built-own, AllUsed, chain-used}
+use Rattle.rules.proofs.Chain.{spans-good, good-drop, built-own, used-not-free, AllUsed, chain-used}
 use Rattle.rules.proofs.Meets.{chain-meets, agree-all, agree-stretches, slip-same, built-same, built-meets, built-agree, Same, same-trans, Meets, stop, go}
 use Rattle.rules.proofs.Hang.{Run, Gives, gives-as, gives-from, behind-gives, own-run, ones-used, own-ones, run-still, own-front, gives-chain, gives-spans, moved-spans, stretches-length}
 use Rattle.rules.proofs.Contents.{contents-append, Fit}
+use Rattle.rules.proofs.Recount.{head-ends}
 use Rattle.rules.proofs.Codes.{both-named}
 use Rattle.rules.proofs.Caused.{found, slip-both, twice-both, none-less}
 use Rattle.rules.proofs.Sizes.{Sizes, behind-sizes, built-sizes, slip-set, then-sizes}
@@ -35,7 +39,7 @@ use Rattle.rules.proofs.Takes.{buffersOf, new-front, no-slips, old-as, 
 use Rattle.rules.proofs.Aged.{aged-sound, aged-reading, aged-stays, aged-took}
 use Rattle.rules.proofs.Lawful.{Lawful, Leaving, Causing, agedBy}
 use Rattle.rules.proofs.Storage.{behind-keeps, keeps-spans, fit-by}
-use Rattle.rules.proofs.Stays.{StorageStays, built-only, stays-as, behind-stays}
+use Rattle.rules.proofs.Stays.{StorageStays, NoneFreed, built-held, built-only, stays-as, behind-stays}
 
 -- ---- before the hanging
 
@@ -72,6 +76,81 @@ join-ready T a b ne la lb (rank, h) =
           (rank, slip-move {fl = []} b 0 lb (reorder (λ x. omega arith) h));
     }
 
+-- ---- what append gives up is shared
+
+-- the link behind the own pieces: after the last, or the first where there is none
+abbrev pub linkBehind : Tables → ℕ → List ℕ → ℕ
+linkBehind T n [] = n
+linkBehind T n (d ∷ ds) = piece T (lastOf d ds) .next
+
+behind-next : (T : Tables) (d : ℕ) (own : List ℕ) → linkBehind T (suc d) (d ∷ own) ≡ linkBehind T (piece T d .next) own
+behind-next T d [] = refl
+behind-next T d (e ∷ es) = refl
+
+-- it is where follows of next past the own pieces lead
+pub own-follow : (k n : ℕ) (T : Tables) → follow T (length (ownPieces k T n)) n ≡ linkBehind T n (ownPieces k T n)
+unfolding ownPieces follow
+own-follow zero n T = refl
+own-follow (suc k) zero T = refl
+own-follow (suc k) (suc d) T =
+    if-either (λ (own : List ℕ). follow T (length own) (suc d) ≡ linkBehind T (suc d) own) (eqb (piece T d .count) 1) (d ∷ ownPieces k T (piece T d .next)) []
+    (λ _. own-follow k (piece T d .next) T ∙ sym (behind-next T d (ownPieces k T (piece T d .next)))) (λ _. refl)
+
+-- there the own pieces stop
+own-stops : (k n : ℕ) (T : Tables) → follow T k n ≡ 0 → (d : ℕ) → linkBehind T n (ownPieces k T n) ≡ suc d → piece T d .count ≢ 1
+unfolding ownPieces follow
+own-stops zero n T z d e = absurd (omega arith)
+own-stops (suc k) zero T z d e = absurd (omega arith)
+own-stops (suc k) (suc c) T z d q =
+    if-either (λ (own : List ℕ). linkBehind T (suc c) own ≡ suc d → piece T d .count ≢ 1) (eqb (piece T c .count) 1) (c ∷ ownPieces k T (piece T c .next)) []
+    (λ _ e. own-stops k (piece T c .next) T z d (sym (behind-next T c (ownPieces k T (piece T c .next))) ∙ e))
+    (λ n e one. n (eq→eqb _ 1 (ap (λ x. piece T (pred x) .count) e ∙ one)))
+    q
+
+-- so the link behind them is shared
+pub behind-shared : (T : Tables) (a : ℕ) → SoundNow T → Shared T (linkBehind T (headOf T a) (ownOf T a))
+behind-shared T a h = at (linkBehind T (headOf T a) (ownOf T a)) refl
+  where
+    used : (own : List ℕ) (d : ℕ) → linkBehind T (headOf T a) own ≡ suc d → 0 < piece T d .count
+    used [] d e = head-pos a d (h .1) e
+    used (c ∷ cs) d e = next-pos (lastOf c cs) d (h .1) e
+
+    at : (n : ℕ) → linkBehind T (headOf T a) (ownOf T a) ≡ n → Shared T n
+    at zero e = tt
+    at (suc d) e = (let u = used (ownOf T a) d e in let n = own-stops (pieceTotal T) (headOf T a) T (head-ends T h a) d e in omega arith)
+
+-- the tables once the link m is behind own pieces
+abbrev pub linkedBehind : Tables → ℕ → List ℕ → ℕ → Tables
+linkedBehind T s [] m = setSlip T s (holding m)
+linkedBehind T s (d ∷ ds) m = withTail T (lastOf d ds) m
+
+-- the last own piece has one reference
+own-one : (k : ℕ) (T : Tables) (n l : ℕ) → OwnTo k T n l → piece T l .count ≡ 1
+own-one zero T n l (e, c) = c
+own-one (suc k) T n l (x, e, c, o) = own-one k T (piece T x .next) l o
+
+-- what is shared is so where counts are the same
+shared-still : (T T′ : Tables) (n : ℕ) → ((x : ℕ) → piece T′ x .count ≡ piece T x .count) → Shared T n → Shared T′ n
+shared-still T T′ zero e h = tt
+shared-still T T′ (suc d) e h = omega (arith, e d)
+
+-- what stood there, and is shared, is so still
+linked-shared : (T : Tables) (s m : ℕ) (own : List ℕ) → OwnList T (headOf T s) own → Shared T (linkBehind T (headOf T s) own)
+    → Shared (linkedBehind T s own m) (linkBehind T (headOf T s) own)
+linked-shared T s m [] o h = shared-still T (setSlip T s (holding m)) (headOf T s) (λ x. refl) h
+linked-shared T s m (d ∷ ds) (j, o) h =
+    let l = lastOf d ds in
+    shared-still T (withTail T l m) (piece T l .next)
+    (by-place (T .pieces) l (withNext (piece T l) m) blank (used-in-range T l (omega (arith, own-one j T (headOf T s) l o)))
+    (λ q x. q .count ≡ piece T x .count) refl (λ x _. refl)) h
+
+-- so a count is lowered and nothing else is given up
+behind-lowers : (S : State) (s m : ℕ) (own : List ℕ) → Shared (linkedBehind (S .tables) s own m) (linkBehind (S .tables) (headOf (S .tables) s) own)
+    → behindOwn S s own m ≡ withTables S (unshared (linkedBehind (S .tables) s own m) (linkBehind (S .tables) (headOf (S .tables) s) own))
+unfolding behindOwn turned relinked
+behind-lowers S s m [] h = release-shared (withTables S (setSlip (S .tables) s (holding m))) (headOf (S .tables) s) h
+behind-lowers S s m (d ∷ ds) h = release-shared (withTables S (withTail (S .tables) (lastOf d ds) m)) (piece (S .tables) (lastOf d ds) .next) h
+
 -- ---- soundness
 
 joined-sound : (a b : ℕ) (S : State) → a ≢ b → a < slipTotal (S .tables) → b < slipTotal (S .tables) → SoundNow (S .tables) → SoundNow (joined a b S .tables)
@@ -98,6 +177,75 @@ appended-sound a b S ne la lb (rank, h) =
 
 pub append-sound : (a b : ℕ) (S : State) → a ≢ b → a < slipTotal (S .tables) → b < slipTotal (S .tables) → SoundNow (S .tables) → SoundNow (appendAfter a b S .tables)
 append-sound a b S ne la lb h = aged-sound b (appended-sound a b S ne la lb h)
+
+-- ---- append gives no buffer back
+
+-- before the hanging the link behind the own pieces is as it was, and is shared
+ready-behind : (T : Tables) (a b : ℕ) → Ready T a b → linkBehind (ready T a b) (headOf (ready T a b) a) (ownOf T a) ≡ linkBehind T (headOf T a) (ownOf T a)
+ready-behind T a b r = at (ownOf T a) (own-pieces (pieceTotal T) (headOf T a) T)
+  where
+    at : (own : List ℕ) → OwnList T (headOf T a) own → linkBehind (ready T a b) (headOf (ready T a b) a) own ≡ linkBehind T (headOf T a) own
+    at [] o = ap pred (r .same)
+    at (d ∷ ds) (j, o) =
+        built-own (setSlip T b vacant) (freePieces T) (notOwn T a) (headOf T b) (free-pieces (setSlip T b vacant)) (lastOf d ds)
+        (own-one j T (headOf T a) (lastOf d ds) o) .1
+
+ready-shared : (T : Tables) (a b n : ℕ) → Shared T n → Shared (ready T a b) n
+ready-shared T a b zero h = tt
+ready-shared T a b (suc d) h =
+    let T₁ : Tables = setSlip T b vacant in
+    let fs = freePieces T in
+    subst (λ (q : Piece). 1 < q .count) (sym (built-other T₁ fs (notOwn T a) (headOf T b) d (used-not-free T₁ d fs (omega arith) (free-pieces T₁)))) h
+
+module _ (a b : ℕ) (S : State) (ne : a ≢ b) (la : a < slipTotal (S .tables)) (lb : b < slipTotal (S .tables)) (h : SoundNow (S .tables)) where
+  -- the tables once the new pieces are linked, and the link to the first piece that they replace
+  abbrev pub joinLinked : Tables
+  joinLinked = linkedBehind (ready (S .tables) a b) a (ownOf (S .tables) a) (readyLink (S .tables) a b)
+
+  abbrev pub joinOld : ℕ
+  joinOld = linkBehind (S .tables) (headOf (S .tables) a) (ownOf (S .tables) a)
+
+  -- it is shared
+  pub joined-shared : Shared joinLinked joinOld
+  joined-shared =
+      let T = S .tables in
+      let R = ready T a b in
+      let r = join-ready T a b ne la lb h in
+      let e = ready-behind T a b r in
+      subst (Shared joinLinked) e
+      (linked-shared R a (readyLink T a b) (ownOf T a) (r .own) (subst (Shared R) (sym e) (ready-shared T a b joinOld (behind-shared T a h))))
+
+  -- A join links, and lowers the count of the first piece that it replaces.
+  pub joined-is : joined a b S ≡ withTables S (unshared joinLinked joinOld)
+  unfolding joined
+  joined-is =
+      let T = S .tables in
+      let R = ready T a b in
+      let e = ready-behind T a b (join-ready T a b ne la lb h) in
+      behind-lowers (withTables S R) a (readyLink T a b) (ownOf T a) (subst (Shared joinLinked) (sym e) joined-shared)
+      ∙ ap (λ n. withTables S (unshared joinLinked n)) e
+
+-- the counts of buffers are those before the hanging
+joined-counts : (T : Tables) (a m n : ℕ) (own : List ℕ) → unshared (linkedBehind T a own m) n .counts ≡ T .counts
+joined-counts T a m zero [] = refl
+joined-counts T a m zero (d ∷ ds) = refl
+joined-counts T a m (suc n) [] = refl
+joined-counts T a m (suc n) (d ∷ ds) = refl
+
+-- Append leaves every byte of storage, and sets no buffer free.
+pub append-holds : (a b : ℕ) (S : State) → a ≢ b → a < slipTotal (S .tables) → b < slipTotal (S .tables) → SoundNow (S .tables)
+    → (appendAfter a b S .storage ≡ S .storage) × NoneFreed (S .tables) (appendAfter a b S .tables)
+unfolding appended
+append-holds a b S ne la lb h =
+    let T = S .tables in
+    let P : State → Type 0 = λ X. (X .storage ≡ S .storage) × NoneFreed T (X .tables) in
+    if-either P (eqb (headOf T a) 0) _ _ (λ _. (refl, λ x u. u))
+    (λ _. if-either P (eqb (headOf T b) 0) _ _ (λ _. (refl, λ x u. u))
+    (λ _. subst P (sym (joined-is a b S ne la lb h)) (
+      refl,
+      λ x u. subst (λ (q : List ℕ). 0 < getD q x 0) (sym (joined-counts (ready T a b) a (readyLink T a b) (linkBehind T (headOf T a) (ownOf T a)) (ownOf T a)))
+          (built-held (setSlip T b vacant) (freePieces T) (notOwn T a) (headOf T b) x u),
+    )))
 
 -- ---- what append leaves
 
@@ -162,15 +310,15 @@ joined-stays a b S ne la lb h f =
     let none = drop-none (isUnheld T) (length (ownOf T a)) (spans T a) (spans-none T a h) in
     behind-stays S (ready T a b) a (readyLink T a b) (ownOf T a) (ready-sizes T a b)
     (built-only T (setSlip T b vacant) (freePieces T) (notOwn T a) (headOf T b) 0 refl (passing-none (isUnheld T) (buffersOf (notOwn T a)) none))
-    (r .below) (r .own) (r .held) f
+    (built-held (setSlip T b vacant) (freePieces T) (notOwn T a) (headOf T b)) (r .below) (r .own) (r .held) f
 
 appended-stays : (a b : ℕ) (S : State) → a ≢ b → a < slipTotal (S .tables) → b < slipTotal (S .tables) → SoundNow (S .tables)
     → Fit (S .tables .stock) (bufferTotal (S .tables)) (S .storage) → StorageStays S (appended a b S) 0
 unfolding appended
 appended-stays a b S ne la lb h f =
     let T = S .tables in
-    if-either (λ (X : State). StorageStays S X 0) (eqb (headOf T a) 0) _ _ (λ _. stays-as S _ 0 refl)
-    (λ _. if-either (λ (X : State). StorageStays S X 0) (eqb (headOf T b) 0) _ _ (λ _. stays-as S _ 0 refl) (λ _. joined-stays a b S ne la lb h f))
+    if-either (λ (X : State). StorageStays S X 0) (eqb (headOf T a) 0) _ _ (λ _. stays-as S _ 0 refl (λ x u. u))
+    (λ _. if-either (λ (X : State). StorageStays S X 0) (eqb (headOf T b) 0) _ _ (λ _. stays-as S _ 0 refl (λ x u. u)) (λ _. joined-stays a b S ne la lb h f))
 
 appended-sizes : (a b : ℕ) (S : State) → Sizes (S .tables) (appended a b S .tables)
 unfolding appended

@@ -12,9 +12,10 @@ use lib.Dec.{ltb, ltb→lt, lt→ltb, eqb, eqb→eq, leb, leb→le, le→leb}
 use Rattle.kinds.specs.Sizes.{sizeOf}
 use Rattle.rules.specs.Basics.{Is, bit, allTo}
 use Rattle.rules.specs.Tables.{Piece, Tables, blank, isBlank, piece, bufferCount, headOf, slipTotal, pieceTotal, bufferTotal, freshTables}
-use Rattle.rules.specs.Bytes.{decode}
+use Rattle.rules.specs.Bytes.{buffersIn, piecesIn, slipsIn, decode}
 use Rattle.rules.specs.Chain.{follow, walk}
-use Rattle.rules.specs.Sound.{Lent, inUse, leads, heads, nexts, lying, linkOk, pieceOk, headerOk, NeverBack, SoundTables, Sound, acyclic, soundTables, sound}
+use Rattle.rules.specs.Sound.{Lent, lent, inUse, leads, heads, nexts, lying, linkOk, pieceOk, headed, headerOk, NeverBack, SoundTables, Sound}
+use Rattle.rules.specs.Sound.{acyclic, soundTables, sound}
 use Rattle.rules.proofs.Logic.{if-T, if-F, if-either, and-intro, and-parts, is-true, is-dec, eq→eqb, not-zero, bit-pos, all-intro, all-at}
 use Rattle.rules.proofs.Sums.{sumTo-same, sumTo-zero, sumTo-none, pigeons}
 use Rattle.rules.proofs.Moves.{hit, lies, links, Fits, SoundBy, SoundNow, hit-pos, in-range, used-in-range, buffer-pos}
@@ -300,6 +301,11 @@ sound-is m =
       λ t. (let (h, r) = and-parts (headerOk m) _ t in record { header-ok = h; tables-ok = tables-is T .0 r }),
       λ S. and-intro (headerOk m) _ (S .header-ok) (tables-is T .1 (S .tables-ok)),
     )
+
+-- Soundness asks nothing of storage but its length.
+pub sound-by-length : (p st st′ : List ℕ) → length st ≡ length st′ → sound (lent p st) ≡ sound (lent p st′)
+unfolding sound headerOk
+sound-by-length p st st′ e = ap (λ n. headed p (buffersIn p) (piecesIn p) (slipsIn p) n && soundTables (decode p)) e
 
 pub sound-now : (m : Lent) → Is (sound m) → SoundNow (decode (m .pool))
 sound-now m t = tables-now (decode (m .pool)) (sound-is m .0 t .tables-ok)

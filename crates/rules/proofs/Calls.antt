@@ -11,6 +11,7 @@ use Rattle.kinds.specs.Refusal.{refusalCode}
 use Rattle.rules.specs.Basics.{Is}
 use Rattle.rules.specs.Tables.{serial, bufferCount, slipTotal, bufferTotal, withSerials}
 use Rattle.rules.specs.Chain.{State, reads}
+use Rattle.rules.specs.Storage.{Zeroed}
 use Rattle.rules.specs.Room.{isVacant, isUnheld}
 use Rattle.rules.specs.Rule.{Change, slipsOf, firstCode, codeIn}
 use Rattle.rules.specs.Step.{Operation, Audit, Put, Free, Dup, Cut, Append, Drop, Keep, Pullup, Pack, Length, Read, Show, WireList, meaning, rule}
@@ -136,6 +137,15 @@ rule-bytes o S h f a b l e =
     let t = in-passes taken 0 (bufferTotal T) b _ (all-free taken (bufferTotal T)) (subst (List·Memᴰ b) (sym (takes o S h a .buffers)) m) in
     T-not (isUnheld T′ b) (and-1 (isUnheld T b) _ t) (subst Is (sym e) (and-0 (isUnheld T b) _ t))))
     (λ u. not-zero (bufferCount T′ b) (λ t. omega (arith, eqb→eq (bufferCount T b) 0 (subst Is e t))))
+
+-- and one that it gives back is zero
+pub rule-clean : (o : Operation) (S : State) → SoundNow (S .tables) → Fit (S .tables .stock) (bufferTotal (S .tables)) (S .storage)
+    → Allowed (rule o S) (S .tables) → (b : ℕ) → b < bufferTotal (S .tables) → Is (not (isUnheld (S .tables) b)) → Is (isUnheld (rule o S .after .tables) b)
+    → Zeroed (S .tables .stock) (rule o S .after .storage) b
+unfolding rule
+rule-clean o S h f a b l u t =
+    lawful o .stays S h f a .clean b l (not-zero (bufferCount (S .tables) b) (T-not (isUnheld (S .tables) b) u))
+    (eqb→eq (bufferCount (rule o S .after .tables) b) 0 t)
 
 -- it moves no serial of a held slip that it does not name
 pub others-serial : (o : Operation) (S : State) → Allowed (rule o S) (S .tables) → (t : ℕ) → (Names o t → ⊥) → Is (not (isVacant (S .tables) t))

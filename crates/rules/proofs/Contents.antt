@@ -16,7 +16,8 @@ use Rattle.kinds.proofs.Sizes.{start-step, size-one}
 use Rattle.rules.specs.Basics.{if_then_else_}
 use Rattle.rules.specs.Layout.{storageLength}
 use Rattle.rules.specs.Chain.{Stretch, total, cutOut, positionOf, bytesOf, contents}
-use Rattle.rules.specs.Build.{laid, filledAt, filled, stored}
+use Rattle.rules.specs.Storage.{filledAt, filled, cleaned, wholeOf, Zeroed}
+use Rattle.rules.specs.Build.{laid, stored}
 use Rattle.rules.proofs.Logic.{if-F, if-either, not-most}
 use Rattle.rules.proofs.Build.{Good}
 use Rattle.rules.proofs.Room.{AllIn, above-not}
@@ -165,6 +166,26 @@ unfolding filledAt
 filled-same Z B st b xs s h =
     let p : length (take (startOf Z b) st) ≡ startOf Z b + 0 = simp length-take (omega (arith, start-step Z b B h)) in
     rw (drop-at _ _ (startOf Z b + 0) p, append-assoc) (take-at (take (sizeOf Z b) xs) _ (min (sizeOf Z b) (length xs)) (length-take (sizeOf Z b) xs))
+
+-- xs up to z bytes, and zeros up to there
+unfoldable pub padded : ℕ → List ℕ → List ℕ
+padded z xs = take z xs ++ replicate (z - length xs) 0
+
+pub padded-length : (z : ℕ) (xs : List ℕ) → length (padded z xs) ≡ z
+unfolding padded
+padded-length z xs = simp (length-append, length-take, length-replicate) (omega arith)
+
+pub filled-whole : (Z : List ℕ) (B : ℕ) (st : List ℕ) (b : ℕ) (xs : List ℕ) → Fit Z B st → b < B
+    → bytesOf Z (filled Z st b xs) (wholeOf Z b) ≡ padded (sizeOf Z b) xs
+unfolding filledAt padded
+filled-whole Z B st b xs s h =
+    let p : length (take (startOf Z b) st) ≡ startOf Z b + 0 = simp length-take (omega (arith, start-step Z b B h)) in
+    rw (drop-at _ _ (startOf Z b + 0) p) (take-at (padded (sizeOf Z b) xs) _ (sizeOf Z b) (padded-length (sizeOf Z b) xs))
+
+-- a buffer cleaned is zero
+pub cleaned-zero : (Z : List ℕ) (B : ℕ) (st : List ℕ) (b : ℕ) → Fit Z B st → b < B → Zeroed Z (cleaned Z st b) b
+unfolding padded
+cleaned-zero Z B st b s h = filled-whole Z B st b [] s h ∙ rw (take-nil, sub-zero)
 
 pub filled-other : (Z : List ℕ) (B : ℕ) (st : List ℕ) (b : ℕ) (xs : List ℕ) (x : Stretch) → Fit Z B st → b < B → x .buffer ≢ b → x .buffer < B → x .offset + x .len ≤ sizeOf Z (x .buffer)
     → bytesOf Z (filled Z st b xs) x ≡ bytesOf Z st x

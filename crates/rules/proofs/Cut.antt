@@ -27,7 +27,7 @@ use Rattle.rules.proofs.Sizes.{new-sizes, same-sizes}
 use Rattle.rules.proofs.After.{gives-reading}
 use Rattle.rules.proofs.Takes.{buffersOf, cutOut-none, new-pass, roomy, spans-none, took-new}
 use Rattle.rules.proofs.Lawful.{Lawful, new-vacant, Leaving, Taking, Causing}
-use Rattle.rules.proofs.Stays.{stays-as}
+use Rattle.rules.proofs.Stays.{stays-as, new-held}
 
 pub cut-sound : (s off n : ℕ) (S : State) → 0 < length (readySlips (S .tables)) → SoundNow (S .tables) → SoundNow (cutAfter s off n S .tables)
 unfolding cutAfter
@@ -90,7 +90,8 @@ cut-lawful x off n = record {
   codes = λ S. omega arith;
   sizes = λ S. new-sizes (plain (S .tables) _) (freePieces (S .tables)) (newSlip (S .tables)) (same-sizes (S .tables));
   ages = λ S _. (λ v. absurd v, λ v. v, tt);
-  stays = λ S _ _ _. stays-as S (cutAfter (x .slip) off n S) 0 refl;
+  stays = λ S _ _ _. stays-as S (cutAfter (x .slip) off n S) 0 refl
+      (new-held (S .tables) (plain (S .tables) _) (freePieces (S .tables)) (newSlip (S .tables)) (λ b u. u));
   sound = λ S h a. cut-sound (x .slip) off n S (a .slips-room) h;
   known = λ S a. (inr (new-vacant (S .tables) (a .slips-room)), tt);
   caused = cut-caused x off n;

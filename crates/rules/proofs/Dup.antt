@@ -8,6 +8,7 @@ use lib.ListN.{length, take, drop}
 use Rattle.rules.specs.Basics.{if_then_else_}
 use Rattle.rules.specs.Tables.{Tables, piece, headOf, bufferTotal}
 use Rattle.rules.specs.Chain.{State, stretches, Stretch, chain, stretch, spans, reads, total}
+use Rattle.rules.specs.Release.{shared}
 use Rattle.rules.specs.Room.{readySlips, freePieces, newSlip, isUnheld}
 use Rattle.rules.specs.Rule.{Name, want}
 use Rattle.rules.specs.Dup.{dupPlan, dupAfter, dupCall}
@@ -23,7 +24,7 @@ use Rattle.rules.proofs.Sizes.{Sizes, new-sizes, same-sizes, shared-siz
 use Rattle.rules.proofs.After.{gives-reading, reads-length}
 use Rattle.rules.proofs.Takes.{buffersOf, new-front, roomy, spans-none, took-new, used-drop}
 use Rattle.rules.proofs.Lawful.{Lawful, new-vacant, Leaving, Taking, Causing}
-use Rattle.rules.proofs.Stays.{stays-as}
+use Rattle.rules.proofs.Stays.{NoneFreed, stays-as, new-held}
 
 pub dup-planned : (T : Tables) (n : ℕ) → ((d : ℕ) → n ≡ suc d → 0 < piece T d .count) → SoundNow T → Planned T (dupPlan T n)
 unfolding dupPlan stretches
@@ -75,6 +76,16 @@ unfolding dupPlan
 dup-sizes T zero = same-sizes T
 dup-sizes T (suc d) = shared-sizes T (piece T d .next)
 
+-- to share a piece is to touch no buffer
+shared-held : (T : Tables) (n : ℕ) → NoneFreed T (shared T n)
+shared-held T zero b u = u
+shared-held T (suc d) b u = u
+
+dup-held : (T : Tables) (n : ℕ) → NoneFreed T (dupPlan T n .base)
+unfolding dupPlan
+dup-held T zero b u = u
+dup-held T (suc d) b u = shared-held T (piece T d .next) b u
+
 dup-leaves : (x : Name) → Leaving (dupCall x)
 unfolding dupAfter
 dup-leaves x S h _ a h′ =
@@ -119,7 +130,8 @@ dup-lawful x = record {
   codes = λ S. omega arith;
   sizes = λ S. (let T = S .tables in new-sizes (dupPlan T (headOf T (x .slip))) (freePieces T) (newSlip T) (dup-sizes T (headOf T (x .slip))));
   ages = λ S _. (λ v. absurd v, λ v. v, tt);
-  stays = λ S _ _ _. stays-as S (dupAfter (x .slip) S) 0 refl;
+  stays = λ S _ _ _. (let T = S .tables in stays-as S (dupAfter (x .slip) S) 0 refl
+      (new-held T (dupPlan T (headOf T (x .slip))) (freePieces T) (newSlip T) (dup-held T (headOf T (x .slip)))));
   sound = λ S h a. dup-sound (x .slip) S (a .slips-room) h;
   known = λ S a. (inr (new-vacant (S .tables) (a .slips-room)), tt);
   caused = dup-caused x;

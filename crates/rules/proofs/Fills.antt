@@ -18,7 +18,8 @@ use Rattle.rules.specs.Bytes.{decode}
 use Rattle.rules.specs.Chain.{Stretch, State, chain, spans, total, firstLength, lengthOf, bytesOf, contents, reads, withStorage}
 use Rattle.rules.specs.Sound.{Lent}
 use Rattle.rules.specs.Room.{isUnheld, freePieces, freeBuffers, newBuffers}
-use Rattle.rules.specs.Build.{Plan, plain, underOld, underFreed, buffersFor, laid, filledAt, filled, stored}
+use Rattle.rules.specs.Storage.{filledAt, filled, wholeOf}
+use Rattle.rules.specs.Build.{Plan, plain, underOld, underFreed, buffersFor, laid, stored}
 use Rattle.rules.specs.Rule.{Wants, want, giving}
 use Rattle.rules.specs.Put.{putAfter}
 use Rattle.rules.specs.Drop.{dropped, dropBack}
@@ -33,11 +34,11 @@ use Rattle.rules.proofs.Logic.{if-both, and-1, not-zero, not-most}
 use Rattle.rules.proofs.Moves.{SoundNow}
 use Rattle.rules.proofs.Build.{Planned, plain-planned}
 use Rattle.rules.proofs.Room.{AllIn, above-not, all-free, new-buffers-in, free-pieces}
-use Rattle.rules.proofs.Contents.{Fit, filled-length, stored-other}
+use Rattle.rules.proofs.Contents.{Fit, padded, padded-length, filled-length, filled-whole, stored-other}
 use Rattle.rules.proofs.Audit.{sound-now}
 use Rattle.rules.proofs.Codes.{Allowed, allowed, no-cause, first-named}
 use Rattle.rules.proofs.Sizes.{made-sizes, new-length}
-use Rattle.rules.proofs.Storage.{wholeOf, Keeps, old-keeps}
+use Rattle.rules.proofs.Storage.{Keeps, old-keeps}
 use Rattle.rules.proofs.After.{reads-length}
 use Rattle.rules.proofs.Freed.{emptied-keeps}
 use Rattle.rules.proofs.Put.{new-good}
@@ -46,14 +47,6 @@ use Rattle.rules.proofs.Calls.{takes}
 use Rattle.rules.proofs.Step.{after-state, did, slips-took, sound-within}
 
 -- ---- one buffer
-
--- xs up to z bytes, and zeros up to there
-padded : ℕ → List ℕ → List ℕ
-padded z xs = take z xs ++ replicate (z - length xs) 0
-
-padded-length : (z : ℕ) (xs : List ℕ) → length (padded z xs) ≡ z
-unfolding padded
-padded-length z xs = simp (length-append, length-take, length-replicate) (omega arith)
 
 padded-at : (z : ℕ) (xs : List ℕ) (i : ℕ) → i < z → getD (padded z xs) i 0 ≡ getD xs i 0
 unfolding padded
@@ -75,12 +68,6 @@ module _ (Z st : List ℕ) (b : ℕ) (xs : List ℕ) (r : startOf Z b + sizeOf Z
       let l : startOf Z b + i ≡ length p + i = simp length-take (omega arith) in
       ap (λ j. getD (filled Z st b xs) j 0) l ∙ getD-append-add p _ i 0
       ∙ List·getD-append (padded (sizeOf Z b) xs) _ 0 i (omega (arith, padded-length (sizeOf Z b) xs)) ∙ padded-at (sizeOf Z b) xs i h
-
-  filled-whole : bytesOf Z (filled Z st b xs) (record { buffer = b; offset = 0; len = sizeOf Z b }) ≡ padded (sizeOf Z b) xs
-  unfolding filledAt padded
-  filled-whole =
-      let p : length (take (startOf Z b) st) ≡ startOf Z b + 0 = simp length-take (omega arith) in
-      rw (drop-at _ _ (startOf Z b + 0) p) (take-at (padded (sizeOf Z b) xs) _ (sizeOf Z b) (padded-length (sizeOf Z b) xs))
 
 -- ---- buffers in a row
 
@@ -113,7 +100,7 @@ stored-filled Z f i B (b ∷ bs) st xs a s h =
     let s₁ : Fit Z B st₁ = filled-length Z B st b xs s (a .1) ∙ s in
     let x : Stretch = record { buffer = b; offset = 0; len = z } in
     let p = stored-other Z f (suc b) B bs st₁ xs₁ x (a .3) s₁ (a .1) (omega arith) (above-not f (suc b) B b bs (omega arith) (a .3)) in
-    let q = filled-whole Z st b xs (omega (arith, start-step Z b B (a .1))) in
+    let q = filled-whole Z B st b xs s (a .1) in
     let r = stored-filled Z f (suc b) B bs st₁ xs₁ (a .3) s₁ (omega (arith, length-drop z xs)) in
     ap₂ _++_ (p ∙ q) r ∙ padded-more z (total (wholes Z bs)) xs h
 

@@ -88,7 +88,7 @@ free-lawful x =
       stays = λ S h f a. (
           let l = first-named (S .tables) x [] (a .early) .0 in
           aged-stays S (turned S s vacant) s 0
-          (stays-then (same-sizes (S .tables)) (λ b _ u. u) (stays-as S S 0 refl) (turned-keeps S s vacant l (no-head (S .tables) h) f)));
+          (stays-then (same-sizes (S .tables)) (λ b _ u. u) (λ b u. u) (stays-as S S 0 refl (λ b u. u)) (turned-keeps S s vacant l (no-head (S .tables) h) f)));
       sound = λ S h a. free-sound s S (first-named (S .tables) x [] (a .early) .0) h;
       known = λ S _. (inl refl, tt);
       caused = free-caused x;

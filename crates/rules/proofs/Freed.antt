@@ -12,6 +12,7 @@ use lib.Dec.{eqb, eqb→eq}
 use Rattle.rules.specs.Basics.{Is, if_then_else_, bit, sumTo, places, passing, member}
 use Rattle.rules.specs.Tables.{Piece, Tables, blank, slip, piece, bufferCount, headOf, holding, slipTotal, pieceTotal, bufferTotal, setSlip, withCount}
 use Rattle.rules.specs.Chain.{State, Stretch, chain, stretches, spans, ownPieces, ownOf, bytesOf, contents, withTables, withStorage}
+use Rattle.rules.specs.Storage.{wholeOf, Zeroed}
 use Rattle.rules.specs.Room.{isFree, isFreeWith, isUnheld, freePieces, freeWith, freeBuffers, newBuffers}
 use Rattle.rules.specs.Release.{another, lowered, freed, releaseIn, release, turned}
 use Rattle.rules.specs.Build.{Plan, built, underNew, underFreed, stored}
@@ -28,9 +29,9 @@ use Rattle.rules.proofs.Meets.{Meets, chain-meets, meets-one, Same, sam
 use Rattle.rules.proofs.Hang.{Gives, gives-as, gives-from, gives-chain, gives-spans, moved-spans, turned-keep, turned-entry, turned-entries, turned-others, new-gives}
 use Rattle.rules.proofs.Contents.{Fit}
 use Rattle.rules.proofs.Sizes.{Sizes, then-sizes, turned-sizes, new-sizes, new-length}
-use Rattle.rules.proofs.Storage.{wholeOf, heldBytes, Keeps, Spared, spared-append, spared-used, fit-by, turned-keeps, keeps-contents, keeps-stretches}
+use Rattle.rules.proofs.Storage.{heldBytes, Keeps, Spared, spared-append, spared-used, fit-by, turned-keeps, keeps-contents, keeps-stretches}
 use Rattle.rules.proofs.Takes.{Roomy, Old, buffersOf, old-as, used-none, member-in, in-member, new-pass, took-with, no-slips}
-use Rattle.rules.proofs.Stays.{StorageStays, stays-new, built-count}
+use Rattle.rules.proofs.Stays.{StorageStays, stays-new, built-count, built-held}
 
 -- ---- what a release gives back: own pieces
 
@@ -331,7 +332,7 @@ freed-stays S xs p s k h l f a =
     let S₁ = withStorage S (stored (T .stock) (S .storage) (newBuffers T k) xs) in
     let E = emptied S₁ p s in
     let q = emptied-keeps S₁ p s h l (new-length S k xs f ∙ f) in
-    let w = stays-new S (withTables S₁ (p .base)) k xs f refl in
+    let w = stays-new S (withTables S₁ (p .base)) k xs f refl (λ b u. omega (arith, ap (λ (q : List ℕ). getD q b 0) (h .still .counts-still))) in
     let z = base-sizes S₁ p s h l (new-length S k xs f ∙ f) in
     let cs : (b : ℕ) → bufferCount (p .base) b ≡ bufferCount T b = λ b. ap (λ (q : List ℕ). getD q b 0) (h .still .counts-still) in
     record {
@@ -343,4 +344,11 @@ freed-stays S xs p s k h l f a =
           (λ t. omega (arith, cs b, g (omega (arith, cs b)), built-count (E .tables) (freePieces (E .tables)) (p .more) (p .tail) b (λ m. t (in-member b (buffersOf (p .more)) m))))
           (is-dec (member b (buffersOf (p .more))))))
           ∙ w .others b i n (λ u. omega (arith, cs b));
+      clean = λ b i u e.
+          subst (λ (Z : List ℕ). Zeroed Z (E .storage) b) (z .stock-kept)
+          (q .clean b (omega (arith, z .counts-size)) (omega (arith, cs b))
+          (elim (ℕ-discrete (bufferCount (E .tables) b) 0) [
+            | yes v ↦ v
+            | no v ↦ absurd (omega (arith, built-held (E .tables) (freePieces (E .tables)) (p .more) (p .tail) b (omega arith)))
+          ]));
     }

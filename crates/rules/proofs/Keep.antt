@@ -33,7 +33,7 @@ use Rattle.rules.proofs.After.{Reading, gives-reading, reads-length, sa
 use Rattle.rules.proofs.Takes.{Roomy, buffersOf, cutOut-none, new-pass, nothing-taken, roomy, spans-none, took-held, used-none, drop-none}
 use Rattle.rules.proofs.Lawful.{Lawful, Leaving, Taking, Causing, Staying}
 use Rattle.rules.proofs.Storage.{Keeps, behind-keeps, keeps-spans, fit-by}
-use Rattle.rules.proofs.Stays.{StorageStays, TakesOnly, built-only, maybe-stays, behind-stays}
+use Rattle.rules.proofs.Stays.{StorageStays, NoneFreed, TakesOnly, built-held, built-only, maybe-stays, behind-stays}
 
 own-last : (j : ℕ) (T : Tables) (n l : ℕ) → OwnTo j T n l → piece T l .count ≡ 1
 own-last zero T n l o = o .1
@@ -329,6 +329,17 @@ tables-only : (T : Tables) (own : List ℕ) (xs rest : List Stretch) → NoneOf 
 tables-only T own xs [] n = shortened-only T own xs
 tables-only T own xs (y ∷ ys) n = built-only T T (freePieces T) (y ∷ ys) 0 0 refl (passing-none (isUnheld T) (buffersOf (y ∷ ys)) n)
 
+-- and no buffer is set free
+shortened-held : (T : Tables) (own : List ℕ) (xs : List Stretch) → NoneFreed T (shortened T own xs)
+unfolding shortened
+shortened-held T [] xs b u = u
+shortened-held T (d ∷ ds) [] b u = u
+shortened-held T (d ∷ ds) (x ∷ xs) b u = u
+
+tables-held : (T : Tables) (own : List ℕ) (xs rest : List Stretch) → NoneFreed T (keptTables T own xs rest)
+tables-held T own xs [] = shortened-held T own xs
+tables-held T own xs (y ∷ ys) = built-held T (freePieces T) (y ∷ ys) 0
+
 keep-stays : (x : Name) (n : ℕ) → Staying (keepCall x n)
 unfolding keepAfter
 keep-stays x n S h f a =
@@ -342,7 +353,7 @@ keep-stays x n S h f a =
     (subst (λ (X : State). StorageStays S X 0) (kept-as S s own xs rest)
     (behind-stays S (keptTables T own xs rest) s (keptLink T rest) own (tables-sizes T own xs rest)
     (tables-only T own xs rest (drop-none (isUnheld T) (length own) xs (cutOut-none (isUnheld T) (spans T s) 0 n (spans-none T s h))))
-    (r .below) (r .own-list) (r .held) f))
+    (tables-held T own xs rest) (r .below) (r .own-list) (r .held) f))
 
 keep-leaves : (x : Name) (n : ℕ) → Leaving (keepCall x n)
 unfolding keepAfter

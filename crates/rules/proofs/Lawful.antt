@@ -11,7 +11,7 @@ use lib.Seq.{getD-set-same, getD-set-other}
 use lib.Dec.{T-not}
 use Rattle.kinds.specs.Serial.{older}
 use Rattle.rules.specs.Basics.{Is, if_then_else_, Among}
-use Rattle.rules.specs.Tables.{Tables, bufferTotal, slip, slipTotal, withSerials}
+use Rattle.rules.specs.Tables.{Tables, bufferCount, bufferTotal, slip, slipTotal, withSerials}
 use Rattle.rules.specs.Chain.{State}
 use Rattle.rules.specs.Room.{isVacant, newSlip, readySlips}
 use Rattle.rules.specs.Rule.{Change, Meaning, Name, Rule, Wants, looks, want, Asks, asksNothing, slipsOf}
@@ -84,7 +84,7 @@ pub record Lawful (m : Meaning) : Type 0 where
   -- tables stay as long as they were, and only serials of vacated slips move
   pub sizes : (S : State) → Sizes (withSerials (S .tables) (agedBy (m .changes S) (S .tables .serials))) (m .rule S .after .tables)
   pub ages : (S : State) → Allowed (m .rule S) (S .tables) → Ageable (slipTotal (S .tables)) (m .changes S)
-  -- once it is done: storage stays as long as it was, and so does every byte of a buffer that is neither taken nor set free
+  -- once it is done: storage stays as long as it was, and so does every byte of a buffer that is neither taken nor set free; one set free is zero
   pub stays : Staying m
   -- soundness is kept, and only slips that it names or takes are changed
   pub sound : (S : State) → SoundNow (S .tables) → Allowed (m .rule S) (S .tables) → SoundNow (m .rule S .after .tables)
@@ -151,7 +151,8 @@ looks-lawful ns out r a c e k =
       codes = c;
       sizes = λ S. subst (λ (X : State). Sizes (S .tables) (X .tables)) (sym (e S .0)) (same-sizes (S .tables));
       ages = λ S _. tt;
-      stays = λ S _ _ _. stays-as S (r S .after) _ (ap (λ (X : State). X .storage) (e S .0));
+      stays = λ S _ _ _. stays-as S (r S .after) _ (ap (λ (X : State). X .storage) (e S .0))
+          (λ b u. subst (λ (X : State). 0 < bufferCount (X .tables) b) (sym (e S .0)) u);
       sound = λ S h _. subst (λ (X : State). SoundNow (X .tables)) (sym (e S .0)) h;
       known = λ S _. tt;
       caused = k;

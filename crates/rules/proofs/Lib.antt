@@ -46,7 +46,6 @@ pub mod List
 pub mod Gather
 -- all calls together
 pub mod Calls
-pub mod Writes
 -- bytes, and any call on them
 pub mod Bounds
 pub mod Bytes
@@ -67,5 +66,6 @@ pub mod Full
 pub mod Most
 pub mod Lists
 pub mod Serials
+pub mod Clean
 pub mod Settles
 pub mod Morning

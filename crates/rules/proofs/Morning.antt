@@ -7,13 +7,14 @@ use lib.ListN.{length, getD, take, replicate}
 use Rattle.word.specs.Word.{get16}
 use Rattle.kinds.specs.Sizes.{classOf}
 use Rattle.rules.specs.Basics.{if_then_else_, allTo, anyTo, places, member}
-use Rattle.rules.specs.Tables.{pieceTotal}
+use Rattle.rules.specs.Tables.{freshTables, pieceTotal}
 use Rattle.rules.specs.Bytes.{decode, encode}
 use Rattle.rules.specs.Chain.{follow, walk, ownPieces, stretches, total, cutOut, contents, reads}
 use Rattle.rules.specs.Sound.{heads, nexts, lying, headerOk, acyclic, soundTables, sound, Lent, lent}
 use Rattle.rules.specs.Room.{freePieces}
 use Rattle.rules.specs.Release.{releaseIn, release, turned, relinked}
-use Rattle.rules.specs.Build.{builtLink, built, underNew, underOld, underFreed, behindOwn, laid, filledAt, stored}
+use Rattle.rules.specs.Storage.{filledAt}
+use Rattle.rules.specs.Build.{builtLink, built, underNew, underOld, underFreed, behindOwn, laid, stored}
 use Rattle.rules.specs.Rule.{Name, name, firstCode}
 use Rattle.rules.specs.Open.{openable}
 use Rattle.rules.specs.Put.{putAfter}
@@ -45,6 +46,11 @@ fresh4-open q e = rw e
 pub morning : given rows fresh4 ≡ rows
 unfolding every-rule given
 morning = refl
+
+-- over zeros the ten calls leave zeros
+pub morning-clean : afterCalls (map (λ (r : Row). Do (r .call)) rows) (lent (encode (freshTables 4 6 4)) (replicate 2048 0)) .storage ≡ replicate 2048 0
+unfolding every-rule
+morning-clean = refl
 
 -- the 95 bytes of the pool after row 3
 pub used-example : afterCalls (Do (Put (byteRun 0 600)) ∷ Do (Cut (first 0) 500 50) ∷ Do (Dup (first 0)) ∷ []) fresh4 .pool

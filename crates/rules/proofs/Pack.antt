@@ -111,7 +111,7 @@ pack-stays x S h f a =
     let k = buffersFor n in
     let xs = laid (T .stock) (newBuffers T k) n in
     if-both (λ (X : State) (w : Wants). StorageStays S X (w .buffers)) (leb (length (chain T s)) 1) _ _ (want 0 0 0) (want 0 k k)
-    (λ _. stays-as S S 0 refl)
+    (λ _. stays-as S S 0 refl (λ b u. u))
     (λ _. old-stays S (reads S s) (plain T xs) (freePieces T) s k (plain-planned T xs (new-good T n) h) (free-pieces T)
     (first-named T x _ (a .early) .0) f (new-laid T k n))
 

@@ -173,7 +173,7 @@ pullup-stays x n S h f a =
     let s = x .slip in
     let b = first-named T x _ (a .early) .0 in
     if-both (λ (X : State) (w : Wants). StorageStays S X (w .buffers)) (leb n (firstLength (spans T s))) _ _ (want 0 0 0) (giving (dropBack T s n) (suc (length (dropped T s n .more))) 1)
-    (λ _. stays-as S S 0 refl)
+    (λ _. stays-as S S 0 refl (λ b u. u))
     (λ t. freed-stays S (take n (reads S s)) (pulled T s n) s 1 (pulled-planned T s n (omega (arith, not-most n (firstLength (spans T s)) t)) h) b f
     (pulled-spared (withStorage S (stored (T .stock) (S .storage) (newBuffers T 1) (take n (reads S s)))) T s n b h))
 

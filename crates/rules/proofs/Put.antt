@@ -22,7 +22,7 @@ use Rattle.rules.proofs.Sizes.{new-sizes, same-sizes}
 use Rattle.rules.proofs.After.{gives-reading, new-here, new-others}
 use Rattle.rules.proofs.Takes.{new-laid, new-pass, roomy, took-new}
 use Rattle.rules.proofs.Lawful.{Lawful, new-vacant, Leaving, Taking, Causing}
-use Rattle.rules.proofs.Stays.{stays-new}
+use Rattle.rules.proofs.Stays.{stays-new, new-held}
 
 -- n bytes on the lowest free buffers
 pub new-good : (T : Tables) (n : ℕ) → Good (T .stock) (bufferTotal T) (laid (T .stock) (newBuffers T (buffersFor n)) n)
@@ -87,7 +87,8 @@ put-lawful input = record {
   codes = λ S. omega arith;
   sizes = λ S. new-sizes (plain (S .tables) _) (freePieces (S .tables)) (newSlip (S .tables)) (same-sizes (S .tables));
   ages = λ S _. (λ v. absurd v, λ v. v, tt);
-  stays = λ S _ f _. stays-new S _ (buffersFor (length input)) input f refl;
+  stays = λ S _ f _. stays-new S _ (buffersFor (length input)) input f refl
+      (new-held (S .tables) (plain (S .tables) _) (freePieces (S .tables)) (newSlip (S .tables)) (λ b u. u));
   sound = λ S h a. put-sound input S (a .slips-room) h;
   known = λ S a. (inr (new-vacant (S .tables) (a .slips-room)), tt);
   caused = put-caused input;

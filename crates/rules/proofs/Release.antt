@@ -12,7 +12,7 @@ use Rattle.rules.specs.Basics.{Is, if_then_else_}
 use Rattle.rules.specs.Tables.{Tables, piece, headOf, pieceTotal, setSlip, withSlips}
 use Rattle.rules.specs.Chain.{State, withTables}
 use Rattle.rules.specs.Release.{another, lowered, freed, releaseIn, release, turned}
-use Rattle.rules.proofs.Logic.{if-either}
+use Rattle.rules.proofs.Logic.{if-T, if-either}
 use Rattle.rules.proofs.Moves.{SoundBy, SoundWith, hit-same, used-in-range, reorder, slip-move, lower-move, free-move}
 use Rattle.rules.proofs.Rank.{low, low-below, lower-rank}
 
@@ -71,24 +71,57 @@ unfolding release
 release-slips S n = releaseIn-slips (pieceTotal (S .tables)) S n
 
 -- an entry stored after a release may be stored before it
-either-way : (b : Bool) (s w : ℕ) (A B A′ B′ : State) → setSlip (A .tables) s w ≡ A′ .tables → setSlip (B .tables) s w ≡ B′ .tables
-    → setSlip ((if b then A else B) .tables) s w ≡ (if b then A′ else B′) .tables
+abbrev entered : State → ℕ → ℕ → State
+entered S s v = withTables S (setSlip (S .tables) s v)
+
+either-way : (b : Bool) (s w : ℕ) (A B A′ B′ : State) → entered A s w ≡ A′ → entered B s w ≡ B′ → entered (if b then A else B) s w ≡ (if b then A′ else B′)
 unfolding if_then_else_
 either-way true s w A B A′ B′ p q = p
 either-way false s w A B A′ B′ p q = q
 
-releaseIn-entry : (k : ℕ) (S : State) (n s v w : ℕ)
-    → setSlip (releaseIn k (withTables S (setSlip (S .tables) s v)) n .tables) s w ≡ releaseIn k (withTables S (setSlip (S .tables) s w)) n .tables
+releaseIn-entry : (k : ℕ) (S : State) (n s v w : ℕ) → entered (releaseIn k (entered S s v) n) s w ≡ releaseIn k (entered S s w) n
 unfolding releaseIn
-releaseIn-entry zero S n s v w = ap (withSlips (S .tables)) (set-set (S .tables .slips) s v w)
-releaseIn-entry (suc k) S zero s v w = ap (withSlips (S .tables)) (set-set (S .tables .slips) s v w)
+releaseIn-entry zero S n s v w = ap (λ (q : List ℕ). withTables S (withSlips (S .tables) q)) (set-set (S .tables .slips) s v w)
+releaseIn-entry (suc k) S zero s v w = ap (λ (q : List ℕ). withTables S (withSlips (S .tables) q)) (set-set (S .tables .slips) s v w)
 releaseIn-entry (suc k) S (suc d) s v w =
     let T = S .tables in
-    let U : ℕ → State = λ x. withTables S (setSlip T s x) in
-    let more : ℕ → State = λ x. releaseIn k (freed (U x) d) (piece T d .next) in
-    either-way (another T d) s w (withTables S (lowered (U v .tables) d)) (more v) (withTables S (lowered (U w .tables) d)) (more w)
-    (ap (withSlips (lowered T d)) (set-set (T .slips) s v w)) (releaseIn-entry k (freed S d) (piece T d .next) s v w)
+    let more : ℕ → State = λ x. releaseIn k (freed (entered S s x) d) (piece T d .next) in
+    either-way (another T d) s w (withTables S (lowered (setSlip T s v) d)) (more v) (withTables S (lowered (setSlip T s w) d)) (more w)
+    (ap (λ (q : List ℕ). withTables S (withSlips (lowered T d) q)) (set-set (T .slips) s v w)) (releaseIn-entry k (freed S d) (piece T d .next) s v w)
+
+turned-either : (S : State) (s v w : ℕ) → entered (turned S s v) s w ≡ turned S s w
+unfolding turned release
+turned-either S s v w = releaseIn-entry (pieceTotal (S .tables)) S (headOf (S .tables) s) s v w
 
 pub stored-after : (S : State) (s v w : ℕ) → setSlip (turned S s v .tables) s w ≡ turned S s w .tables
-unfolding turned release
-stored-after S s v w = releaseIn-entry (pieceTotal (S .tables)) S (headOf (S .tables) s) s v w
+stored-after S s v w = ap (λ (X : State). X .tables) (turned-either S s v w)
+
+-- so the storage does not hang on the entry
+pub same-storage : (S : State) (s v w : ℕ) → turned S s v .storage ≡ turned S s w .storage
+same-storage S s v w = ap (λ (X : State). X .storage) (turned-either S s v w)
+
+-- ---- where nothing is freed
+
+-- a link leads nowhere, or to a piece with another reference
+abbrev pub Shared : Tables → ℕ → Type 0
+Shared T zero = Unit {0}
+Shared T (suc d) = 1 < piece T d .count
+
+-- one reference less to where it leads
+abbrev pub unshared : Tables → ℕ → Tables
+unshared T zero = T
+unshared T (suc d) = lowered T d
+
+-- its release lowers a count, and frees nothing
+pub release-shared : (S : State) (n : ℕ) → Shared (S .tables) n → release S n ≡ withTables S (unshared (S .tables) n)
+unfolding release releaseIn
+release-shared S zero h = none (pieceTotal (S .tables))
+  where
+    none : (k : ℕ) → releaseIn k S 0 ≡ S
+    none zero = refl
+    none (suc k) = refl
+release-shared S (suc d) h = some (pieceTotal (S .tables)) (omega (arith, used-in-range (S .tables) d (omega arith)))
+  where
+    some : (k : ℕ) → 0 < k → releaseIn k S (suc d) ≡ withTables S (lowered (S .tables) d)
+    some zero z = absurd (omega arith)
+    some (suc k) z = if-T (another (S .tables) d) _ _ (lt→ltb 1 (piece (S .tables) d .count) h)

@@ -2,38 +2,36 @@
 use mathlib.Core.Path.{_≡_, refl, sym, ap, ap₂, subst, _∙_}
 use mathlib.Core.Logic.{_≢_, _↔_, ⊎-elim}
 use mathlib.Core.Bool.{not}
-use mathlib.Core.List.{List, [], _∷_, List·Memᴰ}
+use mathlib.Core.List.{List, [], _∷_}
 use Prim.Native.Nat.{ℕ, _≤_, _<_}
 use native.Mathlib.Decide.{ℕ-discrete}
 use native.Mathlib.Omega.{arith}
 use lib.ListN.{length, length-replicate}
-use lib.Dec.{eqb, eqb→eq, leb, le→leb, T-not}
+use lib.Dec.{eqb, eqb→eq, leb, le→leb}
 use Rattle.kinds.specs.declared.Refusal.{Refusal}
 use Rattle.kinds.specs.declared.Refusal.the-variants.{Counts, Torn}
 use Rattle.kinds.specs.Limits.{mostBuffers, mostPieces, mostSlips, counted}
 use Rattle.kinds.specs.Refusal.{refusalCode}
-use Rattle.rules.specs.Basics.{Is, member}
+use Rattle.rules.specs.Basics.{Is}
 use Rattle.rules.specs.Layout.{storageLength}
-use Rattle.rules.specs.Tables.{Tables, serial, slipTotal, pieceTotal, bufferTotal, blank, freshTables, bufferCount}
+use Rattle.rules.specs.Tables.{Tables, serial, slipTotal, pieceTotal, bufferTotal, blank, freshTables}
 use Rattle.rules.specs.Bytes.{stockIn, decode, encode}
 use Rattle.rules.specs.Chain.{State, reads, stateOf}
 use Rattle.rules.specs.Sound.{Lent, headerOk, soundTables, sound, lent, countsOk}
-use Rattle.rules.specs.Room.{isVacant, isUnheld, newBuffers}
+use Rattle.rules.specs.Storage.{Zeroed}
+use Rattle.rules.specs.Room.{isVacant, isUnheld}
 use Rattle.rules.specs.Rule.{codeIn}
 use Rattle.rules.specs.Open.{openable}
 use Rattle.rules.specs.Step.{Operation, Call, Open, Do, meaning, rule, lentOut, Result, refused, stateIn, done, perform, step, next, lentTo, leftBy}
 use Rattle.rules.specs.After.{readsAfter, vacantAfter, vacates, serialAfter}
-use Rattle.rules.specs.Takes.{Took, target, tookBuffers}
+use Rattle.rules.specs.Takes.{Took, target}
 use Rattle.rules.proofs.Logic.{if-T, if-F, if-either, and-intro, and-0, eq→eqb, is-dec, and-parts}
 use Rattle.rules.proofs.Moves.{SoundNow}
 use Rattle.rules.proofs.Audit.{tables-pass, sound-now, fresh-sound, getD-same}
 use Rattle.rules.proofs.Codes.{Allowed, allowed, first-listed}
 use Rattle.rules.proofs.Storage.{heldBytes}
-use Rattle.rules.proofs.After.{held-not-new}
-use Rattle.rules.proofs.Takes.{in-member}
 use Rattle.rules.proofs.Lawful.{aged-size}
-use Rattle.rules.proofs.Calls.{reads-ok, rule-bytes, rule-serials, rule-sizes, rule-sound, rule-storage, takes}
-use Rattle.rules.proofs.Writes.{unwritten}
+use Rattle.rules.proofs.Calls.{reads-ok, rule-bytes, rule-clean, rule-serials, rule-sizes, rule-sound, rule-storage, takes}
 use Rattle.rules.proofs.Bounds.{small}
 use Rattle.rules.proofs.Bytes.{Sized, header-facts, decode-slips, decode-serials, serial-small, decode-pieces, decode-counts, decode-encode, encode-header, and-is, eqb-is, InRange, counts-facts}
 
@@ -319,24 +317,12 @@ bytes-stay o m e b l u =
     subst (λ (X : State). isUnheld (X .tables) b ≡ isUnheld T b → heldBytes T (X .storage) b ≡ heldBytes T (S .storage) b) (sym (after-state o m e))
     (rule-bytes o S (sound-now m (d .was-sound)) (sound-within m (d .was-sound) .storage-fits) (allowed (rule o S) T (d .allowed-code)) b l) u
 
--- Release writes no byte: the next three lean on that (`Writes`).
-not-new-stays : (o : Operation) (m : Lent) → step (Do o) m .code ≡ 0 → (b : ℕ) → b < bufferTotal (decode (m .pool))
-    → (List·Memᴰ b (newBuffers (decode (m .pool)) (rule o (stateIn m) .wants .buffers)) → ⊥)
-    → heldBytes (decode (m .pool)) (next (Do o) m .storage) b ≡ heldBytes (decode (m .pool)) (m .storage) b
-not-new-stays o m e b l n =
+-- It leaves zeros in a buffer that it gives back: one that is held before it, and free after it.
+pub given-back-zero : (o : Operation) (m : Lent) → step (Do o) m .code ≡ 0 → (b : ℕ) → b < bufferTotal (decode (m .pool))
+    → Is (not (isUnheld (decode (m .pool)) b)) → Is (isUnheld (decode (next (Do o) m .pool)) b) → Zeroed (decode (m .pool) .stock) (next (Do o) m .storage) b
+given-back-zero o m e b l =
     let d = did o m e in
-    ap (λ (x : State). heldBytes (decode (m .pool)) (x .storage) b) (after-state o m e)
-    ∙ unwritten o (stateIn m) (sound-within m (d .was-sound) .storage-fits) b l n
-
--- a done operation leaves every byte of a buffer that was held
-pub storage-stays : (o : Operation) (m : Lent) → step (Do o) m .code ≡ 0 → (b : ℕ) → b < bufferTotal (decode (m .pool)) → 0 < bufferCount (decode (m .pool)) b
-    → heldBytes (decode (m .pool)) (next (Do o) m .storage) b ≡ heldBytes (decode (m .pool)) (m .storage) b
-storage-stays o m e b l h = not-new-stays o m e b l (held-not-new (decode (m .pool)) (rule o (stateIn m) .wants .buffers) b h)
-
--- and of one that it does not take, held or free
-pub untaken-stays : (o : Operation) (m : Lent) → step (Do o) m .code ≡ 0 → (b : ℕ) → b < bufferTotal (decode (m .pool))
-    → Is (not (member b (tookBuffers (decode (m .pool)) (decode (next (Do o) m .pool)))))
-    → heldBytes (decode (m .pool)) (next (Do o) m .storage) b ≡ heldBytes (decode (m .pool)) (m .storage) b
-untaken-stays o m e b l n =
-    not-new-stays o m e b l (λ k. T-not (member b (tookBuffers (decode (m .pool)) (decode (next (Do o) m .pool)))) n
-    (in-member b _ (subst (List·Memᴰ b) (sym (slips-took o m e .buffers)) k)))
+    let S = stateIn m in
+    let T = S .tables in
+    subst (λ (X : State). Is (not (isUnheld T b)) → Is (isUnheld (X .tables) b) → Zeroed (T .stock) (X .storage) b) (sym (after-state o m e))
+    (rule-clean o S (sound-now m (d .was-sound)) (sound-within m (d .was-sound) .storage-fits) (allowed (rule o S) T (d .allowed-code)) b l)

@@ -1,31 +1,31 @@
--- A release leaves every byte of a buffer that it does not set free, and the length of storage. Assumes nothing.
+-- A release cleans every buffer that it sets free, and leaves every byte of the others, and the length of storage. Assumes nothing.
 use mathlib.Core.Path.{_≡_, refl, sym, ap, ap₂, subst, subst₂, _∙_}
 use mathlib.Core.List.{List, [], _∷_, _++_}
 use Prim.Native.Nat.{ℕ, zero, suc, _+_, _-_, _≤_, _<_, min, pred}
+use native.Mathlib.Decide.{ℕ-discrete}
 use native.Mathlib.Omega.{arith}
 use lib.ListN.{length, take, drop}
+use lib.Seq.{getD-set-same, getD-set-other}
+use lib.Dec.{eqb, eqb→eq}
 use Rattle.kinds.specs.Sizes.{sizeOf}
 use Rattle.rules.specs.Basics.{lastOf}
 use Rattle.rules.specs.Layout.{storageLength}
 use Rattle.rules.specs.Tables.{Tables, blank, piece, bufferCount, headOf, holding, slipTotal, pieceTotal, bufferTotal, setSlip}
 use Rattle.rules.specs.Chain.{Stretch, State, chain, stretch, stretches, spans, bytesOf, contents, withTables}
+use Rattle.rules.specs.Storage.{cleaned, wholeOf, Zeroed}
 use Rattle.rules.specs.Release.{freed, releaseIn, release, turned, relinked}
 use Rattle.rules.specs.Build.{Plan, made, madeLink, underOld, behindOwn}
-use Rattle.rules.proofs.Logic.{if-either}
+use Rattle.rules.proofs.Logic.{if-T, if-either, eq→eqb}
 use Rattle.rules.proofs.Moves.{SoundBy, SoundWith, SoundNow, in-range, by-place, slip-move, buffer-pos, free-move}
 use Rattle.rules.proofs.Release.{held-pos, last-one}
 use Rattle.rules.proofs.Build.{Free, Good, Planned, OwnList, plan-built, made-slips, old-sound, tail-sound, withTail}
 use Rattle.rules.proofs.Chain.{AllUsed, chain-used, stretches-good}
-use Rattle.rules.proofs.Contents.{Fit, bytes-part}
+use Rattle.rules.proofs.Contents.{Fit, bytes-part, filled-length, filled-other, cleaned-zero}
 use Rattle.rules.proofs.Sizes.{Sizes, same-sizes, then-sizes, slip-set, piece-set, both-set, made-sizes}
 
 -- ---- the bytes of a buffer
 
--- the whole of buffer b
-abbrev pub wholeOf : List ℕ → ℕ → Stretch
-wholeOf Z b = record { buffer = b; offset = 0; len = sizeOf Z b }
-
--- its bytes in the storage st, where the buffers lie as in T
+-- the bytes of buffer b in the storage st, where the buffers lie as in T
 abbrev pub heldBytes : Tables → List ℕ → ℕ → List ℕ
 heldBytes T st b = bytesOf (T .stock) st (wholeOf (T .stock) b)
 
@@ -45,27 +45,41 @@ part-stays Z st st′ x h e = part-of Z st′ x h ∙ ap (λ (q : List ℕ). tak
 -- ---- what a release keeps
 
 -- From S to S′ references are released. No count of a buffer rises, storage stays as long as it was,
--- and every byte stays of a buffer that is not set free: it was free, or is held afterwards.
+-- every byte stays of a buffer that is not set free (it was free, or is held afterwards), and one that is set free is zero.
 pub record Keeps (S S′ : State) : Type 0 where
   pub sizes : Sizes (S .tables) (S′ .tables)
   pub as-long : length (S′ .storage) ≡ length (S .storage)
   pub fell : (b : ℕ) → bufferCount (S′ .tables) b ≤ bufferCount (S .tables) b
   pub others : (b : ℕ) → b < bufferTotal (S .tables) → (0 < bufferCount (S .tables) b → 0 < bufferCount (S′ .tables) b)
       → heldBytes (S .tables) (S′ .storage) b ≡ heldBytes (S .tables) (S .storage) b
+  pub clean : (b : ℕ) → b < bufferTotal (S .tables) → 0 < bufferCount (S .tables) b → bufferCount (S′ .tables) b ≡ 0
+      → Zeroed (S .tables .stock) (S′ .storage) b
 
 pub same-keeps : (S : State) → Keeps S S
-same-keeps S = record { sizes = same-sizes (S .tables); as-long = refl; fell = λ b. omega arith; others = λ b _ _. refl }
+same-keeps S = record {
+  sizes = same-sizes (S .tables);
+  as-long = refl;
+  fell = λ b. omega arith;
+  others = λ b _ _. refl;
+  clean = λ b _ u z. absurd (omega arith);
+}
 
 pub then-keeps : {A B C : State} → Keeps A B → Keeps B C → Keeps A C
-then-keeps {A} {B} {C} p q = record {
-  sizes = then-sizes (p .sizes) (q .sizes);
-  as-long = q .as-long ∙ p .as-long;
-  fell = λ b. omega (arith, p .fell b, q .fell b);
-  others = λ b l h.
-      subst (λ (Z : List ℕ). bytesOf Z (C .storage) (wholeOf Z b) ≡ bytesOf Z (B .storage) (wholeOf Z b)) (p .sizes .stock-kept)
-      (q .others b (omega (arith, p .sizes .counts-size)) (λ u. h (omega (arith, p .fell b))))
-      ∙ p .others b l (λ u. omega (arith, h u, q .fell b));
-}
+then-keeps {A} {B} {C} p q =
+    let stays : (b : ℕ) → b < bufferTotal (A .tables) → (0 < bufferCount (B .tables) b → 0 < bufferCount (C .tables) b)
+    → heldBytes (A .tables) (C .storage) b ≡ heldBytes (A .tables) (B .storage) b =
+    λ b l h. subst (λ (Z : List ℕ). bytesOf Z (C .storage) (wholeOf Z b) ≡ bytesOf Z (B .storage) (wholeOf Z b)) (p .sizes .stock-kept)
+    (q .others b (omega (arith, p .sizes .counts-size)) h) in
+    record {
+      sizes = then-sizes (p .sizes) (q .sizes);
+      as-long = q .as-long ∙ p .as-long;
+      fell = λ b. omega (arith, p .fell b, q .fell b);
+      others = λ b l h. stays b l (λ u. h (omega (arith, p .fell b))) ∙ p .others b l (λ u. omega (arith, h u, q .fell b));
+      clean = λ b l u z. elim (ℕ-discrete (bufferCount (B .tables) b) 0) [
+        | yes e ↦ stays b l (λ w. absurd (omega arith)) ∙ p .clean b l u e
+        | no e ↦ subst (λ (Z : List ℕ). Zeroed Z (C .storage) b) (p .sizes .stock-kept) (q .clean b (omega (arith, p .sizes .counts-size)) (omega arith) z)
+      ];
+    }
 
 -- storage has the length that tables of the same sizes ask
 pub fit-by : {T T′ : Tables} (st : List ℕ) → Sizes T T′ → Fit (T .stock) (bufferTotal T) st → Fit (T′ .stock) (bufferTotal T′) st
@@ -76,13 +90,30 @@ freed-keeps : {rank : ℕ → ℕ} {fl : List ℕ} (S : State) (d : ℕ) → 0 <
     → Fit (S .tables .stock) (bufferTotal (S .tables)) (S .storage) → Keeps S (freed S d)
 freed-keeps S d u h f =
     let T = S .tables in
+    let Z = T .stock in
     let b = piece T d .buffer in
+    let n = bufferCount T b - 1 in
+    let T′ = freed S d .tables in
+    let at-b : b < bufferTotal T = in-range (T .counts) 0 (λ n. n) b refl (buffer-pos d u h) in
+    let here : bufferCount T′ b ≡ n = getD-set-same (T .counts) b n 0 at-b in
+    let there : (x : ℕ) → (x ≡ b → ⊥) → bufferCount T′ x ≡ bufferCount T x = λ x e. getD-set-other (T .counts) b x n 0 e in
     record {
-      sizes = both-set T d blank b _;
-      as-long = refl;
-      fell = by-place (T .counts) b _ 0 (in-range (T .counts) 0 (λ n. n) b refl (buffer-pos d u h))
-          (λ n x. n ≤ bufferCount T x) (omega arith) (λ x _. omega arith);
-      others = λ x l k. refl;
+      sizes = both-set T d blank b n;
+      as-long = if-either (λ (q : List ℕ). length q ≡ length (S .storage)) (eqb n 0) _ _
+          (λ _. filled-length Z (bufferTotal T) (S .storage) b [] f at-b) (λ _. refl);
+      fell = by-place (T .counts) b n 0 at-b (λ n x. n ≤ bufferCount T x) (omega arith) (λ x _. omega arith);
+      others = λ x l k. if-either (λ (q : List ℕ). heldBytes T q x ≡ heldBytes T (S .storage) x) (eqb n 0) _ _
+          (λ t. filled-other Z (bufferTotal T) (S .storage) b [] (wholeOf Z x) f at-b
+          (λ e. omega (arith, here, eqb→eq n 0 t, ap (bufferCount T′) e, k (omega (arith, ap (bufferCount T) e, buffer-pos d u h)))) l (omega arith))
+          (λ _. refl);
+      clean = λ x l w z. elim (ℕ-discrete x b) [
+        | yes e ↦
+            subst (Zeroed Z (freed S d .storage)) (sym e)
+            (subst (λ (q : List ℕ). Zeroed Z q b)
+            (sym (if-T (eqb n 0) (cleaned Z (S .storage) b) (S .storage) (eq→eqb n 0 (sym here ∙ ap (bufferCount T′) (sym e) ∙ z))))
+            (cleaned-zero Z (bufferTotal T) (S .storage) b f at-b))
+        | no e ↦ absurd (omega (arith, there x e))
+      ];
     }
 
 -- ---- the releases
@@ -97,7 +128,7 @@ releaseIn-keeps (suc k) (suc d) {rank} {fl} S h f =
     let u = held-pos d h in
     let p = freed-keeps S d u h f in
     if-either (Keeps S) _ _ _
-    (λ _. record { sizes = piece-set T d _; as-long = refl; fell = λ b. omega arith; others = λ b _ _. refl })
+    (λ _. record { sizes = piece-set T d _; as-long = refl; fell = λ b. omega arith; others = λ b _ _. refl; clean = λ b _ w z. absurd (omega arith) })
     (λ t. then-keeps p (releaseIn-keeps k (piece T d .next) {fl = fl} (freed S d) (free-move d (last-one T d u t) h)
     (p .as-long ∙ fit-by (S .storage) (p .sizes) f)))
 
@@ -113,7 +144,7 @@ unfolding turned
 turned-keeps S s v l h f =
     let T = S .tables in
     let k = release-keeps (withTables S (setSlip T s v)) (headOf T s) (h .0, slip-move s v l (h .1)) f in
-    record { sizes = then-sizes (slip-set T s v) (k .sizes); as-long = k .as-long; fell = k .fell; others = k .others }
+    record { sizes = then-sizes (slip-set T s v) (k .sizes); as-long = k .as-long; fell = k .fell; others = k .others; clean = k .clean }
 
 -- a new chain comes under a slip: from the tables in which it is made
 pub old-keeps : {T : Tables} (S : State) (p : Plan) (fs : List ℕ) (s : ℕ) → Planned T p → Free T fs → s < slipTotal T
@@ -132,7 +163,7 @@ behind-keeps S s m (d ∷ ds) l (j, o) h f =
     let T = S .tables in
     let e = lastOf d ds in
     let k = release-keeps (withTables S (withTail T e m)) (piece T e .next) (tail-sound T s m j e l o h) f in
-    record { sizes = then-sizes (piece-set T e _) (k .sizes); as-long = k .as-long; fell = k .fell; others = k .others }
+    record { sizes = then-sizes (piece-set T e _) (k .sizes); as-long = k .as-long; fell = k .fell; others = k .others; clean = k .clean }
 
 -- ---- what slips then read
 

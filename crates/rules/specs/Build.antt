@@ -1,12 +1,13 @@
 -- New pieces for a list of stretches, where they are hung, and new bytes in storage.
-use mathlib.Core.List.{List, [], _∷_, _++_}
+use mathlib.Core.List.{List, [], _∷_}
 use Prim.Native.Nat.{ℕ, suc, _+_, _-_, _/_, min}
-use lib.ListN.{length, take, drop, replicate}
+use lib.ListN.{drop}
 use Rattle.kinds.specs.Limits.{bufferSize}
-use Rattle.kinds.specs.Sizes.{sizeOf, startOf}
+use Rattle.kinds.specs.Sizes.{sizeOf}
 use Rattle.rules.specs.Basics.{lastOf}
 use Rattle.rules.specs.Tables.{Piece, Tables, bufferCount, holding, setSlip, setPieceCount}
 use Rattle.rules.specs.Chain.{State, Stretch, withTables}
+use Rattle.rules.specs.Storage.{filled}
 use Rattle.rules.specs.Room.{freePieces}
 use Rattle.rules.specs.Release.{turned, relinked}
 
@@ -78,14 +79,6 @@ buffersFor n = (n + (bufferSize - 1)) / bufferSize
 unfoldable pub laid : List ℕ → List ℕ → ℕ → List Stretch
 laid Z [] n = []
 laid Z (b ∷ bs) n = record { buffer = b; offset = 0; len = min (sizeOf Z b) n } ∷ laid Z bs (n - sizeOf Z b)
-
--- Storage with the z bytes from byte a on set to xs and then zeros: only they are written.
-unfoldable pub filledAt : List ℕ → ℕ → ℕ → List ℕ → List ℕ
-filledAt st a z xs = take a st ++ ((take z xs ++ replicate (z - length xs) 0) ++ drop (a + z) st)
-
--- storage with buffer b set to xs and then zeros
-abbrev pub filled : List ℕ → List ℕ → ℕ → List ℕ → List ℕ
-filled Z st b xs = filledAt st (startOf Z b) (sizeOf Z b) xs
 
 -- the bytes xs over the buffers bs, in order
 unfoldable pub stored : List ℕ → List ℕ → List ℕ → List ℕ → List ℕ

@@ -4,6 +4,7 @@ pub mod Layout
 pub mod Tables
 pub mod Bytes
 pub mod Chain
+pub mod Storage
 pub mod Sound
 pub mod Room
 pub mod Release
@@ -38,6 +39,7 @@ pub mod Takes
 pub mod Answers
 pub mod Lists
 pub mod Serials
+pub mod Clean
 pub mod Still
 pub mod Fills
 pub mod Morning

@@ -1,10 +1,16 @@
--- Lists of calls that leave a slip alone.
+-- Lists of calls that hold no done open, and lists that leave a slip alone.
+use mathlib.Core.Path.{_≡_}
 use mathlib.Core.Logic.{_≢_}
 use mathlib.Core.List.{List, [], _∷_}
 use Prim.Native.Nat.{ℕ}
 use Rattle.rules.specs.Sound.{Lent}
 use Rattle.rules.specs.Step.{Call, Open, Do, step, next}
 use Rattle.rules.specs.After.{Names}
+
+-- no call of the list is a done open
+abbrev pub Unopened : List Call → Lent → Type 0
+Unopened [] m = Unit {0}
+Unopened (c ∷ cs) m = ((B P S : ℕ) → c ≡ Open B P S → step c m .code ≢ 0) × Unopened cs (next c m)
 
 -- the call does not name slip t, and is no open that is done
 abbrev pub Spared : ℕ → Call → Lent → Type 0

@@ -43,15 +43,19 @@ row o n T st s xs = record { call = o; code = 0; number = n; tables = T; storage
 abbrev pub fresh4 : Lent
 fresh4 = lent (encode (freshTables 4 6 4)) (replicate 2048 238)
 
--- The storage once put has filled buffers 0 and 1, pullup buffer 2, and pack buffer 0 again.
+-- The storage once put has filled buffers 0 and 1; once pullup has filled buffer 2 and cleaned 0; once pack has filled 0 again and cleaned 1 and 2; and
+-- once free has cleaned 0. Buffer 3, which no piece ever lies on, keeps the bytes that it had.
 abbrev pub storage1 : List ℕ
 storage1 = byteRun 0 600 ++ (replicate 424 0 ++ replicate 1024 238)
 
 abbrev pub storage8 : List ℕ
-storage8 = byteRun 0 600 ++ (replicate 424 0 ++ (byteRun 500 20 ++ (replicate 492 0 ++ replicate 512 238)))
+storage8 = replicate 512 0 ++ (byteRun 512 88 ++ (replicate 424 0 ++ (byteRun 500 20 ++ (replicate 492 0 ++ replicate 512 238))))
 
 abbrev pub storage9 : List ℕ
-storage9 = byteRun 500 40 ++ (replicate 472 0 ++ (byteRun 512 88 ++ (replicate 424 0 ++ (byteRun 500 20 ++ (replicate 492 0 ++ replicate 512 238)))))
+storage9 = byteRun 500 40 ++ (replicate 1496 0 ++ replicate 512 238)
+
+abbrev pub storage10 : List ℕ
+storage10 = replicate 1536 0 ++ replicate 512 238
 
 -- The rows: the call; its number; slips, serials, pieces and counts after it; storage; a slip and its bytes.
 abbrev pub rows : List Row
@@ -74,7 +78,7 @@ rows =
     storage8 1 (byteRun 500 40)
     ∷ row (Pack (first 1)) 0 (state (0 ∷ 3 ∷ 0 ∷ 0 ∷ []) (1 ∷ 0 ∷ 1 ∷ 0 ∷ []) (blank ∷ p 1 0 0 40 0 ∷ blank ∷ blank ∷ blank ∷ blank ∷ []) (1 ∷ 0 ∷ 0 ∷ 0 ∷ []))
     storage9 1 (249 ∷ 250 ∷ byteRun 0 38)
-    ∷ row (Free (first 1)) 0 (withSerials (freshTables 4 6 4) (1 ∷ 1 ∷ 1 ∷ 0 ∷ [])) storage9 1 [] ∷ []
+    ∷ row (Free (first 1)) 0 (withSerials (freshTables 4 6 4) (1 ∷ 1 ∷ 1 ∷ 0 ∷ [])) storage10 1 [] ∷ []
 
 -- what the rules give along a list of rows' calls
 unfoldable pub given : List Row → Lent → List Row

@@ -1,10 +1,11 @@
 -- Release of a reference (bf_afree), and the stores that give a reference or take one.
 use mathlib.Core.Bool.{Bool}
 use Prim.Native.Nat.{ℕ, zero, suc, _-_}
-use lib.Dec.{ltb}
+use lib.Dec.{eqb, ltb}
 use Rattle.rules.specs.Basics.{if_then_else_}
 use Rattle.rules.specs.Tables.{Tables, blank, piece, bufferCount, headOf, pieceTotal, setSlip, setPiece, setPieceCount, withCount, withNext}
-use Rattle.rules.specs.Chain.{State, withTables}
+use Rattle.rules.specs.Chain.{State, stateOf, withTables}
+use Rattle.rules.specs.Storage.{cleaned}
 
 -- one reference more, and one less, to piece d
 abbrev pub raised : Tables → ℕ → Tables
@@ -23,12 +24,13 @@ abbrev pub another : Tables → ℕ → Bool
 another T d = ltb 1 (piece T d .count)
 
 -- Piece d has lost its last reference: 1 is taken from its buffer's count, and it is zeroed.
--- The buffer keeps its bytes.
+-- Where the buffer's count reaches 0, every byte of the buffer is zeroed too.
 abbrev pub freed : State → ℕ → State
 freed S d =
     let T = S .tables in
     let b = piece T d .buffer in
-    withTables S (setPieceCount T d blank b (bufferCount T b - 1))
+    let n = bufferCount T b - 1 in
+    stateOf (setPieceCount T d blank b n) (if eqb n 0 then cleaned (T .stock) (S .storage) b else (S .storage))
 
 -- Release of a reference to the link n: 1 is taken from the piece's count; only where that
 -- reaches 0 is the piece freed and its next released in turn. k bounds the pieces freed.

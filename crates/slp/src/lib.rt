@@ -50,8 +50,8 @@ pub extern "C" fn slp_put(pool: &mut [u8], storage: &mut [u8], input: &[u8]) -> 
 
 // free: a slip gives up its chain.
 #[no_mangle]
-pub extern "C" fn slp_free(pool: &mut [u8], storage: &[u8], slip: u16, serial: u16) -> Answer
-    ensures { λ r. ⌜ resultOf r (now (pool .exit)) (now (storage .entry)) [] noView
+pub extern "C" fn slp_free(pool: &mut [u8], storage: &mut [u8], slip: u16, serial: u16) -> Answer
+    ensures { λ r. ⌜ resultOf r (now (pool .exit)) (now (storage .exit)) [] noView
         ≡ step (Do (Free (name slip serial))) (lent (now (pool .entry)) (now (storage .entry))) ⌝ }
 {
     calls_change::free(pool, storage, SlipNumber(slip), Serial(serial))
@@ -116,12 +116,12 @@ pub extern "C" fn slp_append(
 #[no_mangle]
 pub extern "C" fn slp_drop(
     pool: &mut [u8],
-    storage: &[u8],
+    storage: &mut [u8],
     slip: u16,
     serial: u16,
     n: u32,
 ) -> Answer
-    ensures { λ r. ⌜ resultOf r (now (pool .exit)) (now (storage .entry)) [] noView
+    ensures { λ r. ⌜ resultOf r (now (pool .exit)) (now (storage .exit)) [] noView
         ≡ step (Do (Drop (name slip serial) n)) (lent (now (pool .entry)) (now (storage .entry))) ⌝ }
 {
     calls_change::drop(pool, storage, SlipNumber(slip), Serial(serial), n)
@@ -131,12 +131,12 @@ pub extern "C" fn slp_drop(
 #[no_mangle]
 pub extern "C" fn slp_keep(
     pool: &mut [u8],
-    storage: &[u8],
+    storage: &mut [u8],
     slip: u16,
     serial: u16,
     n: u32,
 ) -> Answer
-    ensures { λ r. ⌜ resultOf r (now (pool .exit)) (now (storage .entry)) [] noView
+    ensures { λ r. ⌜ resultOf r (now (pool .exit)) (now (storage .exit)) [] noView
         ≡ step (Do (Keep (name slip serial) n)) (lent (now (pool .entry)) (now (storage .entry))) ⌝ }
 {
     calls_change::keep(pool, storage, SlipNumber(slip), Serial(serial), n)

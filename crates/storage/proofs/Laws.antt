@@ -2,13 +2,13 @@
 use mathlib.Core.Path.{_≡_, refl, sym, ap, _∙_}
 use mathlib.Core.List.{List, [], _∷_, _++_, append-nil, append-assoc}
 use Prim.Native.Nat.{ℕ, zero, suc, _+_, _-_, _*_, _≤_, _<_}
-use native.Mathlib.Nat.{add-sub-cancel-left}
+use native.Mathlib.Nat.{add-sub-cancel-left, sub-zero}
 use native.Mathlib.Numerals.{add-one}
 use native.Mathlib.Omega.{arith}
 use lib.ListN.{length, take, drop, getD, set, replicate, length-take, length-replicate, length-append, length-drop, drop-of-length-le, take-append-drop}
 use lib.Seq.{drop-cons, take-all, take-at, take-take, take-add, take-suc, set-at, append-snoc, drop-drop, drop-append-le, take-append-seam}
 use Rattle.kinds.specs.Limits.{bufferSize}
-use Rattle.rules.specs.Build.{filledAt}
+use Rattle.rules.specs.Storage.{filledAt}
 
 -- ---- loops
 
@@ -53,6 +53,12 @@ unfolding filledAt
 lent-filled st xs y b a e h k f =
     let n : length (take (a + bufferSize - a) (drop a st)) ≡ bufferSize = length-middle st a (a + bufferSize) (omega arith) (omega arith) ∙ add-sub-cancel-left a bufferSize in
     middle st y a (a + bufferSize) (omega arith) ∙ rw (f, n, e, take-all bufferSize xs k)
+
+-- and put back as y, which is zeros
+pub lent-cleaned : (st y : List ℕ) (b a : ℕ) → a ≡ bufferSize * b → bufferSize * b + bufferSize ≤ length st
+    → y ≡ replicate (length (take (a + bufferSize - a) (drop a st))) 0
+    → take a st ++ (y ++ drop (a + bufferSize - a) (drop a st)) ≡ filledAt st (bufferSize * b) bufferSize []
+lent-cleaned st y b a e h f = lent-filled st [] y b a e h (omega arith) (f ∙ rw sub-zero)
 
 -- the n bytes from a on put back as y, which is the n bytes of s from f on
 pub lent-copied : (l s y : List ℕ) (a f n : ℕ) → y ≡ take (f + n - f) (drop f s) → take a l ++ (y ++ drop (a + n - a) (drop a l)) ≡ take a l ++ (take n (drop f s) ++ drop (a + n) l)

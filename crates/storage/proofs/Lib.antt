@@ -1,2 +1,3 @@
 -- The laws of storage.
+pub mod Place
 pub mod Laws

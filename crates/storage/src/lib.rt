@@ -1,11 +1,11 @@
 // The bytes of storage: a buffer is filled, and bytes are copied.
 use kinds::BufferNumber;
 ghost use mathlib.Core.Path.{_≡_};
-ghost use mathlib.Core.List.{_++_};
+ghost use mathlib.Core.List.{[], _++_};
 ghost use Prim.Native.Nat.{_+_, _-_, _*_, _≤_};
 ghost use lib.ListN.{length, take, drop, replicate};
 ghost use Rattle.kinds.specs.Limits.{bufferSize};
-ghost use Rattle.rules.specs.Build.{filledAt};
+ghost use Rattle.rules.specs.Storage.{filledAt};
 
 // The bytes of a buffer, to count and to index by.
 const SIZE: usize = BufferNumber::SIZE as usize;
@@ -55,6 +55,16 @@ pub fn fill_buffer(storage: &mut [u8], b: BufferNumber, input: &[u8])
     let start = b.start();
     let end = start + SIZE;
     fill(&mut storage[start..end], input);
+}
+
+// Sets every byte of buffer `b` to zero: only its stretch of storage is lent (a cluster cleared).
+pub fn clean_buffer(storage: &mut [u8], b: BufferNumber)
+    requires { ⌜ bufferSize * b .0 + bufferSize ≤ length (now storage) ⌝ }
+    ensures { λ _. ⌜ now (storage .exit) ≡ filledAt (now (storage .entry)) (bufferSize * b .0) bufferSize [] ⌝ }
+{
+    let start = b.start();
+    let end = start + SIZE;
+    zero(&mut storage[start..end]);
 }
 
 // Copies the `n` bytes of `src` from `from` on over those of `dst` from `at` on, at most a

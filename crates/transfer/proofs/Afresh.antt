@@ -11,7 +11,8 @@ use Rattle.rules.specs.Tables.{Tables, pieceTotal, bufferTotal}
 use Rattle.rules.specs.Chain.{walk, stretches, total, contents}
 use Rattle.rules.specs.Sound.{linkOk, SoundTables}
 use Rattle.rules.specs.Room.{isUnheld, freeBuffers, newBuffers}
-use Rattle.rules.specs.Build.{buffersFor, filled, stored}
+use Rattle.rules.specs.Storage.{filled}
+use Rattle.rules.specs.Build.{buffersFor, stored}
 use Rattle.rules.proofs.Moves.{SoundBy}
 use Rattle.rules.proofs.Chain.{AllUsed}
 use Rattle.rules.proofs.Contents.{Fit, Off, drop-take, contents-length, filled-length, stored-others}
@@ -24,7 +25,7 @@ use Rattle.transfer.specs.Behind.{InPiece, behind}
 use Rattle.transfer.proofs.Behind.{Behind, behind-found, start-inside}
 use Rattle.transfer.proofs.Copy.{take-most, drop-most, bytesFrom, bytes-count}
 use Rattle.transfer.proofs.Move.{unheld-other}
-use Rattle.transfer.proofs.Place.{place-one, place-filled}
+use Rattle.storage.proofs.Place.{place-one, place-filled}
 use Rattle.transfer.proofs.Fill.{Filling, filling-first, filling-done, filling-below, filling-passes, filling-on}
 
 -- ---- one buffer

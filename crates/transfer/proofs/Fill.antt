@@ -13,13 +13,14 @@ use Rattle.kinds.specs.Limits.{bufferSize}
 use Rattle.kinds.specs.Sizes.{sizeOf}
 use Rattle.kinds.proofs.Sizes.{size-one}
 use Rattle.rules.specs.Basics.{Is, places}
-use Rattle.rules.specs.Build.{buffersFor, filledAt, filled, stored}
+use Rattle.rules.specs.Storage.{filledAt, filled}
+use Rattle.rules.specs.Build.{buffersFor, stored}
 use Rattle.rules.proofs.Logic.{if-T, if-F}
 use Rattle.rules.proofs.Contents.{Fit, filled-length}
 use Rattle.room.specs.Free.{firstFrom, lowestFor}
 use Rattle.room.proofs.Free.{places-first, first-lies, lowest-all}
 use Rattle.transfer.proofs.Copy.{take-most, drop-most}
-use Rattle.transfer.proofs.Place.{place-one, place-filled}
+use Rattle.storage.proofs.Place.{place-one, place-filled}
 
 -- ---- how many buffers
 

@@ -1,7 +1,6 @@
 -- The laws of transfer.
 pub mod Behind
 pub mod Copy
-pub mod Place
 pub mod Move
 pub mod Fill
 pub mod Afresh

@@ -12,7 +12,7 @@ use Rattle.rules.specs.Tables.{Tables, piece, bufferCount, bufferTotal}
 use Rattle.rules.specs.Chain.{Stretch, total}
 use Rattle.rules.specs.Sound.{linkOk, SoundTables}
 use Rattle.rules.specs.Room.{isUnheld}
-use Rattle.rules.specs.Build.{filledAt, filled}
+use Rattle.rules.specs.Storage.{filledAt, filled}
 use Rattle.rules.specs.Read.{copied}
 use Rattle.rules.proofs.Moves.{SoundBy, buffer-pos}
 use Rattle.rules.proofs.Contents.{Fit, filled-length, filled-other}
@@ -22,7 +22,7 @@ use Rattle.transfer.specs.declared.Cursor.{Cursor}
 use Rattle.transfer.specs.declared.Extent.{Extent}
 use Rattle.transfer.specs.Behind.{InPiece, extentAt, behind, advanced}
 use Rattle.transfer.proofs.Copy.{bytesFrom, Going, going-first, going-piece, going-start, going-count, going-within, going-lies, going-on, going-done}
-use Rattle.transfer.proofs.Place.{Place, place-filled, place-inside}
+use Rattle.storage.proofs.Place.{Place, place-filled, place-inside}
 
 -- ---- parts of lists
 

@@ -146,15 +146,19 @@ fn share(pool: &mut [u8], storage: &[u8]) {
 }
 
 // Rows 4 and 10, a slip gives up its chain: a release.
-fn free(pool: &mut [u8], storage: &[u8], slip: SlipNumber) {
+fn free(pool: &mut [u8], storage: &mut [u8], slip: SlipNumber) {
     let a = slp::slp_free(pool, storage, slip.0, 0);
     show_one(b"free ", slip.0 as u32, Reply::Done, a, pool);
 }
 
-// Rows 5 to 7, a chain shortened at its front, joined, and shortened at its end: no byte is copied.
-fn trim(pool: &mut [u8], storage: &[u8]) {
+// Row 5, a chain shortened at its front: no byte is copied.
+fn trim_front(pool: &mut [u8], storage: &mut [u8]) {
     let drop = slp::slp_drop(pool, storage, 2, 0, 520);
     show_two(b"drop ", 2, 520, drop, pool);
+}
+
+// Rows 6 and 7, a chain joined to another, and shortened at its end: no byte is copied.
+fn join_and_trim(pool: &mut [u8], storage: &mut [u8]) {
     let append = slp::slp_append(pool, storage, 1, 0, 2, 0);
     show_two(b"append ", 1, 2, append, pool);
     let keep = slp::slp_keep(pool, storage, 1, 0, 40);
@@ -177,9 +181,10 @@ fn main() {
     open(&mut pool, &storage);
     put(&mut pool, &mut storage);
     share(&mut pool, &storage);
-    free(&mut pool, &storage, SlipNumber(0));
-    trim(&mut pool, &storage);
+    free(&mut pool, &mut storage, SlipNumber(0));
+    trim_front(&mut pool, &mut storage);
+    join_and_trim(&mut pool, &mut storage);
     show_bytes(&pool, &storage, SlipNumber(1), 20);
     gather(&mut pool, &mut storage);
-    free(&mut pool, &storage, SlipNumber(1));
+    free(&mut pool, &mut storage, SlipNumber(1));
 }

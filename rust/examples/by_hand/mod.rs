@@ -78,6 +78,14 @@ unsafe fn put32(pool: &mut [u8], at: usize, v: u32) {
     *pool.as_mut_ptr().add(at).cast::<[u8; 4]>() = v.to_le_bytes();
 }
 
+/// Takes 1 from the 16-bit number at byte `at`, in place, and answers what is left.
+#[inline(always)]
+unsafe fn less(pool: &mut [u8], at: usize) -> u16 {
+    let left = (get16(pool, at) as u16).wrapping_sub(1);
+    put16(pool, at, left as usize);
+    left
+}
+
 /// Whether at least `wanted` entries from `first` on, which is free, start with 0.
 #[inline(always)]
 unsafe fn room(
@@ -248,19 +256,26 @@ impl Tables {
         }
     }
 
-    /// Releases one reference to where `link` leads.
-    unsafe fn release(self, pool: &mut [u8], mut link: usize) {
+    /// One reference less to where `link` leads, which has another, if it leads anywhere.
+    unsafe fn unshare(self, pool: &mut [u8], link: usize) {
+        if link != 0 {
+            less(pool, self.piece(link - 1));
+        }
+    }
+
+    /// Releases one reference to where `link` leads, and cleans every buffer on which then no piece lies.
+    unsafe fn release(self, pool: &mut [u8], storage: &mut [u8], mut link: usize) {
         while link != 0 {
             let at = self.piece(link - 1);
-            let count = get16(pool, at);
-            if count > 1 {
-                put16(pool, at, count - 1);
+            if less(pool, at) != 0 {
                 return;
             }
-            let held = self.count(get16(pool, at + BUFFER));
-            put16(pool, held, get16(pool, held) - 1);
+            let buffer = get16(pool, at + BUFFER);
             link = get16(pool, at + NEXT);
             pool.get_unchecked_mut(at..at + 10).fill(0);
+            if less(pool, self.count(buffer)) == 0 {
+                clean(storage, buffer);
+            }
         }
     }
 }
@@ -416,6 +431,13 @@ impl Tables {
     }
 }
 
+/// Fills a whole buffer with zeros.
+#[inline(always)]
+unsafe fn clean(storage: &mut [u8], buffer: usize) {
+    debug_assert!(SIZE * (buffer + 1) <= storage.len());
+    ptr::write_bytes(storage.as_mut_ptr().add(SIZE * buffer), 0, SIZE);
+}
+
 /// Fills the rest of a buffer, from its byte `n` on, with zeros.
 unsafe fn clear_rest(storage: &mut [u8], buffer: usize, n: usize) {
     let start = SIZE * buffer;
@@ -556,13 +578,13 @@ pub unsafe fn put(pool: &mut [u8], storage: &mut [u8], data: &[u8]) -> Answer {
 /// # Safety
 /// As for put.
 #[inline(never)]
-pub unsafe fn free(pool: &mut [u8], _storage: &mut [u8], slip: Slip) -> Answer {
+pub unsafe fn free(pool: &mut [u8], storage: &mut [u8], slip: Slip) -> Answer {
     let t = Tables::of(pool);
     let Some(head) = t.held(pool, slip) else {
         return refused(SLIP);
     };
     t.vacate(pool, slip);
-    t.release(pool, head);
+    t.release(pool, storage, head);
     done(0)
 }
 
@@ -671,7 +693,7 @@ pub unsafe fn append(pool: &mut [u8], _storage: &mut [u8], a: Slip, b: Slip) -> 
     let entry = usize::from(link == head);
     put16(pool, hook, rest + entry);
     t.vacate(pool, b);
-    t.release(pool, link);
+    t.unshare(pool, link);
     done(0)
 }
 
@@ -680,7 +702,7 @@ pub unsafe fn append(pool: &mut [u8], _storage: &mut [u8], a: Slip, b: Slip) -> 
 /// # Safety
 /// As for put.
 #[inline(never)]
-pub unsafe fn drop(pool: &mut [u8], _storage: &mut [u8], slip: Slip, n: u32) -> Answer {
+pub unsafe fn drop(pool: &mut [u8], storage: &mut [u8], slip: Slip, n: u32) -> Answer {
     let t = Tables::of(pool);
     let Some(head) = t.held(pool, slip) else {
         return refused(SLIP);
@@ -695,7 +717,7 @@ pub unsafe fn drop(pool: &mut [u8], _storage: &mut [u8], slip: Slip, n: u32) -> 
     if !from.wants_piece() {
         let rest = t.hold(pool, from);
         put16(pool, entry, rest + 1);
-        t.release(pool, head);
+        t.release(pool, storage, head);
         return done(0);
     }
     // The piece with the cut stays, whatever the release frees: it isn't own.
@@ -707,7 +729,7 @@ pub unsafe fn drop(pool: &mut [u8], _storage: &mut [u8], slip: Slip, n: u32) -> 
         };
         free = piece;
     }
-    t.release(pool, head);
+    t.release(pool, storage, head);
     if own {
         // An own head was given back, so one is free.
         free = t.free_piece(pool, 0).unwrap_unchecked();
@@ -722,14 +744,14 @@ pub unsafe fn drop(pool: &mut [u8], _storage: &mut [u8], slip: Slip, n: u32) -> 
 /// # Safety
 /// As for put.
 #[inline(never)]
-pub unsafe fn keep(pool: &mut [u8], _storage: &mut [u8], slip: Slip, n: u32) -> Answer {
+pub unsafe fn keep(pool: &mut [u8], storage: &mut [u8], slip: Slip, n: u32) -> Answer {
     let t = Tables::of(pool);
     let Some(head) = t.held(pool, slip) else {
         return refused(SLIP);
     };
     if n == 0 {
         put16(pool, t.slip(slip.number as usize), 1);
-        t.release(pool, head);
+        t.release(pool, storage, head);
         return done(0);
     }
     // The walk ends at the last piece kept; `others` counts from the first piece not own, which hangs on `hook`.
@@ -762,6 +784,7 @@ pub unsafe fn keep(pool: &mut [u8], _storage: &mut [u8], slip: Slip, n: u32) -> 
     if others == 0 {
         put16(pool, hook - NEXT + LENGTH, left);
         put16(pool, hook, 0);
+        t.release(pool, storage, first_other);
     } else {
         let Some(free) = t.room_for_pieces(pool, others) else {
             return refused(PIECES);
@@ -771,8 +794,8 @@ pub unsafe fn keep(pool: &mut [u8], _storage: &mut [u8], slip: Slip, n: u32) -> 
         // A slip's entry is its link and 1.
         let entry = usize::from(first_other == head);
         put16(pool, hook, first + entry);
+        t.unshare(pool, first_other);
     }
-    t.release(pool, first_other);
     done(0)
 }
 
@@ -821,7 +844,7 @@ pub unsafe fn pullup(pool: &mut [u8], storage: &mut [u8], slip: Slip, n: u32) ->
     t.gather(pool, bytes, Place::start(head), n, bytes.add(SIZE * buffer));
     clear_rest(storage, buffer, n);
     let held = if two { 0 } else { t.hold(pool, from) };
-    t.release(pool, head);
+    t.release(pool, storage, head);
     // The lowest numbers, those given back among them.
     if enough {
         front = t.free_piece(pool, 0).unwrap_unchecked();
@@ -878,7 +901,7 @@ pub unsafe fn pack(pool: &mut [u8], storage: &mut [u8], slip: Slip) -> Answer {
         buffer = t.free_buffer(pool, buffer + 1).unwrap_unchecked();
     }
     put16(pool, t.slip(slip.number as usize), first + 2);
-    t.release(pool, head);
+    t.release(pool, storage, head);
     done(0)
 }
 

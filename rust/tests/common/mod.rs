@@ -6,6 +6,7 @@
 //! usual pools) and FULCRUMNEST_SEED (the first seed).
 #![allow(dead_code)]
 
+pub mod clean;
 pub mod compare;
 pub mod damage;
 pub mod desk;

@@ -1,5 +1,5 @@
-//! The model: document 01's rules with the wire list, the serials and the room of drop and pullup
-//! of document 02, done plainly on tables parsed from the lent bytes.
+//! The model: document 01's rules with the wire list, the serials, the room of drop and pullup and
+//! the cleaned buffers of document 02, done plainly on tables parsed from the lent bytes.
 //!
 //! A chain is a list of piece numbers, "own" is a length of its front, each call first plans the
 //! pieces that it wants and only then builds them. Nothing here is meant to be fast.
@@ -621,7 +621,9 @@ pub trait Rules {
             _ => {
                 let tables = Tables::parse(pool, storage).ok_or(TORN)?;
                 refuse_if(!self.is_sound(&tables), TORN)?;
-                self.operate(tables, storage, call)
+                let mut done = self.operate(tables.clone(), storage, call)?;
+                self.clean(&tables, &mut done);
+                Ok(done)
             }
         }
     }
@@ -800,7 +802,8 @@ pub trait Rules {
         i < self.own(t, chain)
     }
 
-    /// Takes 1 from the count; only at 0 from the buffer too, zeroes the piece, releases its next.
+    /// Takes 1 from the count; only at 0 from the buffer too, zeroes the piece, releases its next. A
+    /// buffer whose count comes to 0 is cleaned when the call has copied what it copies.
     fn release(&self, t: &mut Tables, d: usize) {
         t.pieces[d].count -= 1;
         if t.pieces[d].count > 0 {
@@ -811,6 +814,22 @@ pub trait Rules {
         t.pieces[d] = ZERO;
         if let Some(next) = next {
             self.release(t, next);
+        }
+    }
+
+    /// The buffers whose count was above 0 before the call and has come to 0.
+    fn given_back(&self, before: &Tables, now: &Tables) -> Vec<usize> {
+        let counts = before.buffers.iter().zip(&now.buffers).enumerate();
+        let given = counts.filter(|(_, (was, is))| **was > 0 && **is == 0);
+        given.map(|(b, _)| b).collect()
+    }
+
+    /// Zeroes every byte of each buffer given back, whatever the call; what the call copies was read before.
+    fn clean(&self, before: &Tables, done: &mut Done) {
+        if let Some(now) = &done.tables {
+            let given = self.given_back(before, now).into_iter();
+            let zeros = given.map(|b| (now.buffer_start(b), vec![0; SIZE as usize]));
+            done.fills.extend(zeros);
         }
     }
 

@@ -8,7 +8,7 @@ use super::desk::{
 };
 use super::model::{Call, Name, BUFFERS, DONE, LONG, NARROW, PIECES, RANGE, SAME, SLIP};
 
-use Buffer::{Data, Old, Tens};
+use Buffer::{Clean, Data, Old, Tens};
 
 /// A call, made where it is wanted.
 pub type Asked = fn() -> Call;
@@ -31,9 +31,10 @@ pub struct Row {
     pub chains: &'static [Chain],
 }
 
-/// A buffer's bytes: those from before the opening, or the data from start to end, or its first ten over and over, and then zeros.
+/// A buffer's bytes: those from before the opening, or zeros, or the data from start to end, or its first ten over and over, and then zeros.
 pub enum Buffer {
     Old,
+    Clean,
     Data(usize, usize),
     Tens(usize),
 }
@@ -209,7 +210,7 @@ pub const MORNING: &[Row] = &[
         serials: &[1, 0, 1, 0],
         pieces: &[[1, 2, 0, 20, 4], Z, Z, [1, 1, 8, 20, 0], Z, Z],
         counts: &[0, 1, 1, 0],
-        buffers: &[Data(0, 512), Data(512, 600), Data(500, 520), Old],
+        buffers: &[Clean, Data(512, 600), Data(500, 520), Old],
         chains: &[chain(1, 40, &[(500, 540)], &[1_024, 20, 520, 20])],
     },
     Row {
@@ -219,7 +220,7 @@ pub const MORNING: &[Row] = &[
         serials: &[1, 0, 1, 0],
         pieces: &[Z, [1, 0, 0, 40, 0], Z, Z, Z, Z],
         counts: &[1, 0, 0, 0],
-        buffers: &[Data(500, 540), Data(512, 600), Data(500, 520), Old],
+        buffers: &[Data(500, 540), Clean, Clean, Old],
         chains: &[chain(1, 40, &[(500, 540)], &[0, 40])],
     },
     Row {
@@ -229,7 +230,7 @@ pub const MORNING: &[Row] = &[
         serials: &[1, 1, 1, 0],
         pieces: &[Z; 6],
         counts: &[0; 4],
-        buffers: &[Data(500, 540), Data(512, 600), Data(500, 520), Old],
+        buffers: &[Clean, Clean, Clean, Old],
         chains: &[],
     },
 ];
@@ -663,9 +664,10 @@ fn filled(mut bytes: Vec<u8>) -> Vec<u8> {
 }
 
 impl Buffer {
-    fn bytes(&self) -> Vec<u8> {
+    pub fn bytes(&self) -> Vec<u8> {
         match self {
             Old => vec![UNTOUCHED; 512],
+            Clean => vec![0; 512],
             Data(start, end) => filled(stretch(*start, *end)),
             Tens(n) => filled(data(10).into_iter().cycle().take(*n).collect()),
         }

@@ -5,7 +5,7 @@ use std::collections::HashSet;
 use super::model::{
     pairs, pool_length, refuse_if, Call, Done, Holder, Judged, Left, Name, Outcome, Piece, Place,
     Room, Rules, Slip, Tables, BUFFERS, DONE, LAST, LIST, NARROW, PIECES, RANGE, SAME, SIZE, SLIP,
-    TRUE, ZERO,
+    TORN, TRUE, ZERO,
 };
 
 macro_rules! named {
@@ -54,7 +54,7 @@ pub const MUTATIONS: &[(&str, &dyn Rules)] = named![
     EndWraps,
     DirtyFreePassed,
     NextToFreePassed,
-    ReleasedCleaned,
+    NothingCleaned,
     AppendOwnWithoutB,
     AppendEmptyReplaces,
     LongFrom512,
@@ -115,6 +115,24 @@ pub const MUTATIONS: &[(&str, &dyn Rules)] = named![
     AuditVacantSerial,
     AuditHeldLast,
     SameBeforeSerial,
+    FreeForgets,
+    DropForgets,
+    KeepForgets,
+    PullupForgets,
+    PackForgets,
+    CleansPieceOnly,
+    CleansOneShort,
+    CleansLowestOnly,
+    CleansHeld,
+    CleansBehind,
+    CleansEveryFree,
+    CleansCutOff,
+    PullupCleansFirst,
+    PackCleansFirst,
+    AppendCleans,
+    RefusedCleans,
+    OpenCleansHeld,
+    AuditAsksClean,
 ];
 
 /// Release frees the whole chain past a piece that another slip still reaches.
@@ -634,22 +652,11 @@ impl Rules for NextToFreePassed {
     }
 }
 
-/// A released buffer's bytes are zeroed.
-struct ReleasedCleaned;
+/// A buffer given back keeps its old bytes, whatever the call.
+struct NothingCleaned;
 
-impl Rules for ReleasedCleaned {
-    fn step(&self, pool: &[u8], storage: &[u8], call: &Call) -> Outcome {
-        let mut after = TRUE.step(pool, storage, call);
-        let tables = [pool, &after.pool].map(|pool| Tables::parse(pool, storage));
-        if let [Some(before), Some(now)] = tables {
-            for b in 0..now.buffers.len() {
-                if before.buffers[b] > 0 && now.buffers[b] == 0 {
-                    after.storage[now.buffer_start(b) as usize..][..SIZE as usize].fill(0);
-                }
-            }
-        }
-        after
-    }
+impl Rules for NothingCleaned {
+    fn clean(&self, _: &Tables, _: &mut Done) {}
 }
 
 /// Append judges own without the reference that b holds.
@@ -1438,5 +1445,234 @@ impl Rules for SameBeforeSerial {
         let both = t.state(a.number).is_some() && t.state(b.number).is_some();
         refuse_if(both && a.number == b.number, SAME)?;
         TRUE.append(t, a, b)
+    }
+}
+
+/// Programs that forget to clean in one call.
+macro_rules! forgetting {
+    ($($wrong:ident: $call:ident,)*) => {
+        $(
+            /// What this call gives back keeps its old bytes.
+            struct $wrong;
+
+            impl Rules for $wrong {
+                fn step(&self, pool: &[u8], storage: &[u8], call: &Call) -> Outcome {
+                    match call {
+                        Call::$call { .. } => NothingCleaned.step(pool, storage, call),
+                        _ => TRUE.step(pool, storage, call),
+                    }
+                }
+            }
+        )*
+    };
+}
+
+forgetting! {
+    FreeForgets: Free,
+    DropForgets: Drop,
+    KeepForgets: Keep,
+    PullupForgets: Pullup,
+    PackForgets: Pack,
+}
+
+/// So many zeros, to be set in storage.
+fn zeros(start: u64, length: u64) -> (u64, Vec<u8>) {
+    (start, vec![0; length as usize])
+}
+
+/// Of a buffer given back only the bytes of the pieces that lay on it are zeroed.
+struct CleansPieceOnly;
+
+impl Rules for CleansPieceOnly {
+    fn clean(&self, before: &Tables, done: &mut Done) {
+        let Some(now) = &done.tables else { return };
+        let given = TRUE.given_back(before, now);
+        for d in (0..before.pieces.len()).filter(|d| before.is_used(*d)) {
+            if given.contains(&before.pieces[d].buffer) {
+                done.fills
+                    .push(zeros(before.start(d), before.pieces[d].length));
+            }
+        }
+    }
+}
+
+/// The last byte of a buffer given back stays.
+struct CleansOneShort;
+
+impl Rules for CleansOneShort {
+    fn clean(&self, before: &Tables, done: &mut Done) {
+        let Some(now) = &done.tables else { return };
+        for b in TRUE.given_back(before, now) {
+            done.fills.push(zeros(now.buffer_start(b), SIZE - 1));
+        }
+    }
+}
+
+/// Of several buffers given back the lowest alone is cleaned.
+struct CleansLowestOnly;
+
+impl Rules for CleansLowestOnly {
+    fn given_back(&self, before: &Tables, now: &Tables) -> Vec<usize> {
+        let mut given = TRUE.given_back(before, now);
+        given.truncate(1);
+        given
+    }
+}
+
+/// A buffer is cleaned with the first piece that leaves it, though another still lies on it.
+struct CleansHeld;
+
+impl Rules for CleansHeld {
+    fn given_back(&self, before: &Tables, now: &Tables) -> Vec<usize> {
+        let fewer = |b: &usize| now.buffers[*b] < before.buffers[*b];
+        (0..now.buffers.len()).filter(fewer).collect()
+    }
+}
+
+/// The buffer behind the one given back is cleaned, of the last one the first.
+struct CleansBehind;
+
+impl Rules for CleansBehind {
+    fn given_back(&self, before: &Tables, now: &Tables) -> Vec<usize> {
+        let given = TRUE.given_back(before, now).into_iter();
+        given.map(|b| (b + 1) % now.buffers.len()).collect()
+    }
+}
+
+/// With a buffer given back every other free one is cleaned too.
+struct CleansEveryFree;
+
+impl Rules for CleansEveryFree {
+    fn given_back(&self, before: &Tables, now: &Tables) -> Vec<usize> {
+        match TRUE.given_back(before, now).is_empty() {
+            true => Vec::new(),
+            false => TRUE.room(now).buffers,
+        }
+    }
+}
+
+/// The bytes that a piece loses are zeroed, though its buffer stays in use.
+struct CleansCutOff;
+
+impl Rules for CleansCutOff {
+    fn clean(&self, before: &Tables, done: &mut Done) {
+        TRUE.clean(before, done);
+        let Some(now) = &done.tables else { return };
+        for (was, is) in before.pieces.iter().zip(&now.pieces) {
+            let start = now.buffer_start(is.buffer);
+            if is.count > 0 && was.count > 0 && is.buffer == was.buffer {
+                let lost = is.offset.saturating_sub(was.offset);
+                done.fills.push(zeros(start + was.offset, lost));
+                let (end, ended) = (is.offset + is.length, was.offset + was.length);
+                done.fills
+                    .push(zeros(start + end, ended.saturating_sub(end)));
+            }
+        }
+    }
+}
+
+/// Storage once the buffers that a call gives back are cleaned.
+fn cleaned(before: &Tables, storage: &[u8], done: &Done) -> Vec<u8> {
+    let mut storage = storage.to_vec();
+    let now = done.tables.as_ref().unwrap_or(before);
+    for b in TRUE.given_back(before, now) {
+        storage[now.buffer_start(b) as usize..][..SIZE as usize].fill(0);
+    }
+    storage
+}
+
+/// Pullup cleans what it gives back before it copies.
+struct PullupCleansFirst;
+
+impl Rules for PullupCleansFirst {
+    fn pull(&self, t: Tables, storage: &[u8], slip: u16, n: u64) -> Judged {
+        let done = TRUE.pull(t.clone(), storage, slip, n)?;
+        let storage = cleaned(&t, storage, &done);
+        TRUE.pull(t, &storage, slip, n)
+    }
+}
+
+/// Pack cleans what it gives back before it copies.
+struct PackCleansFirst;
+
+impl Rules for PackCleansFirst {
+    fn pack(&self, t: Tables, storage: &[u8], slip: Name) -> Judged {
+        let done = TRUE.pack(t.clone(), storage, slip)?;
+        let storage = cleaned(&t, storage, &done);
+        TRUE.pack(t, &storage, slip)
+    }
+}
+
+/// Zeroes these buffers of an outcome.
+fn zero_buffers(after: &mut Outcome, buffers: impl IntoIterator<Item = usize>) {
+    for b in buffers {
+        after.storage[SIZE as usize * b..][..SIZE as usize].fill(0);
+    }
+}
+
+/// Append cleans the buffers of the pieces that it replaces.
+struct AppendCleans;
+
+impl Rules for AppendCleans {
+    fn step(&self, pool: &[u8], storage: &[u8], call: &Call) -> Outcome {
+        let mut after = TRUE.step(pool, storage, call);
+        if let (Call::Append { a, .. }, DONE) = (call, after.code) {
+            let t = Tables::parse(pool, storage).expect("sound");
+            let chain = t.chain(t.slips[a.number as usize]);
+            let replaced = t.places(&chain[TRUE.own(&t, &chain)..]);
+            zero_buffers(&mut after, replaced.iter().map(|place| place.buffer));
+        }
+        after
+    }
+}
+
+/// Refused for want of room, pullup and pack have cleaned the buffers that the chain alone holds.
+struct RefusedCleans;
+
+impl Rules for RefusedCleans {
+    fn step(&self, pool: &[u8], storage: &[u8], call: &Call) -> Outcome {
+        let mut after = TRUE.step(pool, storage, call);
+        if let (PIECES | BUFFERS, Call::Pullup { slip, .. } | Call::Pack { slip }) =
+            (after.code, call)
+        {
+            let t = Tables::parse(pool, storage).expect("sound");
+            let mut now = t.clone();
+            TRUE.refer(&mut now, Holder::Slip(slip.number as usize), None);
+            zero_buffers(&mut after, TRUE.given_back(&t, &now));
+        }
+        after
+    }
+}
+
+/// Open cleans the buffers that the old pool held.
+struct OpenCleansHeld;
+
+impl Rules for OpenCleansHeld {
+    fn step(&self, pool: &[u8], storage: &[u8], call: &Call) -> Outcome {
+        let mut after = TRUE.step(pool, storage, call);
+        let old = Tables::parse(pool, storage);
+        if let (Call::Open { .. }, DONE, Some(old)) = (call, after.code, old) {
+            let held = (0..old.buffers.len()).filter(|b| old.buffers[*b] > 0);
+            zero_buffers(&mut after, held);
+        }
+        after
+    }
+}
+
+/// The audit asks that every free buffer is clean.
+struct AuditAsksClean;
+
+impl Rules for AuditAsksClean {
+    fn judge(&self, pool: &[u8], storage: &[u8], call: &Call) -> Judged {
+        let done = TRUE.judge(pool, storage, call)?;
+        if matches!(call, Call::Open { .. } | Call::Gather { .. }) {
+            return Ok(done);
+        }
+        let t = Tables::parse(pool, storage).expect("sound");
+        let mut free = TRUE.room(&t).buffers.into_iter();
+        let start = |b: usize| SIZE as usize * b;
+        let dirty = free.any(|b| storage[start(b)..start(b + 1)].iter().any(|x| *x != 0));
+        refuse_if(dirty, TORN)?;
+        Ok(done)
     }
 }

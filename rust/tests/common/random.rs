@@ -48,6 +48,12 @@ impl Random {
         bytes
     }
 
+    /// Bytes of which none is zero, so that each that is cleaned is seen to change.
+    pub fn dirt(&mut self, length: usize) -> Vec<u8> {
+        let bytes = self.bytes(length).into_iter();
+        bytes.map(|byte| byte.max(1)).collect()
+    }
+
     pub fn numbers(&mut self, length: usize) -> Vec<u32> {
         (0..length).map(|_| self.number() as u32).collect()
     }
@@ -125,12 +131,12 @@ pub fn shape(random: &mut Random) -> Shape {
     }
 }
 
-/// Random bytes for pool and storage, of the lengths that open asks.
+/// Random bytes for pool and storage, of the lengths that open asks; none of storage is zero.
 pub fn unopened(random: &mut Random, shape: Shape) -> (Vec<u8>, Vec<u8>) {
     let length = pool_length(shape.0 as u64, shape.1 as u64, shape.2 as u64);
     (
         random.bytes(length as usize),
-        random.bytes(512 * shape.0 as usize),
+        random.dirt(512 * shape.0 as usize),
     )
 }
 
@@ -144,6 +150,8 @@ pub struct Mood {
     /// Once in this many all free pieces are taken or, in a full table, some are wanted by drop and pullup; 0 for never.
     crowded: u64,
     worn: Worn,
+    /// Whether free buffers are filled by hand, so that one that is touched is seen to be, however often it was cleaned.
+    soils: bool,
 }
 
 /// Which serials are set by hand, so that slips are spent soon.
@@ -197,6 +205,41 @@ impl Mood {
                 Worn::Half,
                 Worn::Any,
             ]),
+            soils: random.once_in(2),
+        }
+    }
+
+    /// The same where buffers come and go: few calls share or look, and what is put is joined, and mostly given back.
+    pub fn giving_back(mut self) -> Mood {
+        let [_, _, put, free, dup, cut, append, drop, keep, pullup, pack, looks @ ..] =
+            &mut self.weights;
+        for (weight, more) in [
+            (put, 12),
+            (append, 12),
+            (free, 4),
+            (drop, 4),
+            (keep, 4),
+            (pullup, 12),
+            (pack, 8),
+        ] {
+            *weight += more;
+        }
+        for weight in [dup, cut].into_iter().chain(looks) {
+            *weight = 1;
+        }
+        self
+    }
+
+    /// Fills the free buffers by hand with bytes that are not zero, which leaves the pool sound.
+    pub fn soil(&self, random: &mut Random, pool: &[u8], storage: &mut [u8]) {
+        if !self.soils {
+            return;
+        }
+        let tables = Tables::parse(pool, storage).expect("a pool that the list has left");
+        for (count, bytes) in tables.buffers.iter().zip(storage.chunks_mut(512)) {
+            if *count == 0 {
+                bytes.copy_from_slice(&random.dirt(512));
+            }
         }
     }
 

@@ -1,6 +1,6 @@
 //! The paper's own cases, for any engine: beside the rows and edges of the morning the five common
 //! errors, each point where the paper can be read in two ways, and the wire list with its reader;
-//! those of the serials stand in a file of their own.
+//! those of the serials and of cleaned buffers stand in files of their own.
 
 use super::desk::{
     append, cut, data, drop, dup, free, gather, keep, length, list, pack, pullup, read, show,
@@ -32,7 +32,7 @@ macro_rules! paper_cases {
             reading_08_append_empty_side, reading_09_pullup_wants, reading_10_pack_afresh,
             reading_11_dup_and_cut, reading_12_numbers_taken, reading_13_order_of_codes,
             reading_14_append_twice, reading_15_read_and_show, reading_16_whole_numbers,
-            reading_17_exact_lengths, reading_18_rings, reading_19_released_bytes_stay,
+            reading_17_exact_lengths, reading_18_rings, reading_19_filled_whole,
             reading_20_empty_slices,
             reading_31_front_given_back, reading_32_room_in_front, reading_33_copied_first,
             full_table_of_the_largest,
@@ -42,6 +42,8 @@ macro_rules! paper_cases {
             first_version_is_torn,
         }
         $crate::paper_cases! { $engine; serials }
+        $crate::paper_cases! { $engine; clean }
+        $crate::paper_cases! { $engine; clean; reading_38_torn, }
     };
     ($engine:path; serials) => {
         $crate::paper_cases! { $engine; serials;
@@ -52,6 +54,13 @@ macro_rules! paper_cases {
             reading_24_vacated, reading_24_others_move_none, reading_24_refused_moves_none,
             reading_25_number_answered, reading_25_greatest_number,
             open_of_serials, every_serial_once,
+        }
+    };
+    ($engine:path; clean) => {
+        $crate::paper_cases! { $engine; clean;
+            reading_38_whole_buffer, reading_38_last_piece, reading_38_others_stay,
+            reading_38_free, reading_38_drop, reading_38_keep, reading_38_pullup, reading_38_pack,
+            reading_38_append, reading_38_refused, reading_38_open, reading_38_largest,
         }
     };
     ($engine:path; $place:ident; $($case:ident,)*) => {
@@ -1096,39 +1105,44 @@ pub fn reading_18_rings(engine: Engine) {
     desk.reads(1, &data(600));
 }
 
-/// A released buffer keeps its bytes; put, pullup and pack write free buffers only, and whole.
-pub fn reading_19_released_bytes_stay(engine: Engine) {
-    let mut desk = Desk::open(engine, 4, 8, 4);
+/// Put, pullup and pack fill buffers free at entry only, lowest first and whole: data, then zeros.
+pub fn reading_19_filled_whole(engine: Engine) {
+    let mut desk = Desk::open(engine, 6, 8, 4);
     desk.put(1_024, 0);
-    desk.free(0);
     desk.buffer_holds(0, &data(512));
     desk.buffer_holds(1, &data(1_024)[512..]);
-    assert_eq!(desk.storage[1_024..], [0xEE; 1_024]);
+    assert_eq!(desk.storage[1_024..], [0xEE; 2_048]);
+    desk.free(0);
     // Old bytes past the new data are zeroed, in that buffer only.
+    desk.storage[..1_024].fill(0xDD);
     desk.put(3, (0, 1));
     desk.buffer_holds(0, &data(3));
-    desk.buffer_holds(1, &data(1_024)[512..]);
-    // Pullup sets the lowest free buffer, pack the lowest two, and both leave what they release.
+    assert_eq!(desk.storage[512..1_024], [0xDD; 512]);
+    assert_eq!(desk.storage[1_024..], [0xEE; 2_048]);
     desk.put(3, 1);
+    desk.buffer_holds(1, &data(3));
     desk.append((0, 1), 1);
+    // Pullup fills one buffer and pack two, whatever they held.
     desk.pullup((0, 1), 4);
     desk.buffer_holds(2, &[0, 1, 2, 0]);
-    desk.buffer_holds(0, &data(3));
-    desk.buffer_holds(1, &data(3));
-    assert_eq!(desk.storage[1_536..], [0xEE; 512]);
+    assert_eq!(desk.storage[1_536..], [0xEE; 1_536]);
+    desk.put(510, (1, 1));
+    desk.buffer_holds(0, &data(510));
+    desk.append((0, 1), (1, 1));
+    desk.storage[1_536..2_048].fill(0xDD);
     desk.pack((0, 1));
-    desk.buffer_holds(0, &[0, 1, 2, 0, 1, 2]);
-    desk.buffer_holds(1, &data(3));
-    desk.buffer_holds(2, &[0, 1, 2, 0]);
-    assert_eq!(desk.storage[1_536..], [0xEE; 512]);
-    // The others write no storage.
+    let bytes = [data(3), data(3), data(510)].concat();
+    desk.buffer_holds(3, &bytes[..512]);
+    desk.buffer_holds(4, &bytes[512..]);
+    assert_eq!(desk.storage[2_560..], [0xEE; 512]);
+    desk.reads((0, 1), &bytes);
+    // The others write no storage, but for what they give back: here nothing.
     let storage = desk.storage.clone();
-    desk.dup((0, 1), (1, 1));
+    desk.dup((0, 1), (1, 2));
     desk.cut((0, 1), 1, 4, 2);
     desk.append((0, 1), 2);
-    desk.keep((0, 1), 7);
+    desk.keep((0, 1), 517);
     desk.drop((0, 1), 2);
-    desk.free((1, 1));
     desk.free((0, 1));
     assert_eq!(desk.storage, storage);
 }
@@ -1342,15 +1356,14 @@ pub fn reading_32_room_in_front(engine: Engine) {
     }
 }
 
-/// Pullup copies to a buffer free at entry, although lower ones are given back; these keep their bytes.
+/// Pullup copies to a buffer free at entry, although lower ones are given back, and before these are cleaned.
 pub fn reading_33_copied_first(engine: Engine) {
     let mut desk = two_tens(engine, 3, 2, 2);
     assert_eq!(desk.free_pieces(), []);
-    let old = desk.storage[..1_024].to_vec();
     desk.pullup(0, 20);
     desk.tables(&[2, 0], &[0, 1], &[[1, 2, 0, 20, 0], Z], &[0, 0, 1]);
     desk.buffer_holds(2, &data(10).repeat(2));
-    assert_eq!(desk.storage[..1_024], old);
+    assert_eq!(desk.storage[..1_024], [0; 1_024]);
 }
 
 /// The largest pool with every piece in use: drop and pullup done and refused, each with all its tables.

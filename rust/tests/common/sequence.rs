@@ -9,8 +9,8 @@ use super::names::{Named, NAMINGS};
 use super::random::{self, Mood, Notes, Random, Shape, LARGEST, SHAPES};
 use super::recount::{recount, Recount};
 
-/// A list under way: the pool that a done open has written, and what came after. In some lists the serials are set by hand
-/// now and then, which leaves the pool sound.
+/// A list under way: the pool that a done open has written, and what came after. In some lists the serials, or the bytes of
+/// free buffers, are set by hand now and then, which leaves the pool sound.
 pub struct List {
     pub random: Random,
     pub shape: Shape,
@@ -21,11 +21,26 @@ pub struct List {
 }
 
 impl List {
-    /// Starts a list in a pool of this shape, opened by the model over random bytes.
+    /// Starts a list in a pool of this shape, opened by the model over random bytes, none of storage zero.
     pub fn start(seed: u64, shape: Option<Shape>) -> List {
+        let list = List::open(seed, shape, |_| ());
+        assert!(list.storage.iter().all(|byte| *byte != 0));
+        list
+    }
+
+    /// Starts a list in a pool of this shape, opened by the model over zeroed storage.
+    pub fn start_zeroed(seed: u64, shape: Option<Shape>) -> List {
+        let list = List::open(seed, shape, |storage| storage.fill(0));
+        assert!(list.storage.iter().all(|byte| *byte == 0));
+        list
+    }
+
+    /// Starts a list over storage of random bytes with which something was done.
+    fn open(seed: u64, shape: Option<Shape>, prepare: fn(&mut [u8])) -> List {
         let mut random = Random::new(seed);
         let shape = shape.unwrap_or_else(|| random::shape(&mut random));
-        let (pool, storage) = random::unopened(&mut random, shape);
+        let (pool, mut storage) = random::unopened(&mut random, shape);
+        prepare(&mut storage);
         let opening = Call::Open {
             buffers: shape.0,
             pieces: shape.1,
@@ -55,11 +70,13 @@ impl List {
         )
     }
 
-    /// Sets serials by hand before every so many calls, as the mood has it; answers whether it was time.
+    /// Sets serials and free buffers by hand before every so many calls, as the mood has it; answers whether it was time.
     pub fn wear(&mut self, made: u64) -> bool {
         let time = made % 50 == 0;
         if time {
-            self.mood.wear(&mut self.random, &mut self.pool);
+            let (random, pool) = (&mut self.random, &mut self.pool);
+            self.mood.wear(random, pool);
+            self.mood.soil(random, pool, &mut self.storage);
         }
         time
     }

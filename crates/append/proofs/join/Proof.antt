@@ -10,11 +10,13 @@ use Rattle.rules.specs.Tables.{Tables, headOf, pieceTotal, aged}
 use Rattle.rules.specs.Bytes.{decode}
 use Rattle.rules.specs.Room.{isFree, freePieces}
 use Rattle.rules.specs.Append.{notOwn}
+use Rattle.rules.proofs.Audit.{tables-now}
 use Rattle.tables.proofs.Laws.{onward}
 use Rattle.room.specs.Free.{lowestFor}
 use Rattle.answer.proofs.Perform.{named-below}
 use Rattle.append.specs.Join.{goodName}
-use Rattle.append.proofs.Ready.{IsReady, head-ok, last-below, next-ok, next-long, no-others, others-count, others-cut, own-ready, new-ready, first-small, join-hangable, join-after}
+use Rattle.append.proofs.Ready.{IsReady, head-ok, last-below, next-ok, next-long, no-others, others-count, others-cut, own-ready, new-ready}
+use Rattle.append.proofs.Ready.{first-small, join-all, old-shared, old-below, join-lowered}
 use Rattle.append.proofs.Laws.{append-pieces, append-joined}
 use Rattle.append.proofs.join.Statement.{statement}
 use Rattle.append.proofs.join.Tie as tie
@@ -60,8 +62,8 @@ module _ (v : tie.After-set-slip) where
   kept : IsReady (tables begun) (start begun .args .a .0) (start begun .args .b .0) (v .set-slip .last .0) (start begun .args .tail)
   kept = own-ready (start begun .pre .0) (start begun .pre .1) (begun .own-run .ensures) (all-own .if1 .taken) (v .set-slip .ensures)
 
-hang-requires : tie.Need-hang-requires
-hang-requires c κs =
+link-requires : tie.Need-link-requires
+link-requires c κs =
     let v = c .before .before .before in
     let r = begun v in
     let z = start r in
@@ -70,14 +72,13 @@ hang-requires c κs =
       a-below r,
       last-below (z .pre .0) (z .pre .1) is,
       first-small (z .pre .0) (z .pre .1) is (kept v),
-      join-hangable (z .pre .0) (z .pre .1) is (kept v),
     )
 
 retire-requires : tie.Need-retire-requires
 retire-requires c κs =
     let g = c .before .before .before in
     let r = begun (g .before .before .before .before) in
-    (g .hang .ensures .shaped, a-below r, b-below r)
+    (g .link .ensures .shaped, a-below r, b-below r)
 
 same-length : tie.Need-same-length
 same-length c = search needs
@@ -92,8 +93,9 @@ returns c =
     let is = r .own-run .ensures in
     let none = ap length (no-others (z .pre .0) (z .pre .1) is (all-own v .if1 .taken)) in (
       λ st. append-joined (z .args .pool .now) st (goodName (tables r) (z .args .a .0)) (goodName (tables r) (z .args .b .0)) (z .pre .1 .a-named) (z .pre .1 .b-named) (z .pre .1 .apart) (a-some r) (b-some r)
-          (omega (arith, none)) (t .retire .ensures .1) (λ i. omega (arith, c .slice-known4 .given i))
-          (onward (join-after (z .pre .0) (z .pre .1) is (kept v) st (g .hang .ensures)) (λ (T : Tables). aged T (z .args .b .0)) (t .retire .ensures .0)),
+          (tables-now (tables r) (z .pre .0 .sound)) (omega (arith, none)) (t .retire .ensures .1) (λ i. omega (arith, c .slice-known4 .given i))
+          (onward (join-all (z .pre .0) (z .pre .1) is (kept v) st (all-own v .if1 .taken) (g .link .ensures))
+          (λ (T : Tables). aged T (z .args .b .0)) (t .retire .ensures .0)),
       rw (t .retire .ensures .1),
     )
 
@@ -178,8 +180,8 @@ module _ (v : tie.After-set-slip2) where
   built-now =
       new-ready (start first-read .pre .0) (start first-read .pre .1) (first-read .own-run .ensures) (copied .copy-pieces .ensures .0) (copied .copy-pieces .ensures .1) (v .set-slip2 .ensures)
 
-hang-requires-2 : tie.Need-hang-requires-2
-hang-requires-2 c κs =
+link-requires-2 : tie.Need-link-requires-2
+link-requires-2 c κs =
     let v = c .before .before .before in
     let r = first-read v in
     let z = start r in
@@ -188,14 +190,39 @@ hang-requires-2 c κs =
       a-below r,
       last-below (z .pre .0) (z .pre .1) is,
       first-small (z .pre .0) (z .pre .1) is (built-now v),
-      join-hangable (z .pre .0) (z .pre .1) is (built-now v),
+    )
+
+-- the link is put in its place, and what stood there is given up
+module _ (k : tie.After-link2) where
+  abbrev vacated : tie.After-set-slip2
+  vacated = k .before .before .before .before
+
+  abbrev origin : tie.After-own-run
+  origin = first-read vacated
+
+  -- a's pieces are not all own
+  more : origin .own-run .result .next ≡ 0 → ⊥
+  more = counted (asked (roomed vacated)) .before .before .if1 .left
+
+sub-t39 : tie.Need-sub-t39
+sub-t39 c = let n = more (c .before .before .before) in omega arith
+
+lower-requires : tie.Need-lower-requires
+lower-requires c κs =
+    let k = c .before .before .before in
+    let r = origin k in
+    let z = start r in
+    let is = r .own-run .ensures in (
+      k .link2 .ensures .shaped,
+      old-below (z .pre .0) (z .pre .1) is (built-now (vacated k)) (more k) (k .link2 .ensures),
+      old-shared (z .pre .0) (z .pre .1) is (built-now (vacated k)) (more k) (k .link2 .ensures),
     )
 
 retire-requires-2 : tie.Need-retire-requires-2
 retire-requires-2 c κs =
-    let g = c .before .before .before in
-    let r = first-read (g .before .before .before .before) in
-    (g .hang2 .ensures .shaped, a-below r, b-below r)
+    let w = c .before .before .before in
+    let r = origin (w .before .before .before .before) in
+    (w .lower .ensures .shaped, a-below r, b-below r)
 
 same-length-3 : tie.Need-same-length-3
 same-length-3 c = search needs
@@ -203,15 +230,18 @@ same-length-3 c = search needs
 returns-3 : tie.Need-returns-3
 returns-3 c =
     let t = c .before .before in
-    let g = t .before .before .before .before in
-    let v = g .before .before .before .before in
+    let w = t .before .before .before .before in
+    let k = w .before .before .before .before in
+    let v = vacated k in
     let e = roomed v in
     let r = first-read v in
     let z = start r in
     let is = r .own-run .ensures in (
       λ st. append-joined (z .args .pool .now) st (goodName (tables r) (z .args .a .0)) (goodName (tables r) (z .args .b .0)) (z .pre .1 .a-named) (z .pre .1 .b-named) (z .pre .1 .apart) (a-some r) (b-some r)
-          (omega (arith, count (asked e), room e)) (t .retire2 .ensures .1) (λ i. omega (arith, c .slice-known8 .given i))
-          (onward (join-after (z .pre .0) (z .pre .1) is (built-now v) st (g .hang2 .ensures)) (λ (T : Tables). aged T (z .args .b .0)) (t .retire2 .ensures .0)),
+          (tables-now (tables r) (z .pre .0 .sound)) (omega (arith, count (asked e), room e)) (t .retire2 .ensures .1)
+          (λ i. omega (arith, c .slice-known9 .given i))
+          (onward (join-lowered (z .pre .0) (z .pre .1) is (built-now v) (more k) (k .link2 .ensures) st (w .lower .ensures))
+          (λ (T : Tables). aged T (z .args .b .0)) (t .retire2 .ensures .0)),
       rw (t .retire2 .ensures .1),
     )
 
@@ -221,7 +251,7 @@ join-spec =
     (tie.spec
     own-run-requires
     set-slip-requires
-    hang-requires
+    link-requires
     retire-requires
     same-length
     returns
@@ -232,7 +262,9 @@ join-spec =
     returns-2
     copy-pieces-requires
     set-slip-requires-2
-    hang-requires-2
+    link-requires-2
+    sub-t39
+    lower-requires
     retire-requires-2
     same-length-3
     returns-3)

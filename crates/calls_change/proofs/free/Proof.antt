@@ -3,7 +3,7 @@ use borrow.Author.Needs.{needs}
 use borrow.Author.Tests.{not-true, not-false}
 use Rattle.rules.specs.Rule.{name}
 use Rattle.rules.specs.Step.{Free}
-use Rattle.calls.proofs.Laws.{torn-answer, opened, answered}
+use Rattle.calls.proofs.Laws.{torn-answer, opened, fitted, answered}
 use Rattle.calls_change.proofs.free.Statement.{statement}
 use Rattle.calls_change.proofs.free.Tie as tie
 
@@ -25,9 +25,10 @@ returns c =
 
 free-requires : tie.Need-free-requires
 free-requires c κs =
-    let e = c .before .before in
+    let e = c .before .before .before in
     let u = e .before .before in
-    opened (u .before .before .before .before .args .storage .now) (u .audit .ensures) (not-false _ (e .if1 .left))
+    let st = u .before .before .before .before .args .storage .now in
+    (opened st (u .audit .ensures) (not-false _ (e .if1 .left)), fitted st (u .audit .ensures) (not-false _ (e .if1 .left)))
 
 answer-of-requires : tie.Need-answer-of-requires
 answer-of-requires c κs = search needs
@@ -35,15 +36,28 @@ answer-of-requires c κs = search needs
 same-length-2 : tie.Need-same-length-2
 same-length-2 c = search needs
 
+same-length-3 : tie.Need-same-length-3
+same-length-3 c = search needs
+
 returns-2 : tie.Need-returns-2
 returns-2 c =
-    let k = c .before .before .before in
-    let e = k .before .before .before in
+    let k = c .before .before .before .before .before in
+    let e = k .before .before .before .before in
     let u = e .before .before in
     let a = u .before .before .before .before .args in
-    answered (a .storage .now) (u .audit .ensures) (not-false _ (e .if1 .left)) (k .free .result) (Free (name (a .slip .0) (a .serial .0))) (c .answer-of .ensures) (k .free .ensures .0 (a .storage .now))
+    answered (a .storage .now) (u .audit .ensures) (not-false _ (e .if1 .left)) (k .free .result) (Free (name (a .slip .0) (a .serial .0)))
+    (c .answer-of .ensures) (k .free .ensures .0)
 
 pub free-spec : {M : Type 1} → statement M
 free-spec =
     tie.close
-    (tie.spec audit-requires refused-requires same-length returns free-requires answer-of-requires same-length-2 returns-2)
+    (tie.spec
+    audit-requires
+    refused-requires
+    same-length
+    returns
+    free-requires
+    answer-of-requires
+    same-length-2
+    same-length-3
+    returns-2)

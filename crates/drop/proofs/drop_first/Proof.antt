@@ -12,7 +12,7 @@ use Rattle.kinds.proofs.Laws.{entry-none, entry-some}
 use Rattle.rules.specs.Basics.{Is}
 use Rattle.rules.specs.Tables.{Tables, headOf, holding, slipTotal, pieceTotal}
 use Rattle.rules.specs.Bytes.{decode}
-use Rattle.rules.specs.Chain.{lengthOf, ownPieces}
+use Rattle.rules.specs.Chain.{stateOf, lengthOf, ownPieces}
 use Rattle.rules.specs.Room.{isFreeWith, freePieces, freeFrom}
 use Rattle.rules.specs.Build.{Plan, built, builtLink}
 use Rattle.rules.specs.Rule.{Name, name, unnamed}
@@ -27,9 +27,9 @@ use Rattle.tables.proofs.Laws.{whole, total-pieces}
 use Rattle.chain.specs.Enter.{Enters}
 use Rattle.chain.specs.Find.{pastEnd}
 use Rattle.chain.proofs.Spots.{Found, found-at, past-range}
-use Rattle.release.specs.Release.{turnedTo}
+use Rattle.release.specs.Release.{turnedTo, turnedStorage}
 use Rattle.rest.specs.Rest.{restFrom, newOf, Makable}
-use Rattle.rest.proofs.Freed.{emptiedTo, freed-buffers, freed-count, freed-from, freed-counts, freed-link, freed-done, moved-done}
+use Rattle.rest.proofs.Freed.{emptiedTo, freed-buffers, freed-count, freed-from, freed-counts, freed-link, freed-done, moved-done, freed-storage, moved-storage}
 use Rattle.rest.proofs.Dropped.{dropped-at, more-dropped, buffer-dropped}
 use Rattle.drop.proofs.Laws.{no-stretch, made-dropped, drop-slip, drop-range, drop-pieces, drop-nothing, drop-done}
 use Rattle.drop.proofs.drop_first.Statement.{statement}
@@ -49,16 +49,16 @@ same-length c = search needs
 
 returns : tie.Need-returns
 returns c =
-    let a = c .before .before .before .before .before .before .args in
+    let a = c .before .before .before .before .before .before .before .args in
     let vacant = entry-none (c .before .before .state-of .ensures) (c .before .held .ensures) (not-true _ (c .if1 .taken)) in
-    (λ st. drop-slip (a .pool .now) st (name (a .s .0) (a .serial .0)) (a .n) (c .before .before .before .enter .ensures .strange vacant), tt)
+    (drop-slip (a .pool .now) (a .storage .now) (name (a .s .0) (a .serial .0)) (a .n) (c .before .before .before .enter .ensures .strange vacant), tt)
 
 -- ---- the slip is named
 
 module _ (e : tie.Else1) where
   -- where the call started, the tables there, the slip, and its name
   abbrev start : tie.Start
-  start = e .before .before .before .before .before .before
+  start = e .before .before .before .before .before .before .before
 
   abbrev tables : Tables
   tables = decode (start .args .pool .now)
@@ -90,7 +90,7 @@ module _ (e : tie.Else1) where
   head-is = entry .link-is held-here
 
   sound-here : SoundNow tables
-  sound-here = tables-now tables (start .pre .sound)
+  sound-here = tables-now tables (start .pre .0 .sound)
 
   -- what drop leaves, what it gives back first, and the pieces free
   abbrev rest : Plan
@@ -114,7 +114,7 @@ sub-head : tie.Need-sub-head
 sub-head c = let i = held-here c in omega arith
 
 find-requires : tie.Need-find-requires
-find-requires c κs = let e = c .before in (start e .pre, entry e .good)
+find-requires c κs = let e = c .before in (start e .pre .0, entry e .good)
 
 past-end-requires : tie.Need-past-end-requires
 past-end-requires c κs = search needs
@@ -127,7 +127,7 @@ module _ (f : tie.After-find) where
 
   -- it has the laws of a place found
   place : Found (tables from) (headOf (tables from) (slip from)) (start from .args .n) (f .find .result)
-  place = found-at (tables from) (slip from) (start from .args .n) (head-is from) (f .find .ensures) (start from .pre .sound) (inside from)
+  place = found-at (tables from) (slip from) (start from .args .n) (head-is from) (f .find .ensures) (start from .pre .0 .sound) (inside from)
 
   -- what stays from there is what drop leaves
   plan : rest from ≡ restFrom (tables from) (f .find .result .own) (f .find .result .link) (f .find .result .into)
@@ -135,7 +135,7 @@ module _ (f : tie.After-find) where
 
   -- it lies past the end where the chain is shorter
   past : pastEnd (f .find .result) ≡ ltb (lengthOf (tables from) (slip from)) (start from .args .n)
-  past = past-range (tables from) (slip from) (start from .args .n) (head-is from) (f .find .ensures) (start from .pre .sound) (inside from)
+  past = past-range (tables from) (slip from) (start from .args .n) (head-is from) (f .find .ensures) (start from .pre .0 .sound) (inside from)
 
 same-length-2 : tie.Need-same-length-2
 same-length-2 c = search needs
@@ -145,15 +145,18 @@ returns-2 c =
     let y = c .before in
     let f = y .before in
     let e = from f in
-    let z = start e in
-    (λ st. drop-range (z .args .pool .now) st (the-name e) (z .args .n) (named-here e) (subst Is (sym (c .if2 .taken) ∙ y .past-end .ensures ∙ past f) tt), tt)
+    let z = start e in (
+      drop-range (z .args .pool .now) (z .args .storage .now) (the-name e) (z .args .n) (named-here e)
+          (subst Is (sym (c .if2 .taken) ∙ y .past-end .ensures ∙ past f) tt),
+      tt,
+    )
 
 -- the chain has the bytes
 in-range : (c : tie.Else2) → let e = from (c .before .before) in Is (ltb (lengthOf (tables e) (slip e)) (start e .args .n)) → ⊥
 in-range c t = subst Is (sym (past (c .before .before)) ∙ sym (c .before .past-end .ensures) ∙ c .if2 .left) t
 
 done-requires : tie.Need-done-requires
-done-requires c κs = let e = from (c .before .before .before .before) in (start e .pre .shaped, below e)
+done-requires c κs = let e = from (c .before .before .before .before) in (start e .pre .0 .shaped, below e)
 
 same-length-3 : tie.Need-same-length-3
 same-length-3 c = search needs
@@ -164,8 +167,8 @@ returns-3 c =
     let r = t .before in
     let e = from (r .before .before) in
     let z = start e in (
-      λ st. drop-nothing (z .args .pool .now) st (the-name e) (z .args .n) (named-here e) (in-range r) (t .if3 .taken) (c .done .ensures)
-          (λ i. omega (arith, e .before .before .before .before .before .slice-known .given i)) (z .pre .shaped),
+      drop-nothing (z .args .pool .now) (z .args .storage .now) (the-name e) (z .args .n) (named-here e) (in-range r) (t .if3 .taken) (c .done .ensures)
+          (λ i. omega (arith, e .before .before .before .before .before .before .slice-known .given i)) (z .pre .0 .shaped),
       rw (c .done .ensures),
     )
 
@@ -196,28 +199,40 @@ module _ (c : tie.Then4) where
 
 move-to-requires : tie.Need-move-to-requires
 move-to-requires c κs =
-    let f = found-there (none-asked (c .before)) in
+    let f = found-there (none-asked (c .before .before)) in
     let e = from f in
-    ((start e .pre, place f .good, below e), place f .inside)
+    ((start e .pre .0, place f .good, below e), (place f .inside, start e .pre .1))
 
 done-requires-2 : tie.Need-done-requires-2
-done-requires-2 c κs = let v = c .before .before .before in (v .move-to .ensures .shaped, below (mover (v .before .before)))
+done-requires-2 c κs = let v = c .before .before .before .before .before in (v .move-to .ensures .0 .shaped, below (mover (v .before .before .before)))
 
 same-length-4 : tie.Need-same-length-4
 same-length-4 c = search needs
 
+same-length-5 : tie.Need-same-length-5
+same-length-5 c = search needs
+
 returns-4 : tie.Need-returns-4
 returns-4 c =
     let k = c .before .before in
-    let v = k .before .before in
-    let t = v .before .before in
+    let v = k .before .before .before .before in
+    let t = v .before .before .before in
     let r = none-asked t .before in
     let e = mover t in
-    let z = start e in (
-      λ st. drop-done (z .args .pool .now) st (the-name e) (z .args .n) (named-here e) (in-range (r .before)) (r .if3 .left) (omega (arith, ap length (none-new t))) (c .done2 .ensures)
-          (λ i. omega (arith, k .slice-known2 .given i))
-          (λ S. moved-done S (rest e) (slip e) (none-new t)
-          (record { shaped = v .move-to .ensures .shaped; is = v .move-to .ensures .is ∙ ap (λ (p : Plan). turnedTo (p .base) (slip e) (holding (p .tail))) (sym (plan (found-there (none-asked t)))) })),
+    let z = start e in
+    let S = stateOf (tables e) (z .args .storage .now) in
+    let q = plan (found-there (none-asked t)) in (
+      drop-done (z .args .pool .now) (z .args .storage .now) (the-name e) (z .args .n) (named-here e) (in-range (r .before)) (r .if3 .left)
+          (omega (arith, ap length (none-new t))) (c .done2 .ensures)
+          (λ i. omega (arith, k .before .before .slice-known3 .given i))
+          (moved-done S (rest e) (slip e) (none-new t)
+          (record {
+            shaped = v .move-to .ensures .0 .shaped;
+            is = v .move-to .ensures .0 .is
+                ∙ ap (λ (p : Plan). turnedTo (p .base) (slip e) (holding (p .tail))) (sym q);
+          }))
+          (v .move-to .ensures .1 ∙ ap (λ (p : Plan). turnedStorage (p .base) (z .args .storage .now) (slip e) (holding (p .tail))) (sym q)
+          ∙ moved-storage S (rest e) (slip e)),
       rw (c .done2 .ensures),
     )
 
@@ -228,7 +243,7 @@ room-in-front-requires c κs =
     let w = c .before .before in
     let e = from (found-there w) in
     let most = pieces-most (tables e) (slip e) (start e .args .n) in
-    (start e .pre, entry e .good, omega (arith, wants w, most, drop-count (tables e) (slip e) (start e .args .n) (sound-here e)))
+    (start e .pre .0, entry e .good, omega (arith, wants w, most, drop-count (tables e) (slip e) (start e .args .n) (sound-here e)))
 
 -- ---- room with what is given back
 
@@ -253,8 +268,8 @@ module _ (r : tie.After-room-in-front) where
       r .room-in-front .ensures .none-below d l
       (subst (λ n. Is (isFreeWith T (ownPieces (pieceTotal T) T n) d)) (sym (head-is origin)) (back-own T (slip origin) (start origin .args .n) (sound-here origin) d t))
 
-same-length-5 : tie.Need-same-length-5
-same-length-5 c = search needs
+same-length-6 : tie.Need-same-length-6
+same-length-6 c = search needs
 
 returns-5 : tie.Need-returns-5
 returns-5 c =
@@ -263,21 +278,21 @@ returns-5 c =
     let e = origin k in
     let z = start e in
     let few = leb-false (length (rest e .more)) (length (back e) + length (free e)) (sym (room-is k) ∙ not-true _ (c .if5 .taken)) in
-    (λ st. drop-pieces (z .args .pool .now) st (the-name e) (z .args .n) (named-here e) (in-range (w .before .before)) (omega (arith, few)), tt)
+    (drop-pieces (z .args .pool .now) (z .args .storage .now) (the-name e) (z .args .n) (named-here e) (in-range (w .before .before)) (omega (arith, few)), tt)
 
 -- ---- there is room
 
 give-back-requires : tie.Need-give-back-requires
 give-back-requires c κs =
-    let f = found-there (asked (c .before .before .before .before)) in
+    let f = found-there (asked (c .before .before .before .before .before)) in
     let e = from f in
-    ((start e .pre, place f .good, below e), place f .inside)
+    ((start e .pre .0, place f .good, below e), (place f .inside, start e .pre .1))
 
 -- ---- the front is given back
 
 module _ (g : tie.After-give-back) where
   abbrev left : tie.Else5
-  left = g .before .before .before
+  left = g .before .before .before .before
 
   abbrev roomy : tie.After-room-in-front
   roomy = left .before .before
@@ -298,7 +313,7 @@ module _ (g : tie.After-give-back) where
   -- the pool's tables are those of the rule
   given : Holds (g .give-back .last .0) (start first .args .shape) (freed first)
   given =
-      let h = g .give-back .ensures .0 in
+      let h = g .give-back .ensures .0 .0 in
       record { shaped = h .shaped; is = h .is ∙ ap (λ (p : Plan). turnedTo (p .base) (slip first) (holding 0)) (sym plan-first) }
 
   -- the free pieces from the number found on are all
@@ -307,18 +322,18 @@ module _ (g : tie.After-give-back) where
 
   -- no more pieces than fit 16 bits
   few : pieceTotal (tables first) < 65535
-  few = omega (arith, start first .pre .few-pieces, total-pieces (whole (start first .pre .shaped)))
+  few = omega (arith, start first .pre .0 .few-pieces, total-pieces (whole (start first .pre .0 .shaped)))
 
   -- so the new piece can be made
   makable : Makable (freed first) (g .give-back .result) number
   makable =
       let T = tables first in
-      let same = more-dropped T (slip first) (start first .args .n) plan-first (g .give-back .ensures .1) in
+      let same = more-dropped T (slip first) (start first .args .n) plan-first (g .give-back .ensures .0 .1) in
       record {
         room = omega (arith, enough, ap length same, ap length all-free, freed-count (rest first) (slip first) (planned first) (inside first));
         in-store = λ z. omega (
           arith,
-          buffer-dropped T (slip first) (start first .args .n) plan-first (g .give-back .ensures .1) (sound-here first) z,
+          buffer-dropped T (slip first) (start first .args .n) plan-first (g .give-back .ensures .0 .1) (sound-here first) z,
           freed-buffers (rest first) (slip first) (planned first) (inside first),
         );
         counted = omega (arith, few, freed-counts (rest first) (slip first) (planned first) (inside first) (g .give-back .result .buffer .0));
@@ -326,15 +341,19 @@ module _ (g : tie.After-give-back) where
 
 make-requires : tie.Need-make-requires
 make-requires c κs =
-    let g = c .before .before .before in
-    let e = first g in
-    (given g .shaped, omega (arith, start e .pre .few-pieces), subst (λ (X : Tables). Makable X (g .give-back .result) (number g)) (sym (given g .is)) (makable g))
+    let g = c .before .before .before .before .before in
+    let e = first g in (
+      given g .shaped,
+      omega (arith, start e .pre .0 .few-pieces),
+      subst (λ (X : Tables). Makable X (g .give-back .result) (number g))
+          (sym (given g .is)) (makable g),
+    )
 
 -- ---- what stays is made
 
 module _ (m : tie.After-make) where
   abbrev gave : tie.After-give-back
-  gave = m .before .before .before .before
+  gave = m .before .before .before .before .before .before
 
   abbrev source : tie.Else1
   source = first gave
@@ -344,7 +363,7 @@ module _ (m : tie.After-make) where
       × (m .make .result ≡ builtLink (freePieces (freed source)) (rest source .more) (rest source .tail))
   made =
       let t = gave .give-back .result in
-      made-dropped (tables source) (slip source) (start source .args .n) (number gave) (plan-first gave) (gave .give-back .ensures .1) (all-free gave)
+      made-dropped (tables source) (slip source) (start source .args .n) (number gave) (plan-first gave) (gave .give-back .ensures .0 .1) (all-free gave)
       (subst (λ (X : Tables). Holds (m .make .last .0) (start source .args .shape) (built X (freeFrom X (number gave)) (newOf t) (t .next))
       × (m .make .result ≡ builtLink (freeFrom X (number gave)) (newOf t) (t .next))) (given gave .is) (m .make .ensures))
 
@@ -360,8 +379,11 @@ set-slip-requires c κs = let m = c .before .before .before in (made m .0 .shape
 done-requires-3 : tie.Need-done-requires-3
 done-requires-3 c κs = let u = c .before .before .before in (u .set-slip .ensures .shaped, below (source (u .before .before .before .before)))
 
-same-length-6 : tie.Need-same-length-6
-same-length-6 c = search needs
+same-length-7 : tie.Need-same-length-7
+same-length-7 c = search needs
+
+same-length-8 : tie.Need-same-length-8
+same-length-8 c = search needs
 
 returns-6 : tie.Need-returns-6
 returns-6 c =
@@ -371,9 +393,13 @@ returns-6 c =
     let g = gave m in
     let r = asked (roomy g) .before in
     let e = source m in
-    let z = start e in (
-      λ st. drop-done (z .args .pool .now) st (the-name e) (z .args .n) (named-here e) (in-range (r .before)) (r .if3 .left) (enough g) (c .done3 .ensures)
-          (λ i. omega (arith, k .slice-known5 .given i)) (λ S. freed-done (rest e) (slip e) (planned e) (inside e) S (made m) (u .set-slip .ensures)),
+    let z = start e in
+    let S = stateOf (tables e) (z .args .storage .now) in (
+      drop-done (z .args .pool .now) (z .args .storage .now) (the-name e) (z .args .n) (named-here e) (in-range (r .before)) (r .if3 .left) (enough g)
+          (c .done3 .ensures)
+          (λ i. omega (arith, k .slice-known8 .given i)) (freed-done (rest e) (slip e) (planned e) (inside e) S (made m) (u .set-slip .ensures))
+          (g .give-back .ensures .1 ∙ ap (λ (p : Plan). turnedStorage (p .base) (z .args .storage .now) (slip e) (holding 0)) (sym (plan-first g))
+          ∙ freed-storage S (rest e) (slip e)),
       rw (c .done3 .ensures),
     )
 
@@ -398,14 +424,16 @@ drop-first-spec =
     move-to-requires
     done-requires-2
     same-length-4
+    same-length-5
     returns-4
     room-in-front-requires
-    same-length-5
+    same-length-6
     returns-5
     give-back-requires
     make-requires
     add-set-slip
     set-slip-requires
     done-requires-3
-    same-length-6
+    same-length-7
+    same-length-8
     returns-6)

@@ -31,13 +31,13 @@ same-length c = search needs
 
 returns : tie.Need-returns
 returns c =
-    let a = c .before .before .before .before .args in
-    (λ st. keep-slip (a .pool .now) st (name (a .s .0) (a .serial .0)) (a .n) (c .before .enter .ensures .strange (c .if1 .taken)), tt)
+    let a = c .before .before .before .before .before .args in
+    (keep-slip (a .pool .now) (a .storage .now) (name (a .s .0) (a .serial .0)) (a .n) (c .before .enter .ensures .strange (c .if1 .taken)), tt)
 
 module _ (e : tie.Else1) where
   -- where the call started, the tables there, and the slip's name
   abbrev start : tie.Start
-  start = e .before .before .before .before
+  start = e .before .before .before .before .before
 
   abbrev tables : Tables
   tables = decode (start .args .pool .now)
@@ -66,7 +66,7 @@ sub-head : tie.Need-sub-head
 sub-head c = search needs
 
 find-requires : tie.Need-find-requires
-find-requires c κs = let e = c .before in (start e .pre, entry e .good)
+find-requires c κs = let e = c .before in (start e .pre .0, entry e .good)
 
 past-end-requires : tie.Need-past-end-requires
 past-end-requires c κs = search needs
@@ -85,21 +85,21 @@ module _ (c : tie.After-past-end) where
   short : c .past-end .result ≡ ltb (lengthOf (tables from) (start from .args .s .0)) (start from .args .n)
   short =
       c .past-end .ensures
-      ∙ past-range (tables from) (start from .args .s .0) (start from .args .n) (head-is from) (spot .find .ensures) (start from .pre .sound) (inside from)
+      ∙ past-range (tables from) (start from .args .s .0) (start from .args .n) (head-is from) (spot .find .ensures) (start from .pre .0 .sound) (inside from)
 
 returns-2 : tie.Need-returns-2
 returns-2 c =
     let y = c .before in
     let e = from y in
-    let z = start e in
-    (λ st. keep-range (z .args .pool .now) st (the-name e) (z .args .n) (named-here e) (ltb→lt _ _ (subst Is (sym (c .if2 .taken) ∙ short y) tt)), tt)
+    let a = start e .args in
+    (keep-range (a .pool .now) (a .storage .now) (the-name e) (a .n) (named-here e) (ltb→lt _ _ (subst Is (sym (c .if2 .taken) ∙ short y) tt)), tt)
 
 -- the chain has the bytes
 has : (c : tie.Else2) → let e = from (c .before) in start e .args .n ≤ lengthOf (tables e) (start e .args .s .0)
 has c = not-less _ _ (λ t. subst Is (sym (short (c .before)) ∙ c .if2 .left) t)
 
 done-requires : tie.Need-done-requires
-done-requires c κs = let e = from (c .before .before .before .before) in (start e .pre .shaped, below e)
+done-requires c κs = let e = from (c .before .before .before .before) in (start e .pre .0 .shaped, below e)
 
 same-length-3 : tie.Need-same-length-3
 same-length-3 c = search needs
@@ -111,10 +111,11 @@ returns-3 c =
     let y = e2 .before in
     let e = from y in
     let z = start e in
-    let k = e .before .before .before in
-    let same = at-end (tables e) (z .args .s .0) (z .args .n) (head-is e) (spot y .find .ensures) (z .pre .sound) (inside e) (t .if3 .taken)
+    let k = e .before .before .before .before in
+    let same = at-end (tables e) (z .args .s .0) (z .args .n) (head-is e) (spot y .find .ensures) (z .pre .0 .sound) (inside e) (t .if3 .taken)
     (λ q. subst Is (sym (y .past-end .ensures) ∙ e2 .if2 .left) q) in (
-      λ st. keep-whole (z .args .pool .now) st (the-name e) (z .args .n) (named-here e) (has e2) same (c .done .ensures) (λ i. omega (arith, k .slice-known .given i)) (whole (z .pre .shaped)),
+      keep-whole (z .args .pool .now) (z .args .storage .now) (the-name e) (z .args .n) (named-here e) (has e2) same (c .done .ensures)
+          (λ i. omega (arith, k .slice-known .given i)) (whole (z .pre .0 .shaped)),
       rw (c .done .ensures),
     )
 
@@ -130,10 +131,10 @@ module _ (c : tie.Else3) where
   part-only e =
       let y = ranged .before in
       let z = start at in
-      omega (arith, e, before-end (tables at) (z .args .s .0) (z .args .n) (head-is at) (spot y .find .ensures) (z .pre .sound) (inside at) (c .if3 .left))
+      omega (arith, e, before-end (tables at) (z .args .s .0) (z .args .n) (head-is at) (spot y .find .ensures) (z .pre .0 .sound) (inside at) (c .if3 .left))
 
 own-part-requires : tie.Need-own-part-requires
-own-part-requires c κs = let e = at (c .before) in (start e .pre, entry e .good)
+own-part-requires c κs = let e = at (c .before) in (start e .pre .0, entry e .good)
 
 -- what the code knows then
 module _ (c : tie.After-own-part) where
@@ -144,7 +145,7 @@ module _ (c : tie.After-own-part) where
   seen =
       let z = start (at here) in
       record {
-        opened = z .pre;
+        opened = z .pre .0;
         below = inside (at here);
         part = has (ranged here);
         run = c .own-part .ensures ∙ ap (λ (l : ℕ). ownPart (tables (at here)) l (z .args .n)) (head-is (at here));
@@ -158,34 +159,44 @@ trim-end-requires c κs =
 
 hang-requires : tie.Need-hang-requires
 hang-requires c κs =
-    let d = c .before .before .before in
+    let d = c .before .before .before .before in
     let t = d .before .before .before in
     let f = t .before .before in
-    let w = seen f in
-    (d .trim-end .ensures .shaped, below (at (here f)), last-below w, omega arith, short-hangable w (t .if4 .taken) (d .trim-end .ensures))
+    let w = seen f in (
+      d .trim-end .ensures .shaped,
+      below (at (here f)),
+      last-below w,
+      omega arith,
+      short-hangable w (t .if4 .taken) (d .trim-end .ensures),
+      start (at (here f)) .pre .1,
+    )
 
 done-requires-2 : tie.Need-done-requires-2
 done-requires-2 c κs =
-    let g = c .before .before .before in
-    let t = g .before .before .before .before .before .before .before in
-    (g .hang .ensures .shaped, below (at (here (t .before .before))))
+    let g = c .before .before .before .before .before in
+    let t = g .before .before .before .before .before .before .before .before in
+    (g .hang .ensures .0 .shaped, below (at (here (t .before .before))))
 
 same-length-4 : tie.Need-same-length-4
 same-length-4 c = search needs
 
+same-length-5 : tie.Need-same-length-5
+same-length-5 c = search needs
+
 returns-4 : tie.Need-returns-4
 returns-4 c =
-    let b = c .before .before in
+    let b = c .before .before .before .before in
     let g = b .before .before in
-    let d = g .before .before .before .before in
+    let d = g .before .before .before .before .before in
     let t = d .before .before .before in
     let f = t .before .before in
     let w = seen f in
     let e = at (here f) in
     let z = start e in
     let all = t .if4 .taken in (
-      λ st. keep-done (z .args .pool .now) st (the-name e) (z .args .n) (named-here e) (has (ranged (here f))) (part-only (here f)) (omega (arith, ap length (no-others w all))) (c .done2 .ensures)
-          (λ i. omega (arith, b .slice-known3 .given i)) (short-after w all st (d .trim-end .ensures) (g .hang .ensures)),
+      keep-done (z .args .pool .now) (z .args .storage .now) (the-name e) (z .args .n) (named-here e) (has (ranged (here f))) (part-only (here f))
+          (omega (arith, ap length (no-others w all))) (c .done2 .ensures) (λ i. omega (arith, b .slice-known4 .given i))
+          (short-after w all (z .args .storage .now) (d .trim-end .ensures) (g .hang .ensures)),
       rw (c .done2 .ensures),
     )
 
@@ -210,10 +221,10 @@ cast-piece-room : tie.Need-cast-piece-room
 cast-piece-room c = search needs
 
 piece-room-requires : tie.Need-piece-room-requires
-piece-room-requires c κs = start (at (here (passed (c .before .before .before .before)))) .pre .shaped
+piece-room-requires c κs = start (at (here (passed (c .before .before .before .before)))) .pre .0 .shaped
 
-same-length-5 : tie.Need-same-length-5
-same-length-5 c = search needs
+same-length-6 : tie.Need-same-length-6
+same-length-6 c = search needs
 
 -- how many they are
 module _ (c : tie.After-part-of) where
@@ -242,9 +253,10 @@ returns-5 c =
     let g = counted (c .before .before) in
     let f = passed (other g) in
     let e = at (here f) in
-    let z = start e in
+    let a = start e .args in
     let few = leb-false (g .part-of .result .pieces) (length (freePieces (tables e))) (sym (enough (c .before .before)) ∙ not-true _ (c .if5 .taken)) in
-    (λ st. keep-pieces (z .args .pool .now) st (the-name e) (z .args .n) (named-here e) (has (ranged (here f))) (part-only (here f)) (omega (arith, few, count g)), tt)
+    let h = here f in
+    (keep-pieces (a .pool .now) (a .storage .now) (the-name e) (a .n) (named-here e) (has (ranged h)) (part-only h) (omega (arith, few, count g)), tt)
 
 -- there is room for them
 room : (c : tie.Else5) → counted (c .before .before) .part-of .result .pieces ≤ length (freePieces (there (c .before .before)))
@@ -259,7 +271,7 @@ copy-pieces-requires c κs =
 
 hang-requires-2 : tie.Need-hang-requires-2
 hang-requires-2 c κs =
-    let d = c .before .before .before in
+    let d = c .before .before .before .before in
     let f = passed (other (counted (d .before .before .before .before .before))) in
     let w = seen f in
     let k = d .copy-pieces .ensures in (
@@ -268,22 +280,26 @@ hang-requires-2 c κs =
       last-below w,
       new-small w (k .0) (k .1),
       new-hangable w (k .0) (k .1),
+      start (at (here f)) .pre .1,
     )
 
 done-requires-3 : tie.Need-done-requires-3
 done-requires-3 c κs =
-    let g = c .before .before .before in
-    let q = g .before .before .before .before .before .before .before .before .before in
-    (g .hang2 .ensures .shaped, below (at (here (passed (other (counted q))))))
+    let g = c .before .before .before .before .before in
+    let q = g .before .before .before .before .before .before .before .before .before .before in
+    (g .hang2 .ensures .0 .shaped, below (at (here (passed (other (counted q))))))
 
-same-length-6 : tie.Need-same-length-6
-same-length-6 c = search needs
+same-length-7 : tie.Need-same-length-7
+same-length-7 c = search needs
+
+same-length-8 : tie.Need-same-length-8
+same-length-8 c = search needs
 
 returns-6 : tie.Need-returns-6
 returns-6 c =
-    let b = c .before .before in
+    let b = c .before .before .before .before in
     let g = b .before .before in
-    let d = g .before .before .before .before in
+    let d = g .before .before .before .before .before in
     let e5 = d .before .before .before in
     let e4 = other (counted (e5 .before .before)) in
     let f = passed e4 in
@@ -291,8 +307,9 @@ returns-6 c =
     let e = at (here f) in
     let z = start e in
     let k = d .copy-pieces .ensures in (
-      λ st. keep-done (z .args .pool .now) st (the-name e) (z .args .n) (named-here e) (has (ranged (here f))) (part-only (here f)) (omega (arith, count (counted (e5 .before .before)), room e5)) (c .done3 .ensures)
-          (λ i. omega (arith, b .slice-known5 .given i)) (new-after w (k .0) (k .1) (fewer e4) st (g .hang2 .ensures)),
+      keep-done (z .args .pool .now) (z .args .storage .now) (the-name e) (z .args .n) (named-here e) (has (ranged (here f))) (part-only (here f))
+          (omega (arith, count (counted (e5 .before .before)), room e5)) (c .done3 .ensures) (λ i. omega (arith, b .slice-known7 .given i))
+          (new-after w (k .0) (k .1) (fewer e4) (z .args .storage .now) (g .hang2 .ensures)),
       rw (c .done3 .ensures),
     )
 
@@ -316,16 +333,18 @@ keep-spec =
     hang-requires
     done-requires-2
     same-length-4
+    same-length-5
     returns-4
     sub-left
     cast-part-of
     part-of-requires
     cast-piece-room
     piece-room-requires
-    same-length-5
+    same-length-6
     returns-5
     copy-pieces-requires
     hang-requires-2
     done-requires-3
-    same-length-6
+    same-length-7
+    same-length-8
     returns-6)

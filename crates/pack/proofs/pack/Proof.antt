@@ -251,19 +251,20 @@ lay-requires c κs =
 
 add-turn : tie.Need-add-turn
 add-turn c =
-    let y = c .before .before .before in
+    let y = c .before .before .before .before in
     omega (arith, new-small (found (room y)) (y .lay .ensures .0) (y .lay .ensures .1))
 
 turn-requires : tie.Need-turn-requires
 turn-requires c κs =
-    let y = c .before .before .before in
+    let y = c .before .before .before .before in
+    let w = y .before .before .before .before in
     let e4 = room y in
-    (y .lay .ensures .0 .shaped, below (at e4), new-held (found e4) (y .lay .ensures .0) (y .lay .ensures .1))
+    (y .lay .ensures .0 .shaped, below (at e4), new-held (found e4) (y .lay .ensures .0) (y .lay .ensures .1), w .refill .kept .1 .1 .0 ∙ start (at e4) .pre .1)
 
 done-requires-2 : tie.Need-done-requires-2
 done-requires-2 c κs =
-    let t = c .before .before .before in
-    (t .turn .ensures .shaped, below (at (room (t .before .before .before .before))))
+    let t = c .before .before .before .before .before in
+    (t .turn .ensures .0 .shaped, below (at (room (t .before .before .before .before .before))))
 
 same-length-5 : tie.Need-same-length-5
 same-length-5 c = search needs
@@ -273,9 +274,9 @@ same-length-6 c = search needs
 
 returns-5 : tie.Need-returns-5
 returns-5 c =
-    let k = c .before .before in
+    let k = c .before .before .before .before in
     let t = k .before .before in
-    let y = t .before .before .before .before in
+    let y = t .before .before .before .before .before in
     let w = y .before .before .before .before in
     let e4 = room y in
     let e3 = enough e4 in
@@ -284,9 +285,10 @@ returns-5 c =
     let z = start e in
     let a = z .args in
     let f = found e4 in (
-      pack-done (a .pool .now) (a .storage .now) (the-name e) (named-here e) (many (more b)) (omega (arith, pieces-room e3, counted b)) (omega (arith, buffers-room e4, counted b)) (c .done2 .ensures)
-          (λ i. omega (arith, k .slice-known5 .given i)) (new-after f (y .lay .ensures .0) (y .lay .ensures .1) _ (t .turn .ensures))
-          (new-bytes f (a .storage .now) (z .pre .1) (entry e .good) (head-is e) (w .refill .ensures)),
+      pack-done (a .pool .now) (a .storage .now) (the-name e) (named-here e) (many (more b)) (omega (arith, pieces-room e3, counted b))
+          (omega (arith, buffers-room e4, counted b)) (c .done2 .ensures) (λ i. omega (arith, k .slice-known5 .given i))
+          (new-bytes f (a .storage .now) (z .pre .1) (entry e .good) (head-is e) (w .refill .ensures))
+          (new-after f (y .lay .ensures .0) (y .lay .ensures .1) _ (t .turn .ensures)),
       rw (c .done2 .ensures),
     )
 

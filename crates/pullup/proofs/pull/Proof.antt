@@ -55,14 +55,15 @@ refill-requires c κs =
 
 give-back-requires : tie.Need-give-back-requires
 give-back-requires c κs =
-    let z = c .before .before .before .before .before .before .before .before in
-    ((z .pre .0 .0, place z .good, below z), place z .inside)
+    let f = c .before .before .before .before in
+    let z = f .before .before .before .before .before in
+    ((z .pre .0 .0, place z .good, below z), (place z .inside, f .refill .kept .1 .1 .0 ∙ z .pre .0 .1))
 
 -- ---- the front is given back
 
 module _ (g : tie.After-give-back) where
   abbrev start : tie.Start
-  start = g .before .before .before .before .before .before .before .before .before
+  start = g .before .before .before .before .before .before .before .before .before .before
 
   -- the plan of pullup
   abbrev plan : Plan
@@ -71,28 +72,28 @@ module _ (g : tie.After-give-back) where
   -- the pool's tables are those of the rule
   given : Holds (g .give-back .last .0) (start .args .shape) (emptiedTo plan (slip start))
   given =
-      let h = g .give-back .ensures .0 in
+      let h = g .give-back .ensures .0 .0 in
       record { shaped = h .shaped; is = h .is ∙ ap (λ (p : Plan). turnedTo (p .base) (slip start) (holding 0)) (sym (dropped-there (start .pre .1))) }
 
 cast-make-first : tie.Need-cast-make-first
-cast-make-first c = let z = start (c .before .before .before) in omega (arith, z .pre .1 .fits)
+cast-make-first c = let z = start (c .before .before .before .before .before) in omega (arith, z .pre .1 .fits)
 
 make-first-requires : tie.Need-make-first-requires
 make-first-requires c κs =
-    let g = c .before .before .before in
+    let g = c .before .before .before .before .before in
     let z = start g in
     let few = total-pieces (whole (z .pre .0 .0 .shaped)) in (
       given g .shaped,
       omega (arith, z .pre .0 .0 .few-pieces),
       subst (λ (X : Tables). FirstMakable X (g .give-back .result) (z .args .from .0) (z .args .beyond .0) (z .args .b .0)) (sym (given g .is))
-          (pulled-makable (z .pre .1) (sound z) (planned z) (g .give-back .ensures .1) (omega (arith, few, z .pre .0 .0 .few-pieces))),
+          (pulled-makable (z .pre .1) (sound z) (planned z) (g .give-back .ensures .0 .1) (omega (arith, few, z .pre .0 .0 .few-pieces))),
     )
 
 -- ---- the new first piece is made
 
 module _ (m : tie.After-make-first) where
   abbrev gave : tie.After-give-back
-  gave = m .before .before .before .before
+  gave = m .before .before .before .before .before .before
 
   abbrev source : tie.Start
   source = start gave
@@ -107,7 +108,7 @@ module _ (m : tie.After-make-first) where
       let t = gave .give-back .result in
       let i = source .args .from .0 in
       let x = firstOn (source .args .b .0) (source .args .n) t in
-      pulled-made (source .pre .1) (sound source) (planned source) (gave .give-back .ensures .1)
+      pulled-made (source .pre .1) (sound source) (planned source) (gave .give-back .ensures .0 .1)
       (subst (λ (X : Tables). Holds (m .make-first .last .0) (source .args .shape) (built X (freeFrom X i) x (t .next)) × (m .make-first .result ≡ builtLink (freeFrom X i) x (t .next)))
       (given gave .is) (m .make-first .ensures))
 
@@ -130,10 +131,11 @@ returns : tie.Need-returns
 returns c =
     let u = c .before .before in
     let m = u .before .before .before .before in
-    let r = gave m .before .before .before .before in
+    let r = gave m .before .before .before .before .before in
     let z = source m in
     pull-done (z .args .pool .now) (z .args .storage .now) (z .pre .1)
-    (λ S. freed-done (plan (gave m)) (slip z) (planned z) (z .pre .1 .named) S (made m) (u .set-slip .ensures)) (r .refill .ensures)
+    (λ S. freed-done (plan (gave m)) (slip z) (planned z) (z .pre .1 .named) S (made m) (u .set-slip .ensures))
+    (r .refill .ensures) (gave m .give-back .ensures .1)
 
 pub pull-spec : {M : Type 1} → statement M
 pull-spec =

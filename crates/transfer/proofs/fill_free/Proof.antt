@@ -9,7 +9,7 @@ use Rattle.rules.specs.Room.{isUnheld, newBuffers}
 use Rattle.rules.specs.Build.{buffersFor, stored}
 use Rattle.rules.proofs.Contents.{Fit}
 use Rattle.tables.proofs.Laws.{whole, total-buffers, storage-fits}
-use Rattle.transfer.proofs.Place.{place-one, place-inside}
+use Rattle.storage.proofs.Place.{place-one, place-inside}
 use Rattle.transfer.proofs.Fill.{Filling, next-part, filling-first, filling-done, filling-below, filling-on}
 use Rattle.transfer.proofs.fill_free.Statement.{statement}
 use Rattle.transfer.proofs.fill_free.Tie as tie

@@ -12,7 +12,7 @@ use Rattle.rules.proofs.Contents.{Fit}
 use Rattle.tables.proofs.Laws.{whole, total-pieces, total-buffers, storage-fits}
 use Rattle.transfer.specs.Behind.{behind}
 use Rattle.transfer.proofs.Copy.{bytesFrom, bytes-count, going-some, going-piece, going-before, going-count, going-within, going-lies, going-end}
-use Rattle.transfer.proofs.Place.{Place, place-one, place-inside}
+use Rattle.storage.proofs.Place.{Place, place-one, place-inside}
 use Rattle.transfer.proofs.Move.{Moving, moving-first, moving-length, moving-on, moving-done}
 use Rattle.transfer.proofs.refill_buffer.Statement.{statement}
 use Rattle.transfer.proofs.refill_buffer.Tie as tie

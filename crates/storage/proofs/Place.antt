@@ -7,7 +7,7 @@ use lib.ListN.{length}
 use Rattle.kinds.specs.Limits.{bufferSize}
 use Rattle.kinds.specs.Sizes.{sizeOf, startOf}
 use Rattle.kinds.proofs.Sizes.{start-step, size-one, start-one}
-use Rattle.rules.specs.Build.{filledAt, filled}
+use Rattle.rules.specs.Storage.{filledAt, filled}
 use Rattle.rules.proofs.Contents.{Fit}
 
 -- buffer b has the z bytes from byte a on
