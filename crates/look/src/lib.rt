@@ -14,7 +14,6 @@ ghost use Prim.Native.Nat.{ℕ, _≤_};
 ghost use lib.ListN.{length};
 ghost use Rattle.kinds.specs.SlipState.{stateOf};
 ghost use Rattle.rules.specs.Basics.{Is};
-ghost use Rattle.rules.specs.Layout.{storageLength};
 ghost use Rattle.rules.specs.Tables.{slip};
 ghost use Rattle.rules.specs.Bytes.{decode};
 ghost use Rattle.rules.specs.Chain.{firstLength};
@@ -22,7 +21,7 @@ ghost use Rattle.rules.specs.Sound.{linkOk, lent};
 ghost use Rattle.rules.specs.Rule.{name, noView};
 ghost use Rattle.rules.specs.Show.{viewOf};
 ghost use Rattle.rules.specs.Step.{Length, Read, perform};
-ghost use Rattle.tables.specs.Shape.{stockOf};
+ghost use Rattle.tables.specs.Shape.{Backs};
 ghost use Rattle.chain.specs.Opened.{Opened};
 ghost use Rattle.chain.specs.Length.{stretchesFrom};
 ghost use Rattle.answer.specs.Result.{resultOf, Leaves};
@@ -91,7 +90,7 @@ pub fn read(
     n: u32,
     output: &mut [u8],
 ) -> Outcome
-    requires { ⌜ Opened (now pool) shape × (length (now storage) ≡ storageLength (stockOf shape) (shape .buffers)) ⌝ }
+    requires { ⌜ Opened (now pool) shape × Backs (now storage) shape ⌝ }
     ensures { λ r. ⌜ resultOf r (now (pool .entry)) (now (storage .entry)) (now (output .exit)) noView
         ≡ perform (Read (name (s .0) (serial .0)) off n (now (output .entry))) (lent (now (pool .entry)) (now (storage .entry))) ⌝ }
     ensures { λ r. ⌜ Leaves r (stateOf (slip (decode (now (pool .entry))) (s .0))) ⌝ }
@@ -150,7 +149,7 @@ pub fn show(
     n: u32,
     scratch: &mut [u8],
 ) -> Shown
-    requires { ⌜ Opened (now pool) shape × (length (now storage) ≡ storageLength (stockOf shape) (shape .buffers)) ⌝ }
+    requires { ⌜ Opened (now pool) shape × Backs (now storage) shape ⌝ }
     ensures { λ r. ⌜ Seen r (now (pool .entry)) (now (storage .entry)) (name (s .0) (serial .0)) n (now (scratch .entry)) (now (scratch .exit)) ⌝ }
 {
     let entry = chain::enter(pool, shape, s, serial);

@@ -11,9 +11,7 @@ use rest::Tail;
 ghost use mathlib.Core.Path.{_≡_};
 ghost use mathlib.Core.List.{[]};
 ghost use Prim.Native.Nat.{_<_, max};
-ghost use lib.ListN.{length};
 ghost use Rattle.kinds.specs.SlipState.{stateOf};
-ghost use Rattle.rules.specs.Layout.{storageLength};
 ghost use Rattle.rules.specs.Tables.{slip};
 ghost use Rattle.rules.specs.Bytes.{decode};
 ghost use Rattle.rules.specs.Sound.{lent};
@@ -21,7 +19,7 @@ ghost use Rattle.rules.specs.Room.{freeFrom};
 ghost use Rattle.rules.specs.Build.{built, builtLink};
 ghost use Rattle.rules.specs.Rule.{name, noView};
 ghost use Rattle.rules.specs.Step.{Pullup, perform};
-ghost use Rattle.tables.specs.Shape.{Shaped, Becomes, stockOf};
+ghost use Rattle.tables.specs.Shape.{Shaped, Becomes, Backs};
 ghost use Rattle.chain.specs.Opened.{Opened};
 ghost use Rattle.answer.specs.Result.{resultOf, Leaves};
 ghost use Rattle.pullup.specs.Pull.{firstOn, FirstMakable, Pullable, Pulled};
@@ -69,7 +67,7 @@ fn pull(
     beyond: PieceNumber,
     b: BufferNumber,
 )
-    requires { ⌜ Opened (now pool) shape × (length (now storage) ≡ storageLength (stockOf shape) (shape .buffers)) ⌝ }
+    requires { ⌜ Opened (now pool) shape × Backs (now storage) shape ⌝ }
     requires { ⌜ Pullable (decode (now pool)) (s .0) n head at (from .0) (beyond .0) (b .0) ⌝ }
     ensures { λ _. ⌜ Pulled (now (pool .entry)) (now (storage .entry)) shape (s .0) n (now (pool .exit)) (now (storage .exit)) ⌝ }
 {
@@ -88,7 +86,7 @@ pub fn pullup(
     serial: Serial,
     n: u32,
 ) -> Outcome
-    requires { ⌜ Opened (now pool) shape × (length (now storage) ≡ storageLength (stockOf shape) (shape .buffers)) ⌝ }
+    requires { ⌜ Opened (now pool) shape × Backs (now storage) shape ⌝ }
     ensures { λ r. ⌜ resultOf r (now (pool .exit)) (now (storage .exit)) [] noView
         ≡ perform (Pullup (name (s .0) (serial .0)) n) (lent (now (pool .entry)) (now (storage .entry))) ⌝ }
     ensures { λ r. ⌜ Leaves r (stateOf (slip (decode (now (pool .exit))) (s .0))) ⌝ }

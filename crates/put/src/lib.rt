@@ -5,23 +5,21 @@ use kinds::SlipNumber;
 use layout::Shape;
 ghost use mathlib.Core.Path.{_≡_};
 ghost use mathlib.Core.List.{[]};
-ghost use lib.ListN.{length};
 ghost use Rattle.kinds.specs.Serial.{slipIn};
 ghost use Rattle.kinds.specs.SlipState.{stateOf};
 ghost use Rattle.kinds.specs.Outcome.{numberOf};
-ghost use Rattle.rules.specs.Layout.{storageLength};
 ghost use Rattle.rules.specs.Tables.{slip};
 ghost use Rattle.rules.specs.Bytes.{decode};
 ghost use Rattle.rules.specs.Sound.{lent};
 ghost use Rattle.rules.specs.Rule.{noView};
 ghost use Rattle.rules.specs.Step.{Put, perform};
-ghost use Rattle.tables.specs.Shape.{stockOf};
+ghost use Rattle.tables.specs.Shape.{Backs};
 ghost use Rattle.chain.specs.Opened.{Opened};
 ghost use Rattle.answer.specs.Result.{resultOf, Leaves};
 
 // Puts `input` into fresh pieces on fresh buffers, each full but the last, under a new slip: a chain made from bytes.
 pub fn put(pool: &mut [u8], shape: Shape, storage: &mut [u8], input: &[u8]) -> Outcome
-    requires { ⌜ Opened (now pool) shape × (length (now storage) ≡ storageLength (stockOf shape) (shape .buffers)) ⌝ }
+    requires { ⌜ Opened (now pool) shape × Backs (now storage) shape ⌝ }
     ensures { λ r. ⌜ resultOf r (now (pool .exit)) (now (storage .exit)) [] noView
         ≡ perform (Put (now (input .entry))) (lent (now (pool .entry)) (now (storage .entry))) ⌝ }
     ensures { λ r. ⌜ Leaves r (stateOf (slip (decode (now (pool .exit))) (slipIn (numberOf r)))) ⌝ }

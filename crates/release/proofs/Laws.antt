@@ -67,6 +67,11 @@ relinked-cleans : (T : Tables) (st : List ℕ) (l n : ℕ) → relinkedStorage T
 unfolding relinked relinkedStorage releasedStorage
 relinked-cleans T st l n = refl
 
+-- a held link leads nowhere, or to one of the pieces
+pub held-below : {rank : ℕ → ℕ} {fl : List ℕ} (T : Tables) (n : ℕ) → SoundBy rank (n ∷ fl) T → n ≤ pieceTotal T
+held-below T zero S = omega arith
+held-below T (suc d) S = used-in-range T d (held-pos d S)
+
 -- no link can be released whatever else is held
 pub releasable-none : {fl : List ℕ} {T : Tables} → SoundWith fl T → Releasable T 0
 releasable-none {fl} h = record { others = fl; sound = (h .0, reorder (λ d. omega arith) (h .1)) }

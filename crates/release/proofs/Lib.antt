@@ -1,4 +1,3 @@
 -- The laws of release.
 pub mod Laws
 pub mod Behind
-pub mod Under

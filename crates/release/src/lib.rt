@@ -4,20 +4,18 @@ use kinds::SlipNumber;
 use layout::Shape;
 ghost use mathlib.Core.Path.{_≡_};
 ghost use Prim.Native.Nat.{_<_, _≤_, pred};
-ghost use lib.ListN.{length};
-ghost use Rattle.rules.specs.Layout.{storageLength};
 ghost use Rattle.rules.specs.Tables.{piece, setPiece, withNext};
 ghost use Rattle.rules.specs.Bytes.{decode};
 ghost use Rattle.rules.specs.Chain.{stateOf};
 ghost use Rattle.rules.specs.Release.{freed};
-ghost use Rattle.tables.specs.Shape.{Shaped, Becomes, stockOf};
+ghost use Rattle.tables.specs.Shape.{Shaped, Becomes, Backs};
 ghost use Rattle.release.specs.Release.{bare, Held, Releasable, stepped, stepNext, released, turnedTo, relinkedTo};
 ghost use Rattle.release.specs.Release.{steppedStorage, releasedStorage, turnedStorage, relinkedStorage};
 ghost use Rattle.release.specs.Hang.{Hangable, hungTo, hungStorage};
 
 // Frees piece `d`, and cleans its buffer where no other piece lies on it; returns the link behind it: a descriptor freed, and its data with the last.
 fn free_piece(pool: &mut [u8], shape: Shape, storage: &mut [u8], d: PieceNumber) -> u16
-    requires { ⌜ Shaped (now pool) shape × Held (decode (now pool)) (d .0) × (length (now storage) ≡ storageLength (stockOf shape) (shape .buffers)) ⌝ }
+    requires { ⌜ Shaped (now pool) shape × Held (decode (now pool)) (d .0) × Backs (now storage) shape ⌝ }
     ensures { λ r. ⌜ Becomes (now (pool .entry)) (now (pool .exit)) shape (λ T. freed (bare T) (d .0) .tables)
         × (now (storage .exit) ≡ freed (stateOf (decode (now (pool .entry))) (now (storage .entry))) (d .0) .storage)
         × (r ≡ piece (decode (now (pool .entry))) (d .0) .next) ⌝ }
@@ -36,7 +34,7 @@ fn free_piece(pool: &mut [u8], shape: Shape, storage: &mut [u8], d: PieceNumber)
 
 // Gives up one reference to piece `d` and returns the link to give up next, 0 none: a count lowered, or a descriptor freed.
 pub fn give_up(pool: &mut [u8], shape: Shape, storage: &mut [u8], d: PieceNumber) -> u16
-    requires { ⌜ Shaped (now pool) shape × Held (decode (now pool)) (d .0) × (length (now storage) ≡ storageLength (stockOf shape) (shape .buffers)) ⌝ }
+    requires { ⌜ Shaped (now pool) shape × Held (decode (now pool)) (d .0) × Backs (now storage) shape ⌝ }
     ensures { λ r. ⌜ Becomes (now (pool .entry)) (now (pool .exit)) shape (λ T. stepped T (d .0))
         × (now (storage .exit) ≡ steppedStorage (decode (now (pool .entry))) (now (storage .entry)) (d .0))
         × (r ≡ stepNext (decode (now (pool .entry))) (d .0)) ⌝ }
@@ -51,7 +49,7 @@ pub fn give_up(pool: &mut [u8], shape: Shape, storage: &mut [u8], d: PieceNumber
 
 // Releases a reference to `link`, 0 none and 1 + d piece d: bf_afree, as a loop over single steps.
 pub fn release(pool: &mut [u8], shape: Shape, storage: &mut [u8], link: u16)
-    requires { ⌜ Shaped (now pool) shape × Releasable (decode (now pool)) link × (length (now storage) ≡ storageLength (stockOf shape) (shape .buffers)) ⌝ }
+    requires { ⌜ Shaped (now pool) shape × Releasable (decode (now pool)) link × Backs (now storage) shape ⌝ }
     ensures { λ _. ⌜ Becomes (now (pool .entry)) (now (pool .exit)) shape (λ T. released T link)
         × (now (storage .exit) ≡ releasedStorage (decode (now (pool .entry))) (now (storage .entry)) link) ⌝ }
 {
@@ -64,7 +62,7 @@ pub fn release(pool: &mut [u8], shape: Shape, storage: &mut [u8], link: u16)
 // Slip `s` takes the entry `v`, and the link that it held is released: a handle turned to another chain.
 pub fn turn(pool: &mut [u8], shape: Shape, storage: &mut [u8], s: SlipNumber, v: u16)
     requires { ⌜ Shaped (now pool) shape × (s .0 < shape .slips) × Releasable (decode (now pool)) (pred v)
-        × (length (now storage) ≡ storageLength (stockOf shape) (shape .buffers)) ⌝ }
+        × Backs (now storage) shape ⌝ }
     ensures { λ _. ⌜ Becomes (now (pool .entry)) (now (pool .exit)) shape (λ T. turnedTo T (s .0) v)
         × (now (storage .exit) ≡ turnedStorage (decode (now (pool .entry))) (now (storage .entry)) (s .0) v) ⌝ }
 {
@@ -80,7 +78,7 @@ pub fn turn(pool: &mut [u8], shape: Shape, storage: &mut [u8], s: SlipNumber, v:
 pub fn relink(pool: &mut [u8], shape: Shape, storage: &mut [u8], l: PieceNumber, n: u16)
     requires { ⌜ Shaped (now pool) shape × (l .0 < shape .pieces)
         × Releasable (setPiece (decode (now pool)) (l .0) (withNext (piece (decode (now pool)) (l .0)) n)) (piece (decode (now pool)) (l .0) .next)
-        × (length (now storage) ≡ storageLength (stockOf shape) (shape .buffers)) ⌝ }
+        × Backs (now storage) shape ⌝ }
     ensures { λ _. ⌜ Becomes (now (pool .entry)) (now (pool .exit)) shape (λ T. relinkedTo T (l .0) n)
         × (now (storage .exit) ≡ relinkedStorage (decode (now (pool .entry))) (now (storage .entry)) (l .0) n) ⌝ }
 {
@@ -93,7 +91,7 @@ pub fn relink(pool: &mut [u8], shape: Shape, storage: &mut [u8], l: PieceNumber,
 // and what stood there is released: a tail put behind a run of own pieces.
 pub fn hang(pool: &mut [u8], shape: Shape, storage: &mut [u8], s: SlipNumber, last: u16, n: u16)
     requires { ⌜ Shaped (now pool) shape × (s .0 < shape .slips) × (last ≤ shape .pieces) × (n < 65535) × Hangable (decode (now pool)) last n
-        × (length (now storage) ≡ storageLength (stockOf shape) (shape .buffers)) ⌝ }
+        × Backs (now storage) shape ⌝ }
     ensures { λ _. ⌜ Becomes (now (pool .entry)) (now (pool .exit)) shape (λ T. hungTo T (s .0) last n)
         × (now (storage .exit) ≡ hungStorage (decode (now (pool .entry))) (now (storage .entry)) (s .0) last n) ⌝ }
 {

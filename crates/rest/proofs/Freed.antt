@@ -23,8 +23,7 @@ use Rattle.tables.proofs.Laws.{onward}
 use Rattle.room.proofs.Free.{places-under}
 use Rattle.build.proofs.Laws.{buffer-most}
 use Rattle.release.specs.Release.{bare, turnedTo, turnedStorage}
-use Rattle.release.proofs.Laws.{turned-tables}
-use Rattle.release.proofs.Under.{held-below}
+use Rattle.release.proofs.Laws.{turned-tables, held-below}
 
 -- the tables of the plan in which slip s is emptied and its old chain released
 abbrev pub emptiedTo : Plan → ℕ → Tables

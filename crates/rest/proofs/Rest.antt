@@ -28,7 +28,7 @@ use Rattle.tables.proofs.Laws.{total-pieces, onward}
 use Rattle.chain.proofs.Links.{link-leads}
 use Rattle.room.specs.Free.{firstFrom}
 use Rattle.release.specs.Release.{Releasable}
-use Rattle.release.proofs.Under.{held-below}
+use Rattle.release.proofs.Laws.{held-below}
 use Rattle.build.proofs.Line.{First, freeFrom, from-first}
 use Rattle.rest.specs.declared.Tail.{Tail}
 use Rattle.rest.specs.Rest.{restFrom, newOf, copyOf, Stays}

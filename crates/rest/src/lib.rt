@@ -7,7 +7,6 @@ ghost use mathlib.Core.Path.{_≡_};
 ghost use Prim.Native.Nat.{_-_, _≤_, _<_};
 ghost use lib.ListN.{length};
 ghost use Rattle.rules.specs.Basics.{Is};
-ghost use Rattle.rules.specs.Layout.{storageLength};
 ghost use Rattle.rules.specs.Tables.{Tables, piece, holding};
 ghost use Rattle.rules.specs.Bytes.{decode};
 ghost use Rattle.rules.specs.Chain.{stretch};
@@ -16,7 +15,7 @@ ghost use Rattle.rules.specs.Room.{freeFrom};
 ghost use Rattle.rules.specs.Release.{shared};
 ghost use Rattle.rules.specs.Build.{taken, fresh, built, builtLink};
 ghost use Rattle.rules.specs.Drop.{shorter};
-ghost use Rattle.tables.specs.Shape.{Shaped, Becomes, stockOf};
+ghost use Rattle.tables.specs.Shape.{Shaped, Becomes, Backs};
 ghost use Rattle.chain.specs.Opened.{Opened};
 ghost use Rattle.build.specs.Share.{Sharable};
 ghost use Rattle.build.specs.Clone.{Copyable};
@@ -135,7 +134,7 @@ pub fn move_to(
 )
     requires { ⌜ Opened (now pool) shape × Is (linkOk (decode (now pool)) link) × (s .0 < shape .slips) ⌝ }
     requires { ⌜ ((link ≡ 0 → ⊥) → into < piece (decode (now pool)) (link - 1) .len)
-        × (length (now storage) ≡ storageLength (stockOf shape) (shape .buffers)) ⌝ }
+        × Backs (now storage) shape ⌝ }
     ensures { λ _. ⌜ Becomes (now (pool .entry)) (now (pool .exit)) shape
         (λ T. turnedTo (restFrom T own link into .base) (s .0) (holding (restFrom T own link into .tail)))
         × (now (storage .exit) ≡ turnedStorage (restFrom (decode (now (pool .entry))) own link into .base) (now (storage .entry)) (s .0)
@@ -158,7 +157,7 @@ pub fn give_back(
 ) -> Tail
     requires { ⌜ Opened (now pool) shape × Is (linkOk (decode (now pool)) link) × (s .0 < shape .slips) ⌝ }
     requires { ⌜ ((link ≡ 0 → ⊥) → into < piece (decode (now pool)) (link - 1) .len)
-        × (length (now storage) ≡ storageLength (stockOf shape) (shape .buffers)) ⌝ }
+        × Backs (now storage) shape ⌝ }
     ensures { λ r. ⌜ Becomes (now (pool .entry)) (now (pool .exit)) shape (λ T. turnedTo (restFrom T own link into .base) (s .0) (holding 0))
         × Stays r (restFrom (decode (now (pool .entry))) own link into) ⌝ }
     ensures { λ r. ⌜ now (storage .exit)

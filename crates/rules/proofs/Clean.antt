@@ -21,7 +21,7 @@ use Rattle.rules.specs.Room.{isUnheld}
 use Rattle.rules.specs.Rule.{Name}
 use Rattle.rules.specs.Step.{Operation, Audit, Append, Call, Open, Do, rule, Result, step, stateIn, leftBy, next, afterCalls}
 use Rattle.rules.specs.Recount.{holders}
-use Rattle.rules.specs.Lists.{Unopened}
+use Rattle.rules.specs.Lists.{NoOpen, Unopened}
 use Rattle.rules.specs.Clean.{Unused, LeavesOthers, CleansBack, CleanAt, StaysClean}
 use Rattle.rules.proofs.Logic.{if-either, is-dec, same-test, eq→eqb}
 use Rattle.rules.proofs.Audit.{getD-same, sound-now, sound-by-length}
@@ -129,7 +129,7 @@ append-cleans-none x y m =
 
 -- ---- lists of calls
 
-clean-next : (b : ℕ) (c : Call) (m : Lent) → ((B P S : ℕ) → c ≡ Open B P S → step c m .code ≢ 0) → CleanAt b m → CleanAt b (next c m)
+clean-next : (b : ℕ) (c : Call) (m : Lent) → NoOpen c m → CleanAt b m → CleanAt b (next c m)
 clean-next b (Open B P S) m n h = subst (CleanAt b) (sym (next-refused (Open B P S) m (n B P S refl))) h
 clean-next b (Do o) m n h =
     elim (ℕ-discrete (step (Do o) m .code) 0) [
@@ -154,7 +154,7 @@ total-stays : (cs : List Call) (m : Lent) → Unopened cs m → bufferTotal (dec
 total-stays [] m n = refl
 total-stays (c ∷ cs) m n = total-stays cs (next c m) (n .1) ∙ one c (n .0)
   where
-    one : (c : Call) → ((B P S : ℕ) → c ≡ Open B P S → step c m .code ≢ 0) → bufferTotal (decode (next c m .pool)) ≡ bufferTotal (decode (m .pool))
+    one : (c : Call) → NoOpen c m → bufferTotal (decode (next c m .pool)) ≡ bufferTotal (decode (m .pool))
     one (Open B P S) k = ap (λ (x : Lent). bufferTotal (decode (x .pool))) (next-refused (Open B P S) m (k B P S refl))
     one (Do o) k =
         elim (ℕ-discrete (step (Do o) m .code) 0) [
@@ -201,7 +201,7 @@ module _ (c : Call) (m : Lent) (b i : ℕ) (l : b < bufferTotal (decode (m .pool
       sym (byte-at Z (next c m .storage) b i u) ∙ ap (λ (q : List ℕ). getD q i 0) (others-keep c m b l h) ∙ byte-at Z (m .storage) b i u
 
   -- the last piece on it goes
-  pub byte-cleaned : ((B P S : ℕ) → c ≡ Open B P S → step c m .code ≢ 0) → holders (decode (m .pool)) b ≢ 0 → holders (decode (next c m .pool)) b ≡ 0
+  pub byte-cleaned : NoOpen c m → holders (decode (m .pool)) b ≢ 0 → holders (decode (next c m .pool)) b ≡ 0
       → getD (next c m .storage) (512 * b + i) 0 ≡ 0
   byte-cleaned n h z = zero-at (decode (m .pool) .stock) (next c m .storage) b i u (back-cleaned c m n b l h z)
 

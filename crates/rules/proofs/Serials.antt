@@ -22,7 +22,7 @@ use Rattle.rules.specs.Step.{Call, Open, Do, meaning, rule, step, stateI
 use Rattle.rules.specs.After.{at, changed, readsAfter, vacantAfter, vacates, serialAfter}
 use Rattle.rules.specs.Takes.{tookSlips}
 use Rattle.rules.specs.Causes.{Missing}
-use Rattle.rules.specs.Lists.{Unopened}
+use Rattle.rules.specs.Lists.{NoOpen, Unopened}
 use Rattle.rules.specs.Serials.{NamedBy, Reopens, GivesUp, EndsName, Refuses, NewName, firstBytes, isName, makes, madeBy, Good, Accepts, Lives, AnswersOther, Differs, Promised, SerialsOk}
 use Rattle.rules.proofs.Logic.{if-T, if-F, if-either, if-both, and-intro, and-0, not-zero, eq→eqb, is-dec}
 use Rattle.rules.proofs.Moves.{in-range}
@@ -380,9 +380,9 @@ serials-ok (Do o ∷ cs) m = (promised o cs m, serials-ok cs (next (Do o) m))
 -- no call of the list is a done open, nor a done call that gives x up
 abbrev pub Holding : Name → List Call → Lent → Type 0
 Holding x [] m = Unit {0}
-Holding x (c ∷ cs) m = ((B P S : ℕ) → c ≡ Open B P S → step c m .code ≢ 0) × ((o : Operation) → c ≡ Do o → step c m .code ≡ 0 → GivesUp o x → ⊥) × Holding x cs (next c m)
+Holding x (c ∷ cs) m = NoOpen c m × ((o : Operation) → c ≡ Do o → step c m .code ≡ 0 → GivesUp o x → ⊥) × Holding x cs (next c m)
 
-not-reopened : (c : Call) (m : Lent) → ((B P S : ℕ) → c ≡ Open B P S → step c m .code ≢ 0) → Reopens c m → ⊥
+not-reopened : (c : Call) (m : Lent) → NoOpen c m → Reopens c m → ⊥
 not-reopened (Open B P S) m u e = u B P S refl e
 not-reopened (Do o) m u e = e
 

@@ -11,7 +11,7 @@ use Rattle.rules.specs.Storage.{wholeOf, Zeroed}
 use Rattle.rules.specs.Sound.{Lent}
 use Rattle.rules.specs.Step.{Call, Open, step, next, afterCalls}
 use Rattle.rules.specs.Recount.{holders}
-use Rattle.rules.specs.Lists.{Unopened}
+use Rattle.rules.specs.Lists.{NoOpen, Unopened}
 
 -- ---- one call
 
@@ -26,7 +26,7 @@ LeavesOthers c m = (b : ℕ) → b < bufferTotal (decode (m .pool)) → (Unused 
 
 -- A buffer that it gives back is zero; a done open, which touches no storage, is not asked.
 abbrev pub CleansBack : Call → Lent → Type 0
-CleansBack c m = ((B P S : ℕ) → c ≡ Open B P S → step c m .code ≢ 0) → (b : ℕ) → b < bufferTotal (decode (m .pool)) → (Unused b m → ⊥) → Unused b (next c m)
+CleansBack c m = NoOpen c m → (b : ℕ) → b < bufferTotal (decode (m .pool)) → (Unused b m → ⊥) → Unused b (next c m)
     → Zeroed (decode (m .pool) .stock) (next c m .storage) b
 
 -- ---- lists of calls

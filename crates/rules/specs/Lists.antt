@@ -7,10 +7,13 @@ use Rattle.rules.specs.Sound.{Lent}
 use Rattle.rules.specs.Step.{Call, Open, Do, step, next}
 use Rattle.rules.specs.After.{Names}
 
--- no call of the list is a done open
+-- the call is no done open, and no call of a list is
+abbrev pub NoOpen : Call → Lent → Type 0
+NoOpen c m = (B P S : ℕ) → c ≡ Open B P S → step c m .code ≢ 0
+
 abbrev pub Unopened : List Call → Lent → Type 0
 Unopened [] m = Unit {0}
-Unopened (c ∷ cs) m = ((B P S : ℕ) → c ≡ Open B P S → step c m .code ≢ 0) × Unopened cs (next c m)
+Unopened (c ∷ cs) m = NoOpen c m × Unopened cs (next c m)
 
 -- the call does not name slip t, and is no open that is done
 abbrev pub Spared : ℕ → Call → Lent → Type 0

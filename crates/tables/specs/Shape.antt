@@ -4,7 +4,7 @@ use mathlib.Core.List.{List, [], _∷_}
 use Prim.Native.Nat.{ℕ}
 use lib.ListN.{length}
 use Rattle.rules.specs.Basics.{Is}
-use Rattle.rules.specs.Layout.{poolLength}
+use Rattle.rules.specs.Layout.{poolLength, storageLength}
 use Rattle.rules.specs.Tables.{Piece, Tables}
 use Rattle.rules.specs.Bytes.{buffersIn, piecesIn, slipsIn, decode}
 use Rattle.rules.specs.Sound.{marked}
@@ -18,6 +18,10 @@ pub record Fits (p : List ℕ) : Type 0 where
 -- the stock of a pool of the shape h: all its buffers have the one size
 abbrev pub stockOf : Shape → List ℕ
 stockOf h = h .buffers ∷ []
+
+-- the storage st has the bytes of the buffers of a pool of the shape h
+abbrev pub Backs : List ℕ → Shape → Type 0
+Backs st h = length st ≡ storageLength (stockOf h) (h .buffers)
 
 -- the pool p has the shape h
 pub record Shaped (p : List ℕ) (h : Shape) : Type 0 where

@@ -7,7 +7,6 @@ ghost use Prim.Native.Nat.{_+_, _-_, _<_, _≤_, min};
 ghost use lib.ListN.{length, take, drop};
 ghost use Rattle.kinds.specs.Limits.{bufferSize};
 ghost use Rattle.rules.specs.Basics.{Is};
-ghost use Rattle.rules.specs.Layout.{storageLength};
 ghost use Rattle.rules.specs.Tables.{piece, bufferTotal};
 ghost use Rattle.rules.specs.Bytes.{decode};
 ghost use Rattle.rules.specs.Chain.{stretch, total, positionOf, contents};
@@ -16,7 +15,7 @@ ghost use Rattle.rules.specs.Room.{isUnheld, freeBuffers, newBuffers};
 ghost use Rattle.rules.specs.Storage.{filled};
 ghost use Rattle.rules.specs.Build.{buffersFor, stored};
 ghost use Rattle.rules.specs.Read.{copied};
-ghost use Rattle.tables.specs.Shape.{Shaped, stockOf};
+ghost use Rattle.tables.specs.Shape.{Shaped, Backs};
 ghost use Rattle.chain.specs.Opened.{Opened};
 ghost use Rattle.chain.specs.Length.{stretchesFrom};
 ghost use Rattle.room.specs.Free.{lowestFor};
@@ -92,7 +91,7 @@ pub fn copy_out(
     output: &mut [u8],
 ) -> Cursor
     requires { ⌜ Opened (now pool) shape × Is (linkOk (decode (now pool)) (c .link)) × InPiece (decode (now pool)) c ⌝ }
-    requires { ⌜ length (now storage) ≡ storageLength (stockOf shape) (shape .buffers) ⌝ }
+    requires { ⌜ Backs (now storage) shape ⌝ }
     requires { ⌜ (c .into + n ≤ total (stretchesFrom (decode (now pool)) (c .link))) × (n ≤ length (now output)) ⌝ }
     ensures { λ _. ⌜ now (output .exit)
         ≡ copied (take n (drop (c .into)
@@ -125,7 +124,7 @@ fn part_end(at: usize, length: usize) -> usize
 
 // Fills the lowest free buffers, from `buffer` on, with `input`, in order, and the rest of the last with zeros: a scatter to fresh clusters.
 pub fn fill_free(pool: &[u8], shape: Shape, storage: &mut [u8], input: &[u8], buffer: BufferNumber)
-    requires { ⌜ Shaped (now pool) shape × (length (now storage) ≡ storageLength (stockOf shape) (shape .buffers)) ⌝ }
+    requires { ⌜ Shaped (now pool) shape × Backs (now storage) shape ⌝ }
     requires { ⌜ buffersFor (length (now input)) ≤ length (freeBuffers (decode (now pool))) ⌝ }
     requires { ⌜ buffer .0 ≡ lowestFor (isUnheld (decode (now pool))) (buffersFor (length (now input))) (bufferTotal (decode (now pool))) ⌝ }
     ensures { λ _. ⌜ now (storage .exit)
@@ -154,7 +153,7 @@ fn refill_buffer(
     b: BufferNumber,
 ) -> Cursor
     requires { ⌜ Opened (now pool) shape × Is (linkOk (decode (now pool)) (c .link)) × InPiece (decode (now pool)) c ⌝ }
-    requires { ⌜ (length (now storage) ≡ storageLength (stockOf shape) (shape .buffers)) × (b .0 < shape .buffers)
+    requires { ⌜ Backs (now storage) shape × (b .0 < shape .buffers)
         × Is (isUnheld (decode (now pool)) (b .0)) ⌝ }
     requires { ⌜ (c .into + n ≤ total (stretchesFrom (decode (now pool)) (c .link))) × (n ≤ bufferSize) ⌝ }
     ensures { λ _. ⌜ now (storage .exit)
@@ -188,7 +187,7 @@ pub fn refill(
     buffer: BufferNumber,
 )
     requires { ⌜ Opened (now pool) shape × Is (linkOk (decode (now pool)) link) ⌝ }
-    requires { ⌜ (length (now storage) ≡ storageLength (stockOf shape) (shape .buffers)) × (n ≤ total (stretchesFrom (decode (now pool)) link)) ⌝ }
+    requires { ⌜ Backs (now storage) shape × (n ≤ total (stretchesFrom (decode (now pool)) link)) ⌝ }
     requires { ⌜ buffersFor n ≤ length (freeBuffers (decode (now pool))) ⌝ }
     requires { ⌜ buffer .0 ≡ lowestFor (isUnheld (decode (now pool))) (buffersFor n) (bufferTotal (decode (now pool))) ⌝ }
     ensures { λ _. ⌜ now (storage .exit)
