@@ -1,6 +1,6 @@
 # make test: the gate, as .ci/run. make prove: every crate, with what is unchanged taken as proved.
 # make demo: the walk-through, proved and run: document 01's morning, with the tables after each call.
-# make lib: the archive target/staticlib/libslp.a. make bench: the cost of the audit and of the operations beside the same by hand, as ratios.
+# make lib: the archive target/staticlib/libslp.a, of the crate slp_c. make bench: the cost of the audit and of the operations beside the same by hand, as ratios.
 # make follows: how often an audit follows next on worst-case pools, beside the bound, by the test entry target/staticlib/libfollows.a.
 # make stack: how much stack each call takes at the largest pool, by tests/c/stack.c.
 # make soak: CALLS random calls of the library beside the model, compared after each; SEED starts another run.
@@ -20,19 +20,19 @@ test:
 	.ci/run
 
 prove:
-	rt check
+	rt all check
 
 demo:
 	@tools/demo
 
 lib:
-	rt staticlib slp
+	tools/archives slp
 
 bench:
 	tools/bench
 
 follows: lib
-	rt staticlib follows
+	tools/archives follows
 	cd rust && cargo test --offline --test follows worst_cases -- --nocapture
 
 stack: lib
@@ -42,13 +42,13 @@ soak: lib
 	cd rust && FULCRUMNEST_CALLS=$(CALLS) FULCRUMNEST_SEED=$(SEED) cargo test --offline --test changing random_lists -- --nocapture
 
 fmt:
-	rt fmt
+	for crate in crates/*/src; do (cd "$${crate%src}" && rt fmt) || exit 1; done
 
 clean:
-	rm -rf target rust/target
+	rm -rf target rust/target crates/*/out
 
 $(ARCHIVE):
-	rt staticlib slp
+	tools/archives slp
 
 install: $(ARCHIVE)
 	install -d "$(to)/lib/pkgconfig" "$(to)/include"

@@ -135,7 +135,7 @@ fn kinds() {
 
     let specs = include_str!("../../crates/kinds/specs/Refusal.antt");
     let rows = specs.lines().filter(|line| line.contains(" = "));
-    let rows = rows.map(|line| line.strip_prefix("refusalCode ").expect(line));
+    let rows = rows.map(|line| line.strip_prefix("refusal_code ").expect(line));
     let said: Codes = rows.map(|row| capitals(pair(row, " = "))).collect();
     assert_eq!(said, table());
 }

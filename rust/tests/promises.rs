@@ -44,7 +44,7 @@ fn declares(line: &str, name: &str) -> bool {
             (None, None) => break,
         }
     }
-    let inside = |c: char| c.is_alphanumeric() || c == '-' || c == '_' || c == '\u{2032}';
+    let inside = |c: char| c.is_alphanumeric() || c == '-' || c == '_' || c == '\'';
     rest.strip_prefix(name).is_some_and(|after| {
         !after.starts_with(inside) && (told || after.trim_start().starts_with(": "))
     })
@@ -119,7 +119,7 @@ fn a_mention_is_no_declaration() {
     }
     for line in [
         "-- step : what a call does",
-        "use Rattle·rules·specs.specs.Step.{step}",
+        "use Rattle.rules.specs.Step.{step}",
         "step (Do o) m = if sound m then perform o m else refused",
         "    step(pool, shape);",
         "pub steps : List Call → Lent",
@@ -155,7 +155,8 @@ fn ideas_stand_in_the_edits_of_their_crates() {
     let crates = read("crates.txt");
     let of_crate = |cited: &&str| {
         let owner = cited.split_once('/').map(|(owner, _)| owner);
-        owner.is_some_and(|owner| crates.contains(&format!("\n{owner}:")))
+        let named = |line: &str| line.split([' ', ':']).next() == owner;
+        owner.is_some() && crates.lines().any(named)
     };
     let in_tables = quoted(&promises).filter(of_crate).map(str::to_string);
     let by_call = rows_by_call(&promises).flat_map(cited_by_call);

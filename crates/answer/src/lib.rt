@@ -1,4 +1,6 @@
 // What an operation answers once it is done.
+#![tactic(auto)]
+
 ghost use Rattle.std.specs.Prelude.{◌≡◌, ◌<◌};
 ghost use Rattle.kinds.specs.SlipState.{state_of};
 ghost use Rattle.rules.specs.Tables.{slip};

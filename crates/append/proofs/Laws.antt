@@ -11,7 +11,7 @@ use Rattle.kinds.specs.declared.SlipState.{SlipState}
 use Rattle.kinds.specs.declared.Refusal.TheVariants.{Slip, Same, Pieces}
 use Rattle.kinds.specs.declared.Outcome.{Outcome}
 use Rattle.kinds.specs.declared.Outcome.TheVariants.{Done, Refused}
-use Rattle.rules.specs.Basics.{Is, if◌then◌else◌}
+use Rattle.rules.specs.Basics.{Is, whether◌then◌else◌}
 use Rattle.rules.specs.Tables.{Tables, slip, head_of, vacant, set_slip, aged}
 use Rattle.rules.specs.Bytes.{decode}
 use Rattle.rules.specs.Chain.{State, with_tables}
@@ -108,17 +108,17 @@ module _ (p st : List ℕ) (x y : Name) where
           ∙ first_no (Same ⇐ eqb a b) [] (λ t. apart (eqb→eq a b t)) ∙ first_none
 
       -- the state that the rule leaves
-      left : {o : Outcome} {z : SlipState} {q : List ℕ} {g : Shape} → (if one_empty (decode p) a b then 0 else length (not_own (decode p) a)) ≤ length (free_pieces (decode p))
+      left : {o : Outcome} {z : SlipState} {q : List ℕ} {g : Shape} → (whether one_empty (decode p) a b then 0 else length (not_own (decode p) a)) ≤ length (free_pieces (decode p))
           → o ≡ Done (record { state = z; number = 0 }) → AllBytes q → (X : State) → X ≡ appended a b (state_in (lent p st)) → X.storage ≡ st → Holds q g (aged X.tables b)
           → result_of o q st [] no_view ≡ perform (Append x y) (lent p st)
       unfolding rule
       left l d c X e s is =
-          changed _ (want 0 (if one_empty (decode p) a b then 0 else length (not_own (decode p) a)) 0) 0 (append_after a b (state_in (lent p st))) d refl c
+          changed _ (want 0 (whether one_empty (decode p) a b then 0 else length (not_own (decode p) a)) 0) 0 (append_after a b (state_in (lent p st))) d refl c
           (record { shaped = is.shaped; is = is.is ∙ ap (λ (Y : State). aged Y.tables b) e }) (sym s ∙ ap (λ (Y : State). Y.storage) e)
           ∙ perform_all (Append x y) (lent p st) early (omega arith) (omega (arith, l)) (omega arith)
 
       -- where either chain is empty no piece is wanted
-      none_wanted : Is (one_empty (decode p) a b) → (if one_empty (decode p) a b then 0 else length (not_own (decode p) a)) ≤ length (free_pieces (decode p))
+      none_wanted : Is (one_empty (decode p) a b) → (whether one_empty (decode p) a b then 0 else length (not_own (decode p) a)) ≤ length (free_pieces (decode p))
       none_wanted t = omega (arith, if_T (one_empty (decode p) a b) 0 (length (not_own (decode p) a)) t)
 
       -- a is empty, and takes the chain of b
@@ -138,7 +138,7 @@ module _ (p st : List ℕ) (x y : Name) where
 
         module _ (more : head_of (decode p) b ≡ 0 → ⊥) where
           -- where neither is empty, a piece for each that is not own
-          others_wanted : (if one_empty (decode p) a b then 0 else length (not_own (decode p) a)) ≡ length (not_own (decode p) a)
+          others_wanted : (whether one_empty (decode p) a b then 0 else length (not_own (decode p) a)) ≡ length (not_own (decode p) a)
           others_wanted =
               if_F (one_empty (decode p) a b) _ _
               (λ t. ⊎_elim (λ z. some (eqb→eq _ 0 z)) (λ z. more (eqb→eq _ 0 z)) (or_cases (eqb (head_of (decode p) a) 0) (eqb (head_of (decode p) b) 0) t))

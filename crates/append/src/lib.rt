@@ -1,4 +1,6 @@
 // append: one chain behind another, over a's own pieces and new ones for those that others hold.
+#![tactic(auto)]
+
 ghost use Rattle.std.specs.Prelude.{◌≡◌, List, [], ℕ, ◌≤◌, ◌<◌};
 ghost use Rattle.kinds.specs.SlipState.{state_of};
 ghost use Rattle.rules.specs.Tables.{slip, piece, aged};

@@ -1,6 +1,6 @@
 -- How often the audit follows next: once for each piece that its walks meet, so at most P times.
 use Rattle.std.specs.Prelude.{◌≡◌, Bool, ◌&&◌, ℕ, suc, ◌≤◌, eqb}
-use Rattle.rules.specs.Basics.{if◌then◌else◌, bit, sum_to, all_to, any_to}
+use Rattle.rules.specs.Basics.{whether◌then◌else◌, bit, sum_to, all_to, any_to}
 use Rattle.rules.specs.Tables.{Tables, piece_total}
 use Rattle.rules.specs.Bytes.{decode}
 use Rattle.rules.specs.Chain.{follow}
@@ -29,7 +29,7 @@ follows_of T = sum_to (piece_total T) (λ e. bit (is_met T e))
 
 -- the follows of the test of the tables: none where an entry or a count is wrong, since there nothing is walked
 unfoldable pub tables_follows : Tables → ℕ
-tables_follows T = if references_ok T then follows_of T else 0
+tables_follows T = whether references_ok T then follows_of T else 0
 
 -- what the test of the tables answers: whether they are sound, and n follows, at most P
 pub record Tested (T : Tables) (r : Bool) (n : ℕ) : Type 0 where
@@ -39,4 +39,4 @@ pub record Tested (T : Tables) (r : Bool) (n : ℕ) : Type 0 where
 
 -- the follows of the audit: none where the header does not fit
 unfoldable pub audit_follows : Lent → ℕ
-audit_follows m = if is_header_ok m then tables_follows (decode m.pool) else 0
+audit_follows m = whether is_header_ok m then tables_follows (decode m.pool) else 0

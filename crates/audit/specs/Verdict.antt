@@ -12,7 +12,7 @@ abbrev pub torn_answer : Shape → Audited
 torn_answer h = record { sound = false; follows = 0; shape = h }
 
 -- r is the audit of the pool p beside storage of n bytes: sound exactly by the rules' test, and next followed exactly as often as
--- `auditFollows` says, at most P times.
+-- `audit_follows` says, at most P times.
 pub record Verdict (p : List ℕ) (n : ℕ) (r : Audited) : Type 0 where
   pub exact : (st : List ℕ) → length st ≡ n → r.sound ≡ sound (lent p st)
   pub counted : (st : List ℕ) → length st ≡ n → r.follows ≡ audit_follows (lent p st)

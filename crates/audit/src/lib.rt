@@ -1,4 +1,6 @@
 // Whether a lent pool is sound: an integrity check of its tables, linear in their size.
+#![tactic(auto)]
+
 ghost use Rattle.std.specs.Prelude.{◌≡◌, true, ◌<◌, ◌≤◌, length};
 ghost use Rattle.rules.specs.Layout.{header_length};
 ghost use Rattle.rules.specs.Tables.{piece_total};
@@ -26,14 +28,14 @@ const FEW_PIECES: usize = PIECES / 8;
 const FEW_BUFFERS: usize = BUFFERS / 8;
 
 // What following next comes to: whether it ends, and how often it was followed.
-#[derive(Drop)]
+#[derive(Clone, Copy)]
 struct Followed {
     ends: bool,
     follows: u16,
 }
 
 // What the audit answers: whether the pool is sound, how often next was followed, and the pool's counts.
-#[derive(Drop)]
+#[derive(Clone, Copy)]
 pub struct Audited {
     pub sound: bool,
     pub follows: u16,

@@ -9,7 +9,7 @@ use native.Mathlib.Omega.{arith}
 use lib.ListN.{get_or, set}
 use lib.Seq.{set_comm, get_or-set_other}
 use lib.Dec.{eqb}
-use Rattle.rules.specs.Basics.{if◌then◌else◌, places}
+use Rattle.rules.specs.Basics.{whether◌then◌else◌, places}
 use Rattle.rules.specs.Tables.{Piece, Tables, blank, piece, set_slip, with_both}
 use Rattle.rules.specs.Chain.{Stretch}
 use Rattle.rules.specs.Room.{is_free, is_unheld}
@@ -60,7 +60,7 @@ pub places_same : (f g : ℕ → Bool) (i k : ℕ) → ((j : ℕ) → i ≤ j �
 unfolding places
 places_same f g i zero h = refl
 places_same f g i (suc k) h =
-    ap₂ (λ (b : Bool) (l : List ℕ). if b then i ∷ l else l) (h i (omega arith)) (places_same f g (suc i) k (λ j l. h j (omega arith)))
+    ap₂ (λ (b : Bool) (l : List ℕ). whether b then i ∷ l else l) (h i (omega arith)) (places_same f g (suc i) k (λ j l. h j (omega arith)))
 
 module _ (T : Tables) (f : ℕ) (p : Piece) where
   -- no other piece changes

@@ -1,4 +1,6 @@
 // The making of chains: a new piece, one reference more, new pieces for a range or on free buffers.
+#![tactic(auto)]
+
 ghost use Rattle.std.specs.Prelude.{◌≡◌, ◌-◌, ◌≤◌, ◌<◌, length};
 ghost use Rattle.kinds.specs.SlipState.{state_of};
 ghost use Rattle.rules.specs.Basics.{Is};
@@ -22,7 +24,7 @@ use kinds::{BufferNumber, Outcome, PieceNumber, SlipNumber};
 use layout::Shape;
 
 // How far copying is: the free piece to take, the link to the piece to copy, the bytes of it to skip, and the bytes still to come (a cursor).
-#[derive(Drop)]
+#[derive(Clone, Copy)]
 struct Cloning {
     free: PieceNumber,
     at: u16,
@@ -31,7 +33,7 @@ struct Cloning {
 }
 
 // How far laying is: the free piece to take, the number from which the next free buffer is looked for, and the bytes still to come (a cursor).
-#[derive(Drop)]
+#[derive(Clone, Copy)]
 struct Laying {
     free: PieceNumber,
     from: BufferNumber,
@@ -39,7 +41,7 @@ struct Laying {
 }
 
 // What comes after a new piece in line: the next piece to take, and the link to it (a look-ahead).
-#[derive(Drop)]
+#[derive(Clone, Copy)]
 struct InLine {
     free: PieceNumber,
     link: u16,

@@ -1,4 +1,6 @@
 // What the bodies of the calls share: the answer of a call that is refused.
+#![tactic(auto)]
+
 ghost use Rattle.std.specs.Prelude.{◌≡◌};
 ghost use Rattle.kinds.specs.Refusal.{refusal_code};
 

@@ -1,4 +1,6 @@
 // The bodies of free, append, drop and keep, which change chains: each audits and then does its operation. append gives no buffer back and writes no storage.
+#![tactic(auto)]
+
 ghost use Rattle.std.specs.Prelude.{◌≡◌, []};
 ghost use Rattle.rules.specs.Sound.{lent};
 ghost use Rattle.rules.specs.Rule.{name, no_view};

@@ -7,7 +7,7 @@ use native.Mathlib.Decide.{ℕ_discrete}
 use native.Mathlib.Omega.{arith}
 use lib.ListN.{length, take}
 use lib.Dec.{eqb, eqb→eq}
-use Rattle.rules.specs.Basics.{if◌then◌else◌}
+use Rattle.rules.specs.Basics.{whether◌then◌else◌}
 use Rattle.rules.specs.Bytes.{decode}
 use Rattle.rules.specs.Chain.{spans, reads}
 use Rattle.rules.specs.Sound.{lent}
@@ -58,7 +58,7 @@ module _ (p st sc before : List ℕ) (s : Name) (n : ℕ) where
         subst (Shows (view_in x)) (sym k) (record { there = whole; bytes = part ∙ sym (if_T (eqb (step (Do o) m).code 0) _ _ (eq→eqb _ 0 (sym code_is ∙ z))) })
 
     shows_none : x.code ≢ 0 → Shows (view_in x) x.number
-    unfolding if◌then◌else◌
+    unfolding whether◌then◌else◌
     shows_none z =
         let m = lent p st in
         let o = Show s n before in

@@ -1,7 +1,7 @@
 -- What show answers to C and leaves, as the rules write it, and the bytes that it shows.
 use Rattle.std.specs.Prelude.{List, [], ℕ, take, eqb}
 use Rattle.kinds.specs.Outcome.{code_of, number_of}
-use Rattle.rules.specs.Basics.{if◌then◌else◌}
+use Rattle.rules.specs.Basics.{whether◌then◌else◌}
 use Rattle.rules.specs.Chain.{reads}
 use Rattle.rules.specs.Sound.{Lent}
 use Rattle.rules.specs.Rule.{Name, View}
@@ -31,4 +31,4 @@ shown_of r pool storage scratch = record {
 
 -- The bytes that show s, n lets its caller see: of a done one the first n that the slip reads, of a refused one none.
 abbrev pub bytes_shown : Name → ℕ → List ℕ → Lent → List ℕ
-bytes_shown s n scratch m = if eqb (step (Do (Show s n scratch)) m).code 0 then take n (reads (state_in m) s.slip) else []
+bytes_shown s n scratch m = whether eqb (step (Do (Show s n scratch)) m).code 0 then take n (reads (state_in m) s.slip) else []

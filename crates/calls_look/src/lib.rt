@@ -1,4 +1,6 @@
 // The bodies of length, read, show and list, and what stretches begins with: each audits and then does its operation.
+#![tactic(auto)]
+
 ghost use Rattle.std.specs.Prelude.{◌≡◌, List, [], ℕ, ◌<◌, ◌^◌};
 ghost use Rattle.rules.specs.Sound.{lent};
 ghost use Rattle.rules.specs.Rule.{Name, name, no_view};
@@ -14,7 +16,7 @@ use look::Place;
 
 // What show answers to C: the view is `number` bytes from `start` on, of the scratch if `in_scratch` is 1, else of storage.
 #[repr(C)]
-#[derive(Drop)]
+#[derive(Clone, Copy)]
 pub struct Shown {
     pub code: u16,
     pub number: u32,
@@ -23,7 +25,7 @@ pub struct Shown {
 }
 
 // What slp_stretches answers, the pool's shape, and the link to its first record, 0 where there is none.
-#[derive(Drop)]
+#[derive(Clone, Copy)]
 pub struct Begun {
     pub answer: Answer,
     pub shape: Shape,

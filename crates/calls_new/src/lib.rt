@@ -1,4 +1,6 @@
 // The bodies of put, dup and cut, which answer a new slip: each audits and then does its operation.
+#![tactic(auto)]
+
 ghost use Rattle.std.specs.Prelude.{◌≡◌, []};
 ghost use Rattle.rules.specs.Sound.{lent};
 ghost use Rattle.rules.specs.Rule.{name, no_view};

@@ -1,4 +1,6 @@
 // The bodies of open and audit, which the exported functions forward to.
+#![tactic(auto)]
+
 ghost use Rattle.std.specs.Prelude.{◌≡◌, []};
 ghost use Rattle.rules.specs.Sound.{lent};
 ghost use Rattle.rules.specs.Rule.{no_view};

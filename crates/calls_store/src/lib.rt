@@ -1,4 +1,6 @@
 // The bodies of pullup and pack, which copy bytes within storage: each audits and then does its operation.
+#![tactic(auto)]
+
 ghost use Rattle.std.specs.Prelude.{◌≡◌, []};
 ghost use Rattle.rules.specs.Sound.{lent};
 ghost use Rattle.rules.specs.Rule.{name, no_view};

@@ -7,7 +7,7 @@ use native.Mathlib.Decide.{ℕ_discrete, dec_le}
 use native.Mathlib.Omega.{arith}
 use lib.ListN.{length, drop}
 use lib.Dec.{eqb, eqb→eq, ltb, ltb→lt, lt→ltb, leb, leb→le, le→leb}
-use Rattle.rules.specs.Basics.{Is, if◌then◌else◌}
+use Rattle.rules.specs.Basics.{Is, whether◌then◌else◌}
 use Rattle.rules.specs.Tables.{Tables, piece, head_of, slip_total, piece_total, buffer_total}
 use Rattle.rules.specs.Chain.{Stretch, walk, own_at, stretch, total, length_of, cut_out, contents}
 use Rattle.rules.specs.Sound.{link_ok, SoundTables}
@@ -34,7 +34,7 @@ own_kept T own d v e c = ap (λ (x : ℕ). eqb x 1) c ∙ ap (λ (b : Bool). b &
 abbrev spot_in : Tables → Bool → List ℕ → ℕ → Spot
 spot_in T own [] off = record { link = 0; into = off; own = own }
 spot_in T own (d ∷ ds) off =
-    if leb (piece T d).len off then spot_in T (own_at T own d) ds (off - (piece T d).len) else record { link = suc d; into = off; own = own_at T own d }
+    whether leb (piece T d).len off then spot_in T (own_at T own d) ds (off - (piece T d).len) else record { link = suc d; into = off; own = own_at T own d }
 
 -- the place over the pieces allowed is that over the pieces met
 spot_walk : (k : ℕ) (T : Tables) (own : Bool) (n off : ℕ) → spot_of k T own n off ≡ spot_in T own (walk k T n) off
@@ -43,7 +43,7 @@ spot_walk zero T own n off = refl
 spot_walk (suc k) T own zero off = refl
 spot_walk (suc k) T own (suc d) off =
     let p = piece T d in
-    ap (λ (q : Spot). if leb p.len off then q else record { link = suc d; into = off; own = own_at T own d })
+    ap (λ (q : Spot). whether leb p.len off then q else record { link = suc d; into = off; own = own_at T own d })
     (spot_walk k T (own_at T own d) p.next (off - p.len))
 
 -- past the last piece
@@ -65,11 +65,11 @@ module _ (T : Tables) (own : Bool) (n off : ℕ) (S : SoundTables T) (t : Is (li
   P = piece_total T
 
   -- one turn, with P allowed before and after it
-  spot_step : spot_of P T own n off ≡ (if leb first.len off then spot_of P T still after (off - first.len) else record { link = n; into = off; own = still })
+  spot_step : spot_of P T own n off ≡ (whether leb first.len off then spot_of P T still after (off - first.len) else record { link = n; into = off; own = still })
   spot_step =
       let e : suc (n - 1) ≡ n = omega (arith, i) in
       spot_walk P T own n off ∙ ap (λ (l : List ℕ). spot_in T own l off) (walk_on T n S t i)
-      ∙ (λ j. if leb first.len off then sym (spot_walk P T still after (off - first.len)) j else record { link = e j; into = off; own = still })
+      ∙ (λ j. whether leb first.len off then sym (spot_walk P T still after (off - first.len)) j else record { link = e j; into = off; own = still })
 
   -- a piece that the offset passes is skipped, and in any other the place is found
   spot_skip : first.len ≤ off → spot_of P T own n off ≡ spot_of P T still after (off - first.len)

@@ -1,6 +1,6 @@
 -- Where in a chain a byte lies, and whether its piece is own.
 use Rattle.std.specs.Prelude.{Bool, ◌&&◌, ℕ, zero, suc, ◌-◌, eqb, leb, ltb}
-use Rattle.rules.specs.Basics.{if◌then◌else◌}
+use Rattle.rules.specs.Basics.{whether◌then◌else◌}
 use Rattle.rules.specs.Tables.{Tables, piece}
 use Rattle.rules.specs.Chain.{own_at}
 use Rattle.chain.specs.declared.Spot.{Spot}
@@ -11,7 +11,7 @@ unfoldable pub spot_of : ℕ → Tables → Bool → ℕ → ℕ → Spot
 spot_of zero T own n off = record { link = 0; into = off; own = own }
 spot_of (suc k) T own zero off = record { link = 0; into = off; own = own }
 spot_of (suc k) T own (suc d) off =
-    if leb (piece T d).len off
+    whether leb (piece T d).len off
     then spot_of k T (own_at T own d) (piece T d).next (off - (piece T d).len)
     else record { link = suc d; into = off; own = own_at T own d }
 

@@ -1,4 +1,6 @@
 // Walks over chains: what the operations read of them before they act.
+#![tactic(auto)]
+
 ghost use Rattle.std.specs.Prelude.{◌≡◌, true, ◌-◌, ◌<◌, length, leb};
 ghost use Rattle.rules.specs.Basics.{Is};
 ghost use Rattle.rules.specs.Tables.{piece, head_of, piece_total};
@@ -17,7 +19,7 @@ use kinds::{PieceNumber, Serial, SlipNumber};
 use layout::Shape;
 
 // A place in a chain, the link to a piece, the bytes of it before the place, and whether that piece is own: a cursor.
-#[derive(Drop)]
+#[derive(Clone, Copy)]
 pub struct Spot {
     pub link: u16,
     pub into: u32,
@@ -25,7 +27,7 @@ pub struct Spot {
 }
 
 // A part of a walk over next, the bytes of the pieces passed and the link behind them: a bounded step of a traversal.
-#[derive(Drop)]
+#[derive(Clone, Copy)]
 pub struct Leg {
     pub bytes: u32,
     pub link: u16,
@@ -35,7 +37,7 @@ pub struct Leg {
 const LEG: u16 = 32;
 
 // What the first bytes of a chain take: how many pieces, and whether it has them (an extent).
-#[derive(Drop)]
+#[derive(Clone, Copy)]
 pub struct Part {
     pub pieces: u16,
     pub enough: bool,

@@ -7,7 +7,7 @@ use native.Mathlib.Omega.{arith}
 use lib.Dec.{ltb, lt→ltb, ltb→lt, eqb, eqb→eq, eqb_refl, leb, leb→le, le→leb}
 use Rattle.kinds.specs.Limits.{buffer_size}
 use Rattle.kinds.proofs.Sizes.{size_one}
-use Rattle.rules.specs.Basics.{Is, if◌then◌else◌, bit, all_to}
+use Rattle.rules.specs.Basics.{Is, whether◌then◌else◌, bit, all_to}
 use Rattle.rules.specs.Tables.{Piece, Tables, piece, is_blank, head_of, slip_total, piece_total, buffer_total}
 use Rattle.rules.specs.Sound.{in_use, leads, heads, nexts, link_ok, piece_ok, acyclic, sound_tables}
 use Rattle.rules.proofs.Logic.{if_T, if_F, and_intro, and_0, and_1, and_parts, bit_T, eq→eqb, not_zero, is_true, same_test, all_intro, all_at}
@@ -22,13 +22,13 @@ and_map true x y f t = f t
 and_map false x y f t = t
 
 -- a free piece stays as it is, and of a piece in use the last test changes
-used_map : (z x a b c m n : Bool) → ((Is z → ⊥) → Is m → Is n) → Is (if z then x else (a && (b && (c && m)))) → Is (if z then x else (a && (b && (c && n))))
-unfolding if◌then◌else◌
+used_map : (z x a b c m n : Bool) → ((Is z → ⊥) → Is m → Is n) → Is (whether z then x else (a && (b && (c && m)))) → Is (whether z then x else (a && (b && (c && n))))
+unfolding whether◌then◌else◌
 used_map true x a b c m n f t = t
 used_map false x a b c m n f t = and_map a _ _ (and_map b _ _ (and_map c m n (f (λ q. q)))) t
 
-last_of : (z x a b c n : Bool) {Q : Type 0} → (Is x → Q) → (Is n → Q) → Is (if z then x else (a && (b && (c && n)))) → Q
-unfolding if◌then◌else◌
+last_of : (z x a b c n : Bool) {Q : Type 0} → (Is x → Q) → (Is n → Q) → Is (whether z then x else (a && (b && (c && n)))) → Q
+unfolding whether◌then◌else◌
 last_of true x a b c n f g t = f t
 last_of false x a b c n f g t = g (and_1 c n (and_1 b _ (and_1 a _ t)))
 
@@ -62,7 +62,7 @@ module _ (T : Tables) where
 
   -- a piece is good, where its buffer has z bytes
   abbrev ok_by : Piece → ℕ → Bool
-  ok_by p z = if eqb p.count 0 then is_blank p else (ltb p.buffer (buffer_total T) && (leb 1 p.len && (leb (p.offset + p.len) z && link_ok T p.next)))
+  ok_by p z = whether eqb p.count 0 then is_blank p else (ltb p.buffer (buffer_total T) && (leb 1 p.len && (leb (p.offset + p.len) z && link_ok T p.next)))
 
   -- every buffer has the one size of the table
   one_size : (p : Piece) → Is (piece_ok T p) → Is (ok_by p buffer_size)

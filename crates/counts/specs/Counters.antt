@@ -1,7 +1,7 @@
 -- The audit's counters: references to each piece and pieces on each buffer, as counted so far.
 use Rattle.std.specs.Prelude.{◌≡◌, Bool, true, ◌&&◌, List, ℕ, zero, suc, ◌+◌, ◌≤◌, ◌<◌, length, get_or, set, replicate, eqb}
 use Rattle.kinds.specs.Limits.{most_pieces, most_buffers, most_slips}
-use Rattle.rules.specs.Basics.{if◌then◌else◌, bit, sum_to}
+use Rattle.rules.specs.Basics.{whether◌then◌else◌, bit, sum_to}
 use Rattle.rules.specs.Tables.{Piece, Tables, piece, head_of, piece_total, buffer_total}
 use Rattle.rules.specs.Sound.{in_use, leads, heads, nexts, lying}
 use Rattle.layout.specs.declared.Shape.{Shape}
@@ -28,7 +28,7 @@ tallied c (suc d) = set c d (get_or c d 0 + 1)
 
 -- a link to the buffer that a piece in use lies on
 abbrev pub lie_of : Piece → ℕ
-lie_of p = if eqb p.count 0 then 0 else suc p.buffer
+lie_of p = whether eqb p.count 0 then 0 else suc p.buffer
 
 -- each counter can take one more
 abbrev pub Countable : List ℕ → Type 0

@@ -2,7 +2,7 @@
 -- pieces in use follows once the counts agree (proofs/Ranges.antt).
 use Rattle.std.specs.Prelude.{Bool, ◌&&◌, ℕ, ◌+◌, ltb, eqb, leb}
 use Rattle.kinds.specs.Limits.{buffer_size}
-use Rattle.rules.specs.Basics.{if◌then◌else◌, all_to}
+use Rattle.rules.specs.Basics.{whether◌then◌else◌, all_to}
 use Rattle.rules.specs.Tables.{Piece, Tables, piece, buffer_count, is_blank, head_of, slip_total, piece_total, buffer_total}
 use Rattle.rules.specs.Sound.{heads, nexts, lying}
 
@@ -18,7 +18,7 @@ used_in_range B P p = ltb p.buffer B && (leb 1 p.len && (leb (p.offset + p.len) 
 
 -- all zero, or in range
 abbrev pub piece_in_range : ℕ → ℕ → Piece → Bool
-piece_in_range B P p = if eqb p.count 0 then is_blank p else used_in_range B P p
+piece_in_range B P p = whether eqb p.count 0 then is_blank p else used_in_range B P p
 
 -- ---- all entries
 

@@ -1,4 +1,6 @@
 // Whether a pool's links and entries are in range and every stored count is the number of its references: a reference count check.
+#![tactic(auto)]
+
 ghost use Rattle.std.specs.Prelude.{◌≡◌, ◌<◌, ◌≤◌, length};
 ghost use Rattle.rules.specs.Tables.{is_blank};
 ghost use Rattle.rules.specs.Bytes.{decode};

@@ -1,4 +1,6 @@
 // cut: a second slip on a range of a chain, over new pieces on the same buffers.
+#![tactic(auto)]
+
 ghost use Rattle.std.specs.Prelude.{◌≡◌, List, [], ℕ};
 ghost use Rattle.kinds.specs.Serial.{slip_in};
 ghost use Rattle.kinds.specs.SlipState.{state_of};

@@ -1,7 +1,7 @@
 -- The text of the tables after row 3 of document 01's morning, written out. Assumes nothing.
 use mathlib.Core.Path.{◌≡◌, refl}
 use mathlib.Core.List.{[], ◌∷◌, ◌++◌}
-use Rattle.rules.specs.Basics.{if◌then◌else◌, places}
+use Rattle.rules.specs.Basics.{whether◌then◌else◌, places}
 use Rattle.rules.specs.Tables.{Tables, blank}
 use Rattle.rules.specs.Chain.{walk, stretches, total}
 use Rattle.rules.specs.Morning.{p, state}
@@ -23,5 +23,5 @@ pub drawn : tables_text row3 ≡
     ++ ascii "  slip 3.1  vacant\n"
     ++ ascii "  buffers  b0 x3  b1 x2  b2 free  b3 free\n"
     ++ ascii "  pieces   5 in use, 1 free\n"
-unfolding if◌then◌else◌ places walk stretches total digits_in up_to most_to rest_text chain_text state_text tables_text
+unfolding whether◌then◌else◌ places walk stretches total digits_in up_to most_to rest_text chain_text state_text tables_text
 drawn = refl

@@ -16,7 +16,6 @@ use Rattle.rules.specs.Sound.{marked}
 use Rattle.rules.specs.Room.{is_free}
 use Rattle.rules.proofs.Logic.{if_T, if_F, is_true, eq→eqb, bit_T, bit_F, and_parts}
 use Rattle.rules.proofs.Room.{places_count_0}
-use Rattle.rules.proofs.Bytes.{and_is, eqb_is, leb_is}
 use Rattle.layout.specs.declared.Shape.{Shape}
 use Rattle.tables.specs.Shape.{Shaped}
 use Rattle.page.specs.Page.{ascii}

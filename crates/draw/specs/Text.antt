@@ -6,7 +6,7 @@
 --   buffers  b0 x2  b1 x2  b2 free  b3 free
 --   pieces   4 in use, 2 free
 use Rattle.std.specs.Prelude.{Bool, ◌&&◌, List, ◌++◌, ℕ, ◌-◌, length, eqb, leb}
-use Rattle.rules.specs.Basics.{if◌then◌else◌}
+use Rattle.rules.specs.Basics.{whether◌then◌else◌}
 use Rattle.rules.specs.Layout.{pool_length, header_length}
 use Rattle.rules.specs.Tables.{Tables, buffer_count, piece_total, buffer_total}
 use Rattle.rules.specs.Bytes.{decode, buffers_in, pieces_in, slips_in}
@@ -19,7 +19,7 @@ use Rattle.draw_slips.specs.Text.{up_to, slips_text}
 -- ---- buffers and pieces
 
 abbrev pub hold_text : ℕ → List ℕ
-hold_text n = if eqb n 0 then ascii " free" else tagged " x" n
+hold_text n = whether eqb n 0 then ascii " free" else tagged " x" n
 
 abbrev pub buffer_text : Tables → ℕ → List ℕ
 buffer_text T b = tagged "  b" b ++ hold_text (buffer_count T b)
@@ -41,4 +41,4 @@ fits_test p = leb header_length (length p) && (marked p && eqb (length p) (pool_
 
 -- of any bytes
 abbrev pub pool_text : List ℕ → List ℕ
-pool_text p = if fits_test p then tables_text (decode p) else ascii "  torn\n"
+pool_text p = whether fits_test p then tables_text (decode p) else ascii "  torn\n"

@@ -1,4 +1,6 @@
 // A pool drawn as text: a line for each slip, then the buffers and the pieces. Any bytes can be drawn.
+#![tactic(auto)]
+
 ghost use Rattle.std.specs.Prelude.{◌≡◌, ◌<◌, ◌≤◌, length};
 ghost use Rattle.rules.specs.Bytes.{decode};
 ghost use Rattle.rules.specs.Room.{free_pieces};

@@ -1,13 +1,13 @@
 -- The text of a chain, as p0[b0 0+512] > p1[b1 0+88]x2.
 use Rattle.std.specs.Prelude.{List, [], ◌∷◌, ◌++◌, ℕ, leb}
-use Rattle.rules.specs.Basics.{if◌then◌else◌}
+use Rattle.rules.specs.Basics.{whether◌then◌else◌}
 use Rattle.rules.specs.Tables.{Piece, Tables, piece}
 use Rattle.page.specs.Page.{ascii}
 use Rattle.page.specs.Digits.{tagged}
 
 -- a count above 1 marks what is shared
 abbrev pub times_text : ℕ → List ℕ
-times_text n = if leb n 1 then [] else tagged "x" n
+times_text n = whether leb n 1 then [] else tagged "x" n
 
 abbrev pub piece_text : ℕ → Piece → List ℕ
 piece_text d x = tagged "p" d ++ tagged "[b" x.buffer ++ tagged " " x.offset ++ tagged "+" x.len ++ ascii "]" ++ times_text x.count

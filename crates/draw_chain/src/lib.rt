@@ -1,4 +1,6 @@
 // A chain drawn as text: its pieces one behind the other, and their length. No walk is longer than the pool's count of pieces.
+#![tactic(auto)]
+
 ghost use Rattle.std.specs.Prelude.{◌≡◌, ◌<◌};
 ghost use Rattle.rules.specs.Tables.{piece, piece_total};
 ghost use Rattle.rules.specs.Bytes.{decode};

@@ -2,7 +2,7 @@
 --   slip 1   50 bytes  p2[b0 500+12] > p3[b1 0+38]
 --   slip 2.1  vacant
 use Rattle.std.specs.Prelude.{List, [], ◌++◌, ℕ, zero, suc, max, length, eqb}
-use Rattle.rules.specs.Basics.{if◌then◌else◌}
+use Rattle.rules.specs.Basics.{whether◌then◌else◌}
 use Rattle.rules.specs.Tables.{Tables, slip, serial, slip_total}
 use Rattle.rules.specs.Chain.{chain, length_of}
 use Rattle.rules.specs.Room.{is_vacant}
@@ -29,9 +29,9 @@ length_text w n = ascii "  " ++ padded w n ++ ascii " bytes  "
 -- what slip s holds
 unfoldable pub state_text : Tables → ℕ → ℕ → List ℕ
 state_text T w s =
-    if eqb (slip T s) 0
+    whether eqb (slip T s) 0
     then ascii "  vacant"
-    else if eqb (slip T s) 1
+    else whether eqb (slip T s) 1
     then (length_text w 0 ++ ascii "empty")
     else (length_text w (length_of T s) ++ chain_text T (chain T s))
 
@@ -40,7 +40,7 @@ slip_text T w s = tagged "  slip " s ++ serial_text (serial T s) ++ state_text T
 
 -- the digits of the longest length
 abbrev pub width_at : Tables → ℕ → ℕ
-width_at T s = if is_vacant T s then 0 else length (digits (length_of T s))
+width_at T s = whether is_vacant T s then 0 else length (digits (length_of T s))
 
 abbrev pub widest : Tables → ℕ
 widest T = most_to (slip_total T) (width_at T)

@@ -1,4 +1,6 @@
 // The slips drawn as text: a line for each, with the length and the pieces of its chain.
+#![tactic(auto)]
+
 ghost use Rattle.std.specs.Prelude.{◌≡◌, ◌<◌, max};
 ghost use Rattle.rules.specs.Bytes.{decode};
 ghost use Rattle.tables.specs.Shape.{Shaped};

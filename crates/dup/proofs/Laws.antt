@@ -1,18 +1,18 @@
 -- What dup answers and leaves: the rule's result. Assumes nothing.
 use mathlib.Core.Path.{◌≡◌, refl, sym, ap, ◌∙◌}
-use mathlib.Core.Logic.{◌≢◌, ◌⊎◌, ⊎_elim}
+use mathlib.Core.Logic.{◌≢◌}
 use mathlib.Core.List.{List, [], ◌∷◌}
 use Prim.Native.Nat.{ℕ, zero, suc, ◌+◌, ◌-◌, ◌≤◌, ◌<◌}
 use native.Mathlib.Numerals.{add-one}
 use native.Mathlib.Omega.{arith}
-use denote.Enum.Declared.{tag_of}
 use lib.ListN.{length}
+use Rattle.kinds.specs.declared.PieceNumber.{PieceNumber}
 use Rattle.kinds.specs.declared.SlipState.{SlipState}
+use Rattle.kinds.specs.declared.SlipState.TheVariants.{Heads}
 use Rattle.kinds.specs.declared.Refusal.TheVariants.{Slip, Slips, Pieces}
 use Rattle.kinds.specs.declared.Outcome.{Outcome}
 use Rattle.kinds.specs.declared.Outcome.TheVariants.{Done, Refused}
 use Rattle.kinds.specs.SlipState.{state_of}
-use Rattle.kinds.specs.contracts.SlipState.{the_type}
 use Rattle.rules.specs.Basics.{Is}
 use Rattle.rules.specs.Tables.{Tables, piece, head_of, name_of, holding, set_slip}
 use Rattle.rules.specs.Bytes.{decode}
@@ -35,10 +35,10 @@ use Rattle.answer.proofs.Perform.{perform_first, perform_slips, perform_pieces, 
 -- ---- the state
 
 -- a held slip that no piece heads is empty: its entry is 1
-pub no_heads : (n : ℕ) {x : SlipState} → x ≡ state_of n → n ≢ 0 → (tag_of the_type x ≡ 0) ⊎ (tag_of the_type x ≡ 1) → n ≡ 1
+pub no_heads : (n : ℕ) {x : SlipState} → x ≡ state_of n → n ≢ 0 → ((p : PieceNumber) → x ≡ Heads p → ⊥) → n ≡ 1
 no_heads zero e h k = absurd (h refl)
 no_heads (suc zero) e h k = refl
-no_heads (suc (suc d)) e h k = let two = ap (tag_of the_type) e in absurd (⊎_elim (λ z. omega arith) (λ z. omega arith) k)
+no_heads (suc (suc d)) e h k = absurd (k _ e)
 
 -- ---- the plan
 

@@ -1,4 +1,6 @@
 // dup: a second slip on a chain, over one new piece that shares the rest.
+#![tactic(auto)]
+
 ghost use Rattle.std.specs.Prelude.{◌≡◌, List, [], ℕ};
 ghost use Rattle.kinds.specs.Serial.{slip_in};
 ghost use Rattle.kinds.specs.SlipState.{state_of};

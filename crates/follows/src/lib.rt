@@ -1,4 +1,6 @@
 // How often an audit follows next: an entry for tests, in an archive of its own, which is no call of the driver's.
+#![tactic(auto)]
+
 ghost use Rattle.std.specs.Prelude.{◌≡◌, ◌≤◌};
 ghost use Rattle.rules.specs.Bytes.{pieces_in};
 ghost use Rattle.rules.specs.Sound.{lent};
@@ -9,7 +11,7 @@ use kinds::Refusal;
 
 // An audit's code, and how often it followed next: also where the pool is torn.
 #[repr(C)]
-#[derive(Drop)]
+#[derive(Clone, Copy)]
 pub struct Counted {
     pub code: u16,
     pub follows: u32,

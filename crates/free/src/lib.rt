@@ -1,4 +1,6 @@
 // free: a slip gives up its chain, and what no other slip or piece holds is freed.
+#![tactic(auto)]
+
 ghost use Rattle.std.specs.Prelude.{◌≡◌, []};
 ghost use Rattle.kinds.specs.SlipState.{state_of};
 ghost use Rattle.rules.specs.Tables.{slip};

@@ -9,7 +9,7 @@ use native.Mathlib.Omega.{arith}
 use lib.ListN.{length}
 use lib.Dec.{eqb, eqb→eq, leb, ltb}
 use borrow.Author.Tests.{lt-ltb, le-ltb, le-leb, lt-leb}
-use Rattle.rules.specs.Basics.{Is, if◌then◌else◌, places, member}
+use Rattle.rules.specs.Basics.{Is, whether◌then◌else◌, places, member}
 use Rattle.rules.specs.Tables.{Tables, piece, piece_total}
 use Rattle.rules.specs.Chain.{own_pieces}
 use Rattle.rules.specs.Sound.{link_ok, SoundTables}
@@ -85,7 +85,7 @@ given_one T d {from} {beyond} {r} {p} total e below_free below-d up_to_lem apart
 
 -- the first is own, and those after it are
 own_first : (k n : ℕ) (T : Tables) → 0 < k → single T n ≡ true → own_pieces k T n ≡ (n - 1) ∷ own_pieces (k - 1) T (piece T (n - 1)).next
-unfolding own_pieces if◌then◌else◌
+unfolding own_pieces whether◌then◌else◌
 own_first zero n T h e = absurd (omega arith)
 own_first (suc k) zero T h e = absurd (single_link 0 T e refl)
 own_first (suc k) (suc d) T h e =

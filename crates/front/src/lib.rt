@@ -1,4 +1,6 @@
 // Room for new pieces, where the own pieces at the front of a chain are given back first.
+#![tactic(auto)]
+
 ghost use Rattle.std.specs.Prelude.{◌≤◌};
 ghost use Rattle.rules.specs.Basics.{Is};
 ghost use Rattle.rules.specs.Bytes.{decode};
@@ -11,7 +13,7 @@ use kinds::PieceNumber;
 use layout::Shape;
 
 // Once the front is given back, none is free below `from` or between it and `beyond`, and as many as wanted are there or not: what a free-list probe finds.
-#[derive(Drop)]
+#[derive(Clone, Copy)]
 pub struct FrontRoom {
     pub from: PieceNumber,
     pub beyond: PieceNumber,

@@ -1,7 +1,7 @@
 -- What a list asks of a storage and an output of given lengths, and an answer with the output after it.
 use Rattle.std.specs.Prelude.{List, ℕ, ltb}
 use Rattle.kinds.specs.declared.Refusal.TheVariants.{Narrow, WireList}
-use Rattle.rules.specs.Basics.{if◌then◌else◌}
+use Rattle.rules.specs.Basics.{whether◌then◌else◌}
 use Rattle.rules.specs.Gather.{lengths_of, any_amiss}
 use Rattle.rules.specs.Gather as rule
 use Rattle.gather.specs.declared.Gathered.{Gathered}
@@ -11,8 +11,8 @@ use Rattle.gather.specs.declared.Sum.TheVariants.{Bytes, Refused}
 -- the refusals in order, or the lengths' sum
 unfoldable pub summed : List ℕ → ℕ → ℕ → Sum
 summed list size room =
-    if ltb room (lengths_of list) then Refused Narrow
-    else if any_amiss size list then Refused WireList
+    whether ltb room (lengths_of list) then Refused Narrow
+    else whether any_amiss size list then Refused WireList
     else Bytes (lengths_of list)
 
 -- an answer, with every byte of the output after it

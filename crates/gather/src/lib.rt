@@ -1,4 +1,6 @@
 // The reader of a wire list: the bytes that its records name, copied out of storage, with no pool.
+#![tactic(auto)]
+
 ghost use Rattle.std.specs.Prelude.{◌≡◌, ◌||◌, ◌++◌, ◌+◌, ◌≤◌, min, length, take, drop, eqb, ltb};
 ghost use Rattle.kinds.specs.Limits.{buffer_size};
 ghost use Rattle.rules.specs.Basics.{Is};
@@ -13,14 +15,14 @@ const SIZE: usize = BufferNumber::SIZE as usize;
 
 // What gather answers to C: a status code and the count of bytes, which may pass 32 bits.
 #[repr(C)]
-#[derive(Drop)]
+#[derive(Clone, Copy)]
 pub struct Gathered {
     pub code: u16,
     pub number: u64,
 }
 
 // What a list asks: so many bytes, or a refusal (a result type).
-#[derive(Drop)]
+#[derive(Clone, Copy)]
 enum Sum {
     Bytes(usize),
     Refused(Refusal),

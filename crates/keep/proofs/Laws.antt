@@ -9,7 +9,7 @@ use Rattle.kinds.specs.declared.SlipState.{SlipState}
 use Rattle.kinds.specs.declared.Refusal.TheVariants.{Slip, Range, Pieces}
 use Rattle.kinds.specs.declared.Outcome.{Outcome}
 use Rattle.kinds.specs.declared.Outcome.TheVariants.{Done, Refused}
-use Rattle.rules.specs.Basics.{Is, if◌then◌else◌}
+use Rattle.rules.specs.Basics.{Is, whether◌then◌else◌}
 use Rattle.rules.specs.Tables.{Tables, piece, head_of, slip_total, buffer_total}
 use Rattle.rules.specs.Bytes.{decode}
 use Rattle.rules.specs.Chain.{State, Stretch, follow, spans, length_of, stretches, total, cut_out, with_tables}
@@ -265,8 +265,8 @@ module _ (p st : List ℕ) (x : Name) (n : ℕ) where
           let S = state_in (lent p st) in
           let yes : Is (eqb n (length_of T s)) = eq→eqb n (length_of T s) e in
           let same : S ≡ keep_after s n S = sym (if_T (eqb n (length_of T s)) S _ yes) in
-          let none : (if eqb n (length_of T s) then 0 else length (kept_not_own T s n)) ≡ 0 = if_T (eqb n (length_of T s)) _ _ yes in
-          changed _ (want 0 (if eqb n (length_of T s) then 0 else length (kept_not_own T s n)) 0) 0 (keep_after s n S) a refl b
+          let none : (whether eqb n (length_of T s) then 0 else length (kept_not_own T s n)) ≡ 0 = if_T (eqb n (length_of T s)) _ _ yes in
+          changed _ (want 0 (whether eqb n (length_of T s) then 0 else length (kept_not_own T s n)) 0) 0 (keep_after s n S) a refl b
           (record { shaped = is.shaped; is = is.is ∙ ap (λ (X : State). X.tables) same }) (ap (λ (X : State). X.storage) same)
           ∙ perform_none (Keep x n) (lent p st) (ap (λ (m : ℕ). want 0 m 0) none) early
 
@@ -274,7 +274,7 @@ module _ (p st : List ℕ) (x : Name) (n : ℕ) where
         not_whole : Is (eqb n (length_of (decode p) s)) → ⊥
         not_whole t = other (eqb→eq n (length_of (decode p) s) t)
 
-        wants_others : (if eqb n (length_of (decode p) s) then 0 else length (kept_not_own (decode p) s n)) ≡ length (kept_not_own (decode p) s n)
+        wants_others : (whether eqb n (length_of (decode p) s) then 0 else length (kept_not_own (decode p) s n)) ≡ length (kept_not_own (decode p) s n)
         wants_others = if_F (eqb n (length_of (decode p) s)) _ _ not_whole
 
         -- too few free pieces for those that are replaced
@@ -291,7 +291,7 @@ module _ (p st : List ℕ) (x : Name) (n : ℕ) where
             let S = state_in (lent p st) in
             let X = kept_by S s (kept_own T s n) (kept T s n) (kept_not_own T s n) in
             let same : X ≡ keep_after s n S = sym (if_F (eqb n (length_of T s)) S X not_whole) in
-            changed _ (want 0 (if eqb n (length_of T s) then 0 else length (kept_not_own T s n)) 0) 0 (keep_after s n S) a refl b
+            changed _ (want 0 (whether eqb n (length_of T s) then 0 else length (kept_not_own T s n)) 0) 0 (keep_after s n S) a refl b
             (record { shaped = is.shaped; is = is.is ∙ ap (λ (Y : State). Y.tables) same })
             (cleans ∙ ap (λ (Y : State). Y.storage) same)
             ∙ perform_all (Keep x n) (lent p st) early (omega arith) (omega (arith, wants_others)) (omega arith)

@@ -1,4 +1,6 @@
 // The numbers of slips, pieces and buffers, a slip's state, the refusals and the answers.
+#![tactic(auto)]
+
 ghost use Rattle.std.specs.Prelude.{◌≡◌, ◌+◌, ◌*◌, min, ltb, leb, eqb};
 ghost use Rattle.kinds.specs.Limits.{most_buffers, most_pieces, most_slips, buffer_size, counted};
 ghost use Rattle.kinds.specs.Serial.{last_serial, older, name_with};
@@ -7,23 +9,23 @@ ghost use Rattle.kinds.specs.Refusal.{refusal_code};
 ghost use Rattle.kinds.specs.Outcome.{answer_of};
 
 // The number of a slip: a handle that a caller holds.
-#[derive(Drop)]
+#[derive(Clone, Copy)]
 pub struct SlipNumber(pub u16);
 
 // The serial of a slip, which a caller gives beside its number: a handle's generation.
-#[derive(Drop)]
+#[derive(Clone, Copy)]
 pub struct Serial(pub u16);
 
 // The number of a piece: a segment descriptor, as an mbuf or an accessor.
-#[derive(Drop)]
+#[derive(Clone, Copy)]
 pub struct PieceNumber(pub u16);
 
 // The number of a buffer: a 512-byte fixed-size cluster with a reference count.
-#[derive(Drop)]
+#[derive(Clone, Copy)]
 pub struct BufferNumber(pub u16);
 
 // What a slip holds: nothing, an empty chain, or the chain that a piece heads (a tagged handle entry).
-#[derive(Drop)]
+#[derive(Clone, Copy)]
 pub enum SlipState {
     Vacant,
     Empty,
@@ -31,7 +33,7 @@ pub enum SlipState {
 }
 
 // Why a call is refused: the error kinds, in the order of their codes.
-#[derive(Drop)]
+#[derive(Clone, Copy)]
 pub enum Refusal {
     Counts,
     Torn,
@@ -47,14 +49,14 @@ pub enum Refusal {
 }
 
 // What a done step answers: the state its slip is left in, and the number (a success value).
-#[derive(Drop)]
+#[derive(Clone, Copy)]
 pub struct Step {
     pub state: SlipState,
     pub number: u32,
 }
 
 // What a call comes to: done or refused (a result type).
-#[derive(Drop)]
+#[derive(Clone, Copy)]
 pub enum Outcome {
     Done(Step),
     Refused(Refusal),
@@ -62,7 +64,7 @@ pub enum Outcome {
 
 // The answer as C receives it: a status code and a return value.
 #[repr(C)]
-#[derive(Drop)]
+#[derive(Clone, Copy)]
 pub struct Answer {
     pub code: u16,
     pub number: u32,

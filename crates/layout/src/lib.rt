@@ -1,4 +1,6 @@
 // How a pool lies in bytes: its header, where its entries stand, its lengths, and the fresh pool.
+#![tactic(auto)]
+
 ghost use Rattle.std.specs.Prelude.{◌≡◌, ◌&&◌, [], ◌∷◌, ◌++◌, ◌≤◌, length, take, drop};
 ghost use Rattle.word.specs.Word.{bytes16};
 ghost use Rattle.rules.specs.Layout.{mark, version, buffers_at, header_length, slip_at, piece_at, count_at, pool_length};
@@ -30,7 +32,7 @@ const PIECE_WIDTH: usize = 10;
 const COUNT_WIDTH: usize = 2;
 
 // The counts of a pool, its table sizes: buffers, pieces and slips.
-#[derive(Drop)]
+#[derive(Clone, Copy)]
 pub struct Shape {
     pub buffers: u16,
     pub pieces: u16,
@@ -64,7 +66,7 @@ pub fn piece_at(shape: Shape, d: PieceNumber) -> usize
 }
 
 // The byte at which the count of buffer `b` stands: a table offset.
-pub fn count_at_lem(shape: Shape, b: BufferNumber) -> usize
+pub fn count_at(shape: Shape, b: BufferNumber) -> usize
     ensures { result ≡ count_at shape.pieces shape.slips b.0 }
 {
     piece_at(shape, PieceNumber(shape.pieces)) + COUNT_WIDTH * b.0 as usize
@@ -91,7 +93,7 @@ pub fn marked(pool: &[u8]) -> bool
 pub fn pool_length(shape: Shape) -> usize
     ensures { result ≡ pool_length shape.buffers shape.pieces shape.slips }
 {
-    count_at_lem(shape, BufferNumber(shape.buffers))
+    count_at(shape, BufferNumber(shape.buffers))
 }
 
 // Whether the counts are within their limits and both lengths are the ones they ask.

@@ -4,7 +4,7 @@ use Rattle.kinds.specs.SlipState.{state_of}
 use Rattle.kinds.specs.declared.Refusal.{Refusal}
 use Rattle.kinds.specs.declared.Refusal.TheVariants.{Slip, Narrow}
 use Rattle.kinds.specs.declared.Outcome.TheVariants.{Done, Refused}
-use Rattle.rules.specs.Basics.{if◌then◌else◌}
+use Rattle.rules.specs.Basics.{whether◌then◌else◌}
 use Rattle.rules.specs.Tables.{Tables, slip, head_of}
 use Rattle.rules.specs.Chain.{spans}
 use Rattle.rules.specs.Rule.{Name, unnamed}
@@ -19,6 +19,6 @@ unfoldable pub begun : Tables → Name → ℕ → Begun
 begun T x room =
     let s = x.slip in
     let n = length (spans T s) in
-    if unnamed T x then nothing Slip
-    else if ltb room n then nothing Narrow
+    whether unnamed T x then nothing Slip
+    else whether ltb room n then nothing Narrow
     else record { outcome = Done (record { state = state_of (slip T s); number = n }); link = head_of T s; pieces = n }

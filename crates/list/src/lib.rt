@@ -1,4 +1,6 @@
 // The wire list of a chain in a sound pool: where its pieces lie in storage, and how long they are.
+#![tactic(auto)]
+
 ghost use Rattle.std.specs.Prelude.{◌≡◌, List, ℕ, ◌-◌, ◌*◌, ◌≤◌, length, take};
 ghost use Rattle.kinds.specs.SlipState.{state_of};
 ghost use Rattle.rules.specs.Basics.{Is};
@@ -20,7 +22,7 @@ use kinds::{Outcome, PieceNumber, Refusal, Serial, SlipNumber};
 use layout::Shape;
 
 // What list answers, and where its records start and how many they are, none where it refuses.
-#[derive(Drop)]
+#[derive(Clone, Copy)]
 pub struct Begun {
     pub outcome: Outcome,
     pub link: u16,
@@ -29,14 +31,14 @@ pub struct Begun {
 
 // A record of a wire list, a stretch of storage by its first byte and its length: a scatter-gather entry.
 #[repr(C)]
-#[derive(Drop)]
+#[derive(Clone, Copy)]
 pub struct Stretch {
     pub position: u32,
     pub length: u32,
 }
 
 // A record, and the link to the piece behind it.
-#[derive(Drop)]
+#[derive(Clone, Copy)]
 pub struct Record {
     pub stretch: Stretch,
     pub next: u16,

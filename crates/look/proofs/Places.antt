@@ -15,7 +15,7 @@ use Rattle.kinds.specs.declared.Outcome.TheVariants.{Done, Refused}
 use Rattle.kinds.specs.Limits.{buffer_size}
 use Rattle.kinds.specs.SlipState.{state_of}
 use Rattle.kinds.proofs.Sizes.{start_step}
-use Rattle.rules.specs.Basics.{Is, if◌then◌else◌}
+use Rattle.rules.specs.Basics.{Is, whether◌then◌else◌}
 use Rattle.rules.specs.Layout.{storage_length}
 use Rattle.rules.specs.Tables.{Tables, slip, piece}
 use Rattle.rules.specs.Bytes.{decode, encode}
@@ -64,7 +64,7 @@ view_none Z [] n e = refl
 view_none Z (x ∷ xs) n e = sym (if_T (eqb n 0) _ _ (eq→eqb n 0 e))
 
 view_some : (Z : List ℕ) (x : Stretch) (xs : List Stretch) (n : ℕ) → (n ≡ 0 → ⊥)
-    → view_of Z (x ∷ xs) n ≡ (if scattered (x ∷ xs) n then record { in_scratch = 1; start = 0 } else record { in_scratch = 0; start = position_of Z x })
+    → view_of Z (x ∷ xs) n ≡ (whether scattered (x ∷ xs) n then record { in_scratch = 1; start = 0 } else record { in_scratch = 0; start = position_of Z x })
 unfolding view_of
 view_some Z x xs n h = if_F (eqb n 0) _ _ (λ t. h (eqb→eq n 0 t))
 
@@ -150,7 +150,7 @@ module _ (p st sc : List ℕ) (y : Name) (n : ℕ) where
         module _ {o : Outcome} (a : o ≡ Done (record { state = state_of (slip (decode p) s); number = n })) (b : encode (decode p) ≡ p) where
           -- a show that is done, at a place and with the scratch as they are found
           done_seen : (place : Place) (after : List ℕ) → (Is (scattered (spans (decode p) s) n && ltb (length sc) n) → ⊥)
-              → after ≡ (if scattered (spans (decode p) s) n then copied (take n (reads (state_in (lent p st)) s)) sc else sc)
+              → after ≡ (whether scattered (spans (decode p) s) n then copied (take n (reads (state_in (lent p st)) s)) sc else sc)
               → view_at place ≡ view_of (decode p).stock (spans (decode p) s) n → Lies st after place n → Seen (record { outcome = o; place = place }) p st y n sc after
           unfolding rule done
           done_seen place after t e v l = rw a (record {
@@ -203,7 +203,7 @@ lies_whole st sc Scratch n z e = let k : min n (length sc) ≡ n = simp length-t
 
 -- a view that show answers is that of its place
 pub view_back : (Z : List ℕ) (xs : List Stretch) (n : ℕ) → view_at (place_of (view_of Z xs n)) ≡ view_of Z xs n
-unfolding view_of if◌then◌else◌
+unfolding view_of whether◌then◌else◌
 view_back Z [] n = refl
 view_back Z (x ∷ xs) n =
     if_either (λ (v : View). view_at (place_of v) ≡ v) (eqb n 0) _ _ (λ _. refl)
@@ -211,6 +211,6 @@ view_back Z (x ∷ xs) n =
 
 -- the bytes at a place are those that the rules' view shows
 pub part_seen : (st sc : List ℕ) (place : Place) (n : ℕ) → part_at st sc place n ≡ seen (view_at place) n st sc
-unfolding if◌then◌else◌
+unfolding whether◌then◌else◌
 part_seen st sc (Storage a) n = refl
 part_seen st sc Scratch n = refl

@@ -1,6 +1,6 @@
 -- Where a view lies, and its bytes.
 use Rattle.std.specs.Prelude.{List, ℕ, ◌+◌, ◌≤◌, length, take, drop, eqb}
-use Rattle.rules.specs.Basics.{if◌then◌else◌}
+use Rattle.rules.specs.Basics.{whether◌then◌else◌}
 use Rattle.rules.specs.Rule.{View}
 use Rattle.look.specs.declared.Place.{Place}
 use Rattle.look.specs.declared.Place.TheVariants.{Storage, Scratch}
@@ -12,7 +12,7 @@ view_at Scratch = record { in_scratch = 1; start = 0 }
 
 -- the place of a view that the rules write
 abbrev pub place_of : View → Place
-place_of v = if eqb v.in_scratch 0 then Storage v.start else Scratch
+place_of v = whether eqb v.in_scratch 0 then Storage v.start else Scratch
 
 -- the n bytes at a place: from a start of storage, or from the front of the scratch
 abbrev pub part_at : List ℕ → List ℕ → Place → ℕ → List ℕ

@@ -1,4 +1,6 @@
 // What a chain holds, looked at in a sound pool: its length, its bytes copied out, and its first bytes in one stretch.
+#![tactic(auto)]
+
 ghost use Rattle.std.specs.Prelude.{◌≡◌, ◌↔◌, List, [], ℕ, ◌≤◌, length};
 ghost use Rattle.kinds.specs.SlipState.{state_of};
 ghost use Rattle.rules.specs.Basics.{Is};
@@ -21,14 +23,14 @@ use layout::Shape;
 use transfer::Cursor;
 
 // Where a view lies: in storage from a byte on, or at the front of the scratch.
-#[derive(Drop)]
+#[derive(Clone, Copy)]
 pub enum Place {
     Storage(usize),
     Scratch,
 }
 
 // What show answers: its outcome, and where the bytes are seen.
-#[derive(Drop)]
+#[derive(Clone, Copy)]
 pub struct Shown {
     pub outcome: Outcome,
     pub place: Place,

@@ -7,7 +7,7 @@ use native.Mathlib.Omega.{arith}
 use lib.ListN.{length, drop}
 use lib.Seq.{drop_at}
 use lib.Dec.{eqb}
-use Rattle.rules.specs.Basics.{Is, if◌then◌else◌, last_of}
+use Rattle.rules.specs.Basics.{Is, whether◌then◌else◌, last_of}
 use Rattle.rules.specs.Tables.{Tables, piece, piece_total, set_piece, with_place}
 use Rattle.rules.specs.Chain.{follow, walk, own_pieces, stretches, total, cut_out}
 use Rattle.rules.specs.Sound.{link_ok, SoundTables}
@@ -53,7 +53,7 @@ own_start n T = let own = own_pieces (piece_total T) T n in λ i. record { last 
 
 -- no piece is own where the first has another count
 pub none_own : (k n : ℕ) (T : Tables) → single T n ≡ false → own_pieces k T n ≡ []
-unfolding own_pieces if◌then◌else◌
+unfolding own_pieces whether◌then◌else◌
 none_own zero n T e = refl
 none_own (suc k) zero T e = refl
 none_own (suc k) (suc d) T e = rw e
@@ -78,24 +78,24 @@ single_is (suc d) v T h e =
 -- the own pieces of a list: those before the first of another count
 abbrev own_in : Tables → List ℕ → List ℕ
 own_in T [] = []
-own_in T (d ∷ ds) = if eqb (piece T d).count 1 then d ∷ own_in T ds else []
+own_in T (d ∷ ds) = whether eqb (piece T d).count 1 then d ∷ own_in T ds else []
 
 -- the own pieces among those allowed are those of the pieces met
 own_walk : (k n : ℕ) (T : Tables) → own_pieces k T n ≡ own_in T (walk k T n)
 unfolding own_pieces walk
 own_walk zero n T = refl
 own_walk (suc k) zero T = refl
-own_walk (suc k) (suc d) T = ap (λ (ds : List ℕ). if eqb (piece T d).count 1 then d ∷ ds else []) (own_walk k (piece T d).next T)
+own_walk (suc k) (suc d) T = ap (λ (ds : List ℕ). whether eqb (piece T d).count 1 then d ∷ ds else []) (own_walk k (piece T d).next T)
 
 -- the piece that n leads to is own, and those after it are, with P allowed from each
 own_on : (n : ℕ) (T : Tables) → SoundTables T → Is (link_ok T n) → single T n ≡ true
     → own_pieces (piece_total T) T n ≡ (n - 1) ∷ own_pieces (piece_total T) T (piece T (n - 1)).next
-unfolding if◌then◌else◌
+unfolding whether◌then◌else◌
 own_on n T S t e =
     let P = piece_total T in
     let m = (piece T (n - 1)).next in
     own_walk P n T ∙ ap (own_in T) (walk_on T n S t (single_link n T e))
-    ∙ ap (λ (b : Bool). if b then (n - 1) ∷ own_in T (walk P T m) else []) (single_is n _ T (single_link n T e) refl ∙ e)
+    ∙ ap (λ (b : Bool). whether b then (n - 1) ∷ own_in T (walk P T m) else []) (single_is n _ T (single_link n T e) refl ∙ e)
     ∙ ap (λ (ds : List ℕ). (n - 1) ∷ ds) (sym (own_walk P m T))
 
 -- so one own piece more is passed
@@ -152,7 +152,7 @@ bytes_more b l d T ds =
 
 own_first : (b l k n : ℕ) (T : Tables) → single T n ≡ true
     → bytes_run b l T n (own_pieces (suc k) T n) ≡ bytes_run (b + (piece T (n - 1)).len) n T (piece T (n - 1)).next (own_pieces k T (piece T (n - 1)).next)
-unfolding own_pieces if◌then◌else◌
+unfolding own_pieces whether◌then◌else◌
 own_first b l k zero T e = absurd (subst Is (sym e) tt)
 own_first b l k (suc d) T e =
     let a : suc d - 1 ≡ d = omega arith in

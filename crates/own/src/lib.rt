@@ -1,4 +1,6 @@
 // The own pieces of a chain: those that it shares with no other, as each before them; and a piece shortened in place.
+#![tactic(auto)]
+
 ghost use Rattle.std.specs.Prelude.{◌≡◌, ◌+◌, ◌-◌, ◌≤◌, ◌<◌};
 ghost use Rattle.rules.specs.Basics.{Is};
 ghost use Rattle.rules.specs.Tables.{piece, set_piece, with_place};
@@ -12,14 +14,14 @@ use kinds::PieceNumber;
 use layout::Shape;
 
 // The own pieces of a chain: the link to the last (0 none), and the link after it.
-#[derive(Drop)]
+#[derive(Clone, Copy)]
 pub struct OwnRun {
     pub last: u16,
     pub next: u16,
 }
 
 // The own pieces that the first bytes of a chain overlap: their bytes, the link to the last (0 none), and the link after it.
-#[derive(Drop)]
+#[derive(Clone, Copy)]
 pub struct OwnPart {
     pub bytes: u32,
     pub last: u16,

@@ -1,4 +1,6 @@
 // pack: the bytes of a chain put afresh under the same slip.
+#![tactic(auto)]
+
 ghost use Rattle.std.specs.Prelude.{◌≡◌, not, [], length, leb};
 ghost use Rattle.kinds.specs.SlipState.{state_of};
 ghost use Rattle.rules.specs.Basics.{Is};

@@ -1,7 +1,7 @@
 -- Numbers of 32 bits as decimal text.
 use Rattle.std.specs.Prelude.{◌≡◌, List, [], ◌∷◌, ◌++◌, ℕ, zero, suc, ◌+◌, ◌-◌, ◌*◌, ◌/◌, ◌%◌, ◌<◌, length, drop, replicate, ltb, eqb}
 use Prim.Native.String.{String}
-use Rattle.rules.specs.Basics.{if◌then◌else◌}
+use Rattle.rules.specs.Basics.{whether◌then◌else◌}
 use Rattle.page.specs.Page.{ascii}
 
 -- the code of a digit: '0' is 48
@@ -11,7 +11,7 @@ glyph d = 48 + d
 -- the decimal digits of n, the most significant first; at most k of them
 unfoldable pub digits_in : ℕ → ℕ → List ℕ
 digits_in zero n = []
-digits_in (suc k) n = if ltb n 10 then glyph n ∷ [] else digits_in k (n / 10) ++ (glyph (n % 10) ∷ [])
+digits_in (suc k) n = whether ltb n 10 then glyph n ∷ [] else digits_in k (n / 10) ++ (glyph (n % 10) ∷ [])
 
 -- a number of 32 bits has at most ten
 abbrev pub digits : ℕ → List ℕ
@@ -38,4 +38,4 @@ tagged w n = ascii w ++ digits n
 
 -- a serial behind the number of its slip, where it is not 0
 abbrev pub serial_text : ℕ → List ℕ
-serial_text k = if eqb k 0 then [] else tagged "." k
+serial_text k = whether eqb k 0 then [] else tagged "." k

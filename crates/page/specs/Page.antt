@@ -2,7 +2,7 @@
 use Rattle.std.specs.Prelude.{◌≡◌, List, [], ◌∷◌, ℕ, ◌+◌, length, set, ltb}
 use Prim.Native.Char.{code}
 use Prim.Native.String.{String, [] as none, ◌∷◌ as ◌then◌}
-use Rattle.rules.specs.Basics.{if◌then◌else◌}
+use Rattle.rules.specs.Basics.{whether◌then◌else◌}
 use Rattle.page.specs.declared.Cursor.{Cursor}
 
 pub record Page : Type 0 where
@@ -14,7 +14,7 @@ page b c = record { bytes = b; at = c.at }
 
 -- the page with the byte x written, if there is room
 abbrev pub ink_byte : Page → ℕ → Page
-ink_byte p x = if ltb p.at (length p.bytes) then record { bytes = set p.bytes p.at x; at = p.at + 1 } else p
+ink_byte p x = whether ltb p.at (length p.bytes) then record { bytes = set p.bytes p.at x; at = p.at + 1 } else p
 
 -- the page with a text written, byte after byte
 unfoldable pub inked : Page → List ℕ → Page

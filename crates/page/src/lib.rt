@@ -1,4 +1,6 @@
 // Text written into lent bytes at a cursor: bytes, words, decimal numbers. What has no room left is not written.
+#![tactic(auto)]
+
 ghost use Rattle.std.specs.Prelude.{◌≡◌, ◌++◌, length, take, replicate};
 ghost use Rattle.page.specs.Page.{page, ink_byte, Wrote};
 ghost use Rattle.page.specs.Digits.{digits, padded, serial_text, Spelt};
@@ -6,7 +8,7 @@ ghost use Rattle.page.specs.Digits.{digits, padded, serial_text, Spelt};
 use kinds::Serial;
 
 // Where the next byte of a page goes: a write cursor.
-#[derive(Drop)]
+#[derive(Clone, Copy)]
 pub struct Cursor {
     pub at: usize,
 }

@@ -1,5 +1,5 @@
 -- The first bytes of a chain in one new piece: the plan, and what it leaves. Assumes nothing.
-use mathlib.Core.Path.{◌≡◌, refl, sym, ap, subst, ◌∙◌}
+use mathlib.Core.Path.{◌≡◌, sym, ap, subst, ◌∙◌}
 use mathlib.Core.List.{List, [], ◌∷◌, ◌++◌}
 use Prim.Native.Nat.{ℕ, suc, ◌+◌, ◌-◌, ◌≤◌, ◌<◌, min, max}
 use native.Mathlib.Numerals.{add-one}
@@ -14,7 +14,7 @@ use Rattle.rules.specs.Tables.{Tables, buffer_count, holding, piece_total, buffe
 use Rattle.rules.specs.Bytes.{decode}
 use Rattle.rules.specs.Chain.{State, Stretch, spans, first_length, total, contents, reads, state_of, own_of}
 use Rattle.rules.specs.Room.{is_free, is_unheld, free_pieces, free_from, free_buffers, new_buffers}
-use Rattle.rules.specs.Build.{fresh, taken, built, built_link, Plan, under_freed, buffers_for, laid, stored}
+use Rattle.rules.specs.Build.{fresh, taken, built, built_link, under_freed, buffers_for, laid, stored}
 use Rattle.rules.specs.Drop.{dropped, drop_back}
 use Rattle.rules.specs.Pullup.{pulled, pullup_after}
 use Rattle.rules.proofs.Logic.{if_F}

@@ -1,4 +1,6 @@
 // put: bytes into fresh buffers, under a new slip.
+#![tactic(auto)]
+
 ghost use Rattle.std.specs.Prelude.{◌≡◌, []};
 ghost use Rattle.kinds.specs.Serial.{slip_in};
 ghost use Rattle.kinds.specs.SlipState.{state_of};

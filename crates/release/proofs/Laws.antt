@@ -7,7 +7,7 @@ use native.Mathlib.Omega.{arith}
 use lib.ListN.{length}
 use lib.Dec.{eqb, eqb→eq, lt→ltb}
 use Rattle.kinds.specs.Limits.{buffer_size}
-use Rattle.rules.specs.Basics.{Is, if◌then◌else◌, sum_to}
+use Rattle.rules.specs.Basics.{Is, whether◌then◌else◌, sum_to}
 use Rattle.rules.specs.Tables.{Tables, blank, slip, piece, buffer_count, head_of, slip_total, piece_total, set_slip, set_piece, set_piece_count, with_count, with_next, set_count}
 use Rattle.rules.specs.Bytes.{decode}
 use Rattle.rules.specs.Chain.{State, state_of, with_tables}
@@ -113,8 +113,8 @@ module _ (T : Tables) (d : ℕ) {b n : ℕ} (lies : b ≡ (piece T d).buffer) (c
 
 -- a choice of a state and a link by one test
 by_test : (P : State → ℕ → Type 0) (c : Bool) (A B : Tables) (x y : List ℕ) (m n : ℕ) → (Is c → P (state_of A x) m) → ((Is c → ⊥) → P (state_of B y) n)
-    → P (state_of (if c then A else B) (if c then x else y)) (if c then m else n)
-unfolding if◌then◌else◌
+    → P (state_of (whether c then A else B) (whether c then x else y)) (whether c then m else n)
+unfolding whether◌then◌else◌
 by_test P true A B x y m n f g = f tt
 by_test P false A B x y m n f g = g (λ t. t)
 

@@ -1,6 +1,6 @@
 -- Release over the tables alone and over the storage beside them, its single steps, and when a reference can be released.
 use Rattle.std.specs.Prelude.{List, [], ◌∷◌, ℕ, ◌<◌}
-use Rattle.rules.specs.Basics.{if◌then◌else◌}
+use Rattle.rules.specs.Basics.{whether◌then◌else◌}
 use Rattle.rules.specs.Tables.{Tables, piece, buffer_count, piece_total, buffer_total}
 use Rattle.rules.specs.Chain.{State, state_of}
 use Rattle.rules.specs.Release.{lowered, another, freed, release, turned, relinked}
@@ -24,10 +24,10 @@ relinked_to T l n = (relinked (bare T) l n).tables
 
 -- the tables after one reference to piece d is given up, and the link to give up after that
 unfoldable pub stepped : Tables → ℕ → Tables
-stepped T d = if another T d then lowered T d else (freed (bare T) d).tables
+stepped T d = whether another T d then lowered T d else (freed (bare T) d).tables
 
 unfoldable pub step_next : Tables → ℕ → ℕ
-step_next T d = if another T d then 0 else (piece T d).next
+step_next T d = whether another T d then 0 else (piece T d).next
 
 -- ---- the storage st beside the tables T, after each of these
 
@@ -41,7 +41,7 @@ unfoldable pub relinked_storage : Tables → List ℕ → ℕ → ℕ → List �
 relinked_storage T st l n = (relinked (state_of T st) l n).storage
 
 unfoldable pub stepped_storage : Tables → List ℕ → ℕ → List ℕ
-stepped_storage T st d = if another T d then st else (freed (state_of T st) d).storage
+stepped_storage T st d = whether another T d then st else (freed (state_of T st) d).storage
 
 -- ---- when
 

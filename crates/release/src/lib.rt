@@ -1,4 +1,6 @@
 // Release of references: what no reference leads to is freed, and a buffer that no piece lies on any more is cleaned.
+#![tactic(auto)]
+
 ghost use Rattle.std.specs.Prelude.{◌≡◌, ◌<◌, ◌≤◌, pred};
 ghost use Rattle.rules.specs.Tables.{piece, set_piece, with_next};
 ghost use Rattle.rules.specs.Bytes.{decode};

@@ -3,7 +3,7 @@ use Rattle.std.specs.Prelude.{List, [], ◌∷◌, ◌++◌, ℕ, get_or, eqb}
 use Prim.Native.String.{String}
 use Rattle.kinds.specs.Serial.{slip_in, serial_in}
 use Rattle.kinds.specs.declared.Answer.{Answer}
-use Rattle.rules.specs.Basics.{if◌then◌else◌}
+use Rattle.rules.specs.Basics.{whether◌then◌else◌}
 use Rattle.page.specs.Page.{ascii}
 use Rattle.page.specs.Digits.{tagged, serial_text}
 use Rattle.reply.specs.declared.Reply.{Reply}
@@ -23,4 +23,4 @@ done_text Done n = ascii " -> done"
 done_text Number n = tagged " -> " n
 
 abbrev pub answer_text : Reply → Answer → List ℕ
-answer_text kind a = if eqb a.code 0 then done_text kind a.number else (tagged " -> " a.code ++ name_text a.code)
+answer_text kind a = whether eqb a.code 0 then done_text kind a.number else (tagged " -> " a.code ++ name_text a.code)

@@ -1,4 +1,6 @@
 // A call's answer as text, behind the call: a slip, done, a number, or a code with its name.
+#![tactic(auto)]
+
 ghost use Rattle.page.specs.Page.{page, Wrote};
 ghost use Rattle.reply.specs.Text.{name_text, done_text, answer_text};
 
@@ -6,7 +8,7 @@ use kinds::{Answer, Serial};
 use page::Cursor;
 
 // What a done call answers: a slip, nothing, or a number (the kind of a return value).
-#[derive(Drop)]
+#[derive(Clone, Copy)]
 pub enum Reply {
     Slip,
     Done,

@@ -2,7 +2,7 @@
 use mathlib.Core.Path.{◌≡◌, refl, sym, ap, subst, ◌∙◌}
 use mathlib.Core.Bool.{Bool, true, false}
 use Prim.Native.Nat.{ℕ, zero, suc, ◌-◌, ◌<◌}
-use Rattle.rules.specs.Basics.{if◌then◌else◌}
+use Rattle.rules.specs.Basics.{whether◌then◌else◌}
 use Rattle.rules.specs.Tables.{Tables, piece, head_of, piece_total, buffer_total}
 use Rattle.rules.specs.Chain.{walk, own_at}
 use Rattle.rules.specs.Build.{Plan}
@@ -21,8 +21,8 @@ abbrev rest_at : Tables → Spot → Plan
 rest_at T s = rest_from T s.own s.link s.into
 
 -- it goes by the test that chose the place
-rest_choice : (T : Tables) (b : Bool) (x y : Plan) (s r : Spot) → x ≡ rest_at T s → y ≡ rest_at T r → (if b then x else y) ≡ rest_at T (if b then s else r)
-unfolding if◌then◌else◌
+rest_choice : (T : Tables) (b : Bool) (x y : Plan) (s r : Spot) → x ≡ rest_at T s → y ≡ rest_at T r → (whether b then x else y) ≡ rest_at T (whether b then s else r)
+unfolding whether◌then◌else◌
 rest_choice T true x y s r e f = e
 rest_choice T false x y s r e f = f
 

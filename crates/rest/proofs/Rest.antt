@@ -8,7 +8,7 @@ use native.Mathlib.Omega.{arith}
 use lib.ListN.{length}
 use lib.Seq.{get_or-set_same}
 use lib.Dec.{eqb, eqb→eq}
-use Rattle.rules.specs.Basics.{Is, if◌then◌else◌}
+use Rattle.rules.specs.Basics.{Is, whether◌then◌else◌}
 use Rattle.rules.specs.Tables.{Piece, Tables, blank, piece, buffer_count, piece_total, set_piece, with_count, with_place}
 use Rattle.rules.specs.Bytes.{decode}
 use Rattle.rules.specs.Chain.{Stretch, stretch}
@@ -56,7 +56,7 @@ module _ (T : Tables) (own : Bool) where
   -- it is inside an own piece
   pub rest_own : (n r : ℕ) → (n ≡ 0 → ⊥) → (r ≡ 0 → ⊥) → own ≡ true
       → rest_from T own n r ≡ record { base = set_piece (raised T (n - 1)) (n - 1) (shorter (piece (raised T (n - 1)) (n - 1)) r); more = []; tail = n }
-  unfolding rest_from drop_here if◌then◌else◌
+  unfolding rest_from drop_here whether◌then◌else◌
   rest_own zero r i z e = absurd (i refl)
   rest_own (suc d) zero i z e = absurd (z refl)
   rest_own (suc d) (suc r) i z e = let b : suc d - 1 ≡ d = omega arith in rw (e, b)
@@ -64,7 +64,7 @@ module _ (T : Tables) (own : Bool) where
   -- it is inside another piece
   pub rest_copy : (n r : ℕ) → (n ≡ 0 → ⊥) → (r ≡ 0 → ⊥) → own ≡ false
       → rest_from T own n r ≡ copy_plan T (n - 1) r
-  unfolding rest_from drop_here if◌then◌else◌
+  unfolding rest_from drop_here whether◌then◌else◌
   rest_copy zero r i z e = absurd (i refl)
   rest_copy (suc d) zero i z e = absurd (z refl)
   rest_copy (suc d) (suc r) i z e = let b : suc d - 1 ≡ d = omega arith in rw (e, b)
@@ -103,7 +103,7 @@ module _ {h : Shape} {q : List ℕ} (p : Plan) {t : Tail} where
   -- nothing, where the first piece is there
   pub held_plain : {base : Tables} {n : ℕ} → p ≡ record { base = base; more = []; tail = n } → t ≡ record { buffer = record { 0 = 0 }; offset = 0; length = 0; next = n }
       → Holds q h base → Holds q h p.base × Stays t p
-  unfolding new_of if◌then◌else◌
+  unfolding new_of whether◌then◌else◌
   held_plain e s is = rw (e, s) (is, record { tail_is = refl; more_is = refl })
 
   -- the new piece

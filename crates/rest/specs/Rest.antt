@@ -1,6 +1,6 @@
 -- What drop leaves of a chain, from the place where its bytes are cut off.
 use Rattle.std.specs.Prelude.{◌≡◌, Bool, List, [], ◌∷◌, ℕ, zero, suc, ◌+◌, ◌-◌, ◌≤◌, ◌<◌, length, eqb}
-use Rattle.rules.specs.Basics.{if◌then◌else◌}
+use Rattle.rules.specs.Basics.{whether◌then◌else◌}
 use Rattle.rules.specs.Tables.{Tables, piece, buffer_count, buffer_total}
 use Rattle.rules.specs.Chain.{Stretch}
 use Rattle.rules.specs.Room.{free_from}
@@ -15,7 +15,7 @@ rest_from T own (suc d) r = drop_here T own d r
 
 -- the stretch of the new piece of what stays; a length of 0 says that there is none
 unfoldable pub new_of : Tail → List Stretch
-new_of r = if eqb r.length 0 then [] else (record { buffer = r.buffer.0; offset = r.offset; len = r.length } ∷ [])
+new_of r = whether eqb r.length 0 then [] else (record { buffer = r.buffer.0; offset = r.offset; len = r.length } ∷ [])
 
 -- what piece d has from its byte n on, before its next
 abbrev pub copy_of : Tables → ℕ → ℕ → Tail

@@ -1,4 +1,6 @@
 // What stays of a chain from a place on: held while what stands before it is given back, its first piece trimmed where it is own, copied where it is not.
+#![tactic(auto)]
+
 ghost use Rattle.std.specs.Prelude.{◌≡◌, ◌-◌, ◌≤◌, ◌<◌, length};
 ghost use Rattle.rules.specs.Basics.{Is};
 ghost use Rattle.rules.specs.Tables.{Tables, piece, holding};
@@ -20,7 +22,7 @@ use kinds::{BufferNumber, PieceNumber, SlipNumber};
 use layout::Shape;
 
 // What stays from a place on: the part of a buffer for a new first piece, none where its length is 0, and the link behind it (a descriptor to be made).
-#[derive(Drop)]
+#[derive(Clone, Copy)]
 pub struct Tail {
     pub buffer: BufferNumber,
     pub offset: u16,

@@ -11,7 +11,7 @@ use borrow.Author.Tests.{eq-eqb, ne_eqb, le-leb, lt-leb}
 use lib.Dec.{eqb, leb, leb-suc-suc, ltb, lt→ltb, ltb→lt}
 use Rattle.kinds.specs.Serial.{last_serial}
 use Rattle.kinds.specs.declared.Serial.{Serial}
-use Rattle.rules.specs.Basics.{Is, if◌then◌else◌, places, bit}
+use Rattle.rules.specs.Basics.{Is, whether◌then◌else◌, places, bit}
 use Rattle.rules.specs.Tables.{Tables, slip, serial, slip_total, piece_total, buffer_total}
 use Rattle.rules.specs.Room.{is_ready, is_free, is_unheld, ready_slips, free_pieces, free_buffers, new_slip}
 use Rattle.rules.proofs.Logic.{if_T, if_F, if_either, bit_one, is_true}
@@ -50,11 +50,11 @@ module _ (f : ℕ → Bool) (i n : ℕ) where
 
   -- the numbers from i on begin with i, or begin at the next one
   here : i < n → f i ≡ true → places f i (n - i) ≡ i ∷ places f (suc i) (n - suc i)
-  unfolding places if◌then◌else◌
+  unfolding places whether◌then◌else◌
   here h t = let e : n - i ≡ suc (n - suc i) = omega arith in rw (e, t)
 
   past : i < n → f i ≡ false → places f i (n - i) ≡ places f (suc i) (n - suc i)
-  unfolding places if◌then◌else◌
+  unfolding places whether◌then◌else◌
   past h t = let e : n - i ≡ suc (n - suc i) = omega arith in rw (e, t)
 
   -- i passes, or the scan goes on
@@ -70,7 +70,7 @@ module _ (f : ℕ → Bool) (i n : ℕ) where
 
 -- l is its first number and those that pass after it, or has none
 abbrev Splits : (ℕ → Bool) → ℕ → List ℕ → Type 0
-Splits f n l = let r = first_or n l in l ≡ (if ltb r n then r ∷ places f (suc r) (n - suc r) else [])
+Splits f n l = let r = first_or n l in l ≡ (whether ltb r n then r ∷ places f (suc r) (n - suc r) else [])
 
 -- so it is of the k numbers from i on
 splits : (f : ℕ → Bool) (k i n : ℕ) → k ≡ n - i → Splits f n (places f i k)
@@ -84,7 +84,7 @@ splits f (suc k) i n e =
     (λ _. splits f k (suc i) n same)
 
 -- the numbers from i on and below n that pass: the lowest, and those after it
-pub places_first : (f : ℕ → Bool) (i n : ℕ) → let r = first_from f i n in places f i (n - i) ≡ (if ltb r n then r ∷ places f (suc r) (n - suc r) else [])
+pub places_first : (f : ℕ → Bool) (i n : ℕ) → let r = first_from f i n in places f i (n - i) ≡ (whether ltb r n then r ∷ places f (suc r) (n - suc r) else [])
 unfolding first_from
 places_first f i n = splits f (n - i) i n refl
 
@@ -113,7 +113,7 @@ first_lies f i n = lies f (n - i) i n refl
 module _ (f : ℕ → Bool) (i n : ℕ) {r : ℕ} (e : r ≡ first_from f i n) where
   -- the lowest found, r, and those after it
   abbrev Begins : ℕ → Type 0
-  Begins x = places f i (n - i) ≡ (if ltb x n then x ∷ places f (suc x) (n - suc x) else [])
+  Begins x = places f i (n - i) ≡ (whether ltb x n then x ∷ places f (suc x) (n - suc x) else [])
 
   begins : Begins r
   begins = subst Begins (sym e) (places_first f i n)

@@ -1,4 +1,6 @@
 // What is free: the lowest free numbers, and tests of room.
+#![tactic(auto)]
+
 ghost use Rattle.std.specs.Prelude.{◌≡◌, ◌≤◌, ◌<◌};
 ghost use Rattle.rules.specs.Tables.{slip_total, piece_total, buffer_total};
 ghost use Rattle.rules.specs.Bytes.{decode};
@@ -14,14 +16,14 @@ use layout::Shape;
 const SIZE: usize = BufferNumber::SIZE as usize;
 
 // The lowest free piece where any is wanted, 0 where none is, and whether as many are free as are wanted: what a free-list probe of the descriptors finds.
-#[derive(Drop)]
+#[derive(Clone, Copy)]
 pub struct PieceRoom {
     pub lowest: PieceNumber,
     pub enough: bool,
 }
 
 // The same of the buffers: what a free-list probe of the clusters finds.
-#[derive(Drop)]
+#[derive(Clone, Copy)]
 pub struct BufferRoom {
     pub lowest: BufferNumber,
     pub enough: bool,

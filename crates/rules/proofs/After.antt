@@ -9,7 +9,7 @@ use native.Mathlib.Omega.{arith}
 use lib.ListN.{length, length-take}
 use lib.Dec.{eqb, eqb→eq}
 use Rattle.kinds.specs.Limits.{buffer_size}
-use Rattle.rules.specs.Basics.{if◌then◌else◌}
+use Rattle.rules.specs.Basics.{whether◌then◌else◌}
 use Rattle.rules.specs.Tables.{Tables, slip, piece, buffer_count, head_of, piece_total, buffer_total}
 use Rattle.rules.specs.Chain.{Stretch, State, walk, chain, stretches, spans, length_of, contents, reads}
 use Rattle.rules.specs.Room.{is_vacant, is_unheld, free_buffers, new_buffers}
@@ -137,7 +137,7 @@ pub with_stock : (S S₁ S' : State) → S₁.tables.stock ≡ S.tables.stock �
 with_stock S S₁ S' z t = ap (λ (Z : List ℕ). contents Z S'.storage (spans S'.tables t)) (sym z)
 
 at_under : {A : Type 0} (s t : ℕ) (x : A) (f g : ℕ → A) → f t ≡ g t → at s x f t ≡ at s x g t
-at_under s t x f g e = ap (λ y. if eqb t s then x else y) e
+at_under s t x f g e = ap (λ y. whether eqb t s then x else y) e
 
 -- a change after others counts before them
 pub then_reading : {S S₁ S' : State} {c : Change} {cs : List Change} → S₁.tables.stock ≡ S.tables.stock → Reading S S₁ cs → Reading S₁ S' (c ∷ [])

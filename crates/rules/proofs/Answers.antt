@@ -17,7 +17,7 @@ use Rattle.rules.specs.Room.{is_vacant, is_ready, ready_slips, new_slip}
 use Rattle.rules.specs.Rule.{no_view}
 use Rattle.rules.specs.Open.{openable}
 use Rattle.rules.specs.Show.{scattered, view_of}
-use Rattle.rules.specs.Step.{Operation, Audit, Put, Free, Dup, Cut, Append, Drop, Keep, Pullup, Pack, Length, Read, Show, WireList, Write}
+use Rattle.rules.specs.Step.{Operation, Audit, Put, Free, Dup, Cut, Append, Drop, Keep, Pullup, Pack, Length, Read, Show, WireList}
 use Rattle.rules.specs.Step.{Call, Open, Do, rule, lent_out, lent_to, Result, step, state_in, done, next, left_by}
 use Rattle.rules.specs.Answers.{Ready, NamesLowest, Answered, AnsweredBy, Numbers, Shown, Unseen, Seen, SeenBy, Outputs, Opened}
 use Rattle.rules.proofs.Logic.{if_T, if_F, if_either, and_intro, and_0, and_1, eq→eqb, not_not}
@@ -88,7 +88,6 @@ rule_answers (Length s) S h f a = sym (reads_length S h f s.slip)
 rule_answers (Read s off k out) S h f a = refl
 rule_answers (Show s k scratch) S h f a = refl
 rule_answers (WireList s list) S h f a = stretches_length S.tables (chain S.tables s.slip)
-rule_answers (Write s off input) S h f a = refl
 
 open_answers : (B P S : ℕ) (m : Lent) → (step (Open B P S) m).number ≡ 0
 unfolding step
@@ -165,7 +164,6 @@ module _ (S : State) (h : SoundNow S.tables) (f : Fit S.tables.stock (buffer_tot
   rule_seen (Read s off n out) a = (refl, refl)
   rule_seen (Show s n scratch) a = (let c = simp no-cause at a.early in view_shown S.tables.stock (spans S.tables s.slip) n (omega arith))
   rule_seen (WireList s list) a = (refl, refl)
-  rule_seen (Write s off input) a = (refl, refl)
 
   rule_long : (o : Operation) → Allowed (rule o S) S.tables → length (rule o S).output ≡ length (lent_out o)
   unfolding rule
@@ -183,7 +181,6 @@ module _ (S : State) (h : SoundNow S.tables) (f : Fit S.tables.stock (buffer_tot
   rule_long (Read s off n out) a = (read_exact s off n out S h f a).as_long
   rule_long (Show s n scratch) a = show_length s n scratch S h f a
   rule_long (WireList s list) a = (list_exact s list S a).as_long
-  rule_long (Write s off input) a = refl
 
 -- ---- what is lent, and what is seen
 

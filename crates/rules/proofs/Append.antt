@@ -10,7 +10,7 @@ use lib.ListN.{length, get_or, set, length-set, take, take-append-drop, length-d
 use lib.Seq.{get_or-set_other, get_or-set_same}
 use lib.Dec.{eqb, eqb→eq}
 use Rattle.kinds.specs.Serial.{older}
-use Rattle.rules.specs.Basics.{Is, if◌then◌else◌, last_of, passing}
+use Rattle.rules.specs.Basics.{Is, whether◌then◌else◌, last_of, passing}
 use Rattle.rules.specs.Tables.{Piece, Tables, blank, slip, head_of, holding, vacant, slip_total, piece_total, buffer_total, set_slip, with_next}
 use Rattle.rules.specs.Tables.{with_serials, piece}
 use Rattle.rules.specs.Chain.{State, follow, own_pieces, spans, Stretch, chain, stretches, with_tables, contents, reads, own_of, stretch, total}
@@ -329,13 +329,13 @@ appended_sizes a b S =
     (λ _. if_either (λ (X : State). Sizes T X.tables) (eqb (head_of T b) 0) _ _ (λ _. slip_set T b vacant) (λ _. joined_sizes a b S))
 
 -- where neither chain is empty append wants a piece for each that is not own
-wanted_rest : (T : Tables) (a b : ℕ) → (if one_empty T a b then 0 else length (not_own T a)) ≤ length (free_pieces T) → (Is (eqb (head_of T a) 0) → ⊥) → (Is (eqb (head_of T b) 0) → ⊥) → length (not_own T a) ≤ length (free_pieces T)
+wanted_rest : (T : Tables) (a b : ℕ) → (whether one_empty T a b then 0 else length (not_own T a)) ≤ length (free_pieces T) → (Is (eqb (head_of T a) 0) → ⊥) → (Is (eqb (head_of T b) 0) → ⊥) → length (not_own T a) ≤ length (free_pieces T)
 wanted_rest T a b r na nb =
     omega (arith, if_F (one_empty T a b) 0 (length (not_own T a)) (λ t. ⊎_elim na nb (or_cases (eqb (head_of T a) 0) (eqb (head_of T b) 0) t)))
 
 -- what holds of every branch of two choices by the same tests
-if_three : {A B : Type 0} (P : A → B → Type 0) (b c : Bool) (k m n : A) (x y : B) → P k x → P m x → P n y → P (if b then k else if c then m else n) (if b || c then x else y)
-unfolding if◌then◌else◌
+if_three : {A B : Type 0} (P : A → B → Type 0) (b c : Bool) (k m n : A) (x y : B) → P k x → P m x → P n y → P (whether b then k else whether c then m else n) (whether b || c then x else y)
+unfolding whether◌then◌else◌
 if_three P true c k m n x y p q r = p
 if_three P false true k m n x y p q r = q
 if_three P false false k m n x y p q r = r
@@ -467,8 +467,8 @@ module _ (a b : ℕ) (S : State) (la : a < slip_total S.tables) (za : 0 < slip S
       ∙ passing_front (is_unheld T) (buffers_of (spans T a)) (buffers_of (spans T b)) (spans_none T a h)
       ∙ passing_none (is_unheld T) (buffers_of (spans T b)) (spans_none T b h))
 
-  append_takes : SoundNow (appended a b S).tables → (if one_empty S.tables a b then 0 else length (not_own S.tables a)) ≤ length (free_pieces S.tables)
-      → Took S.tables (appended a b S).tables (want 0 (if one_empty S.tables a b then 0 else length (not_own S.tables a)) 0) a
+  append_takes : SoundNow (appended a b S).tables → (whether one_empty S.tables a b then 0 else length (not_own S.tables a)) ≤ length (free_pieces S.tables)
+      → Took S.tables (appended a b S).tables (want 0 (whether one_empty S.tables a b then 0 else length (not_own S.tables a)) 0) a
   unfolding appended
   append_takes =
       let T = S.tables in
@@ -508,7 +508,7 @@ empty_test S h f s =
     meets_none T (head_of T s) (chain T s) (chain_meets T s h) (spans_good T s h) ∙ ap (λ k. eqb k 0) (sym (reads_length S h f s))
 
 append_caused : (x y : Name) → Causing (append_call x y)
-unfolding found if◌then◌else◌
+unfolding found whether◌then◌else◌
 append_caused x y S h f = record {
   below = omega arith;
   slip = slip_both S.tables x y;
@@ -523,7 +523,7 @@ append_caused x y S h f = record {
       let q = empty_test S h f y.slip in
       let n : length (not_own T a) ≡ length (chain T a) - length (own_of T a) =
       length-drop (length (own_of T a)) (spans T a) ∙ ap (λ k. k - length (own_of T a)) (stretches_length T (chain T a)) in
-      λ i. want 0 (if p i || q i then 0 else n i) 0);
+      λ i. want 0 (whether p i || q i then 0 else n i) 0);
 }
 
 append_sizes : (x y : Name) (S : State) → Sizes (with_serials S.tables (aged_by ((append_call x y).changes S) S.tables.serials)) (append_after x.slip y.slip S).tables

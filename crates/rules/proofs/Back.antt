@@ -9,7 +9,7 @@ use native.Mathlib.Omega.{arith}
 use lib.ListN.{length, take, length-take, length-set}
 use lib.Seq.{take_all, get_or-set_same, get_or-set_other}
 use lib.Dec.{eqb, eqb→eq, leb, leb→le, le→leb, ltb→lt, lt→ltb, T_not, not_T}
-use Rattle.rules.specs.Basics.{Is, if◌then◌else◌, bit, sum_to, any_to, member}
+use Rattle.rules.specs.Basics.{Is, whether◌then◌else◌, bit, sum_to, any_to, member}
 use Rattle.rules.specs.Tables.{Tables, piece, head_of, holding, slip_total, piece_total, buffer_total, set_slip}
 use Rattle.rules.specs.Chain.{State, Stretch, state_of, follow, chain, spans, first_length, own_of, own_at, overlaps, splits}
 use Rattle.rules.specs.Sound.{in_use}
@@ -19,8 +19,7 @@ use Rattle.rules.specs.Rule.{Spare, Wants, want, giving, first_code}
 use Rattle.rules.specs.Drop.{drop_here, drop_plan, dropped, drop_back, drop_pieces, front_own}
 use Rattle.rules.specs.Pullup.{in_first, pullup_wants}
 use Rattle.rules.specs.Pack.{in_one, pack_wants}
-use Rattle.rules.specs.Step.{Operation, Audit, Put, Free, Dup, Cut, Append, Drop, Keep, Pullup, Pack, Length, Read, Show, WireList, Write, rule}
-use Rattle.rules.specs.Write.{write_wants}
+use Rattle.rules.specs.Step.{Operation, Audit, Put, Free, Dup, Cut, Append, Drop, Keep, Pullup, Pack, Length, Read, Show, WireList, rule}
 use Rattle.rules.specs.Recount.{reached, leaves}
 use Rattle.rules.specs.Back.{link_past, turned_past, GivesBack, GivesFirst}
 use Rattle.rules.proofs.Logic.{if_either, if_both, or_cases, or_left, or_right, same_test, not_most, not_zero, any_at, any_intro}
@@ -317,7 +316,7 @@ module _ (T : Tables) (s n : ℕ) (h : SoundNow T) (b : s < slip_total T) where
 
 -- Every operation gives back first what is said of it.
 pub rule_first : (o : Operation) (S : State) → SoundNow S.tables → first_code (rule o S).judged ≡ 0 → GivesFirst o S.tables (rule o S).wants
-unfolding rule pullup_wants pack_wants write_wants
+unfolding rule pullup_wants pack_wants
 rule_first Audit S h e = refl
 rule_first (Put input) S h e = refl
 rule_first (Free s) S h e = refl
@@ -336,4 +335,3 @@ rule_first (Length s) S h e = refl
 rule_first (Read s off n out) S h e = refl
 rule_first (Show s n scratch) S h e = refl
 rule_first (WireList s list) S h e = refl
-rule_first (Write s off input) S h e = if_either (λ (w : Wants). w.back ≡ []) (eqb (length input) 0) _ _ (λ _. refl) (λ _. refl)

@@ -345,7 +345,7 @@ module _ (p : List ℕ) where
 
 -- ---- the header
 
--- what countsOk tests
+-- what counts_ok tests
 pub record InRange (B P S : ℕ) : Type 0 where
   pub some_buffers : 1 ≤ B
   pub most_buffers_lem : B ≤ most_buffers
@@ -360,7 +360,7 @@ counts_facts B P S h = let k = simp (and_is, leb_is) at h in omega arith
 pub counts_test : {B P S : ℕ} → InRange B P S → Is (counts_ok B P S)
 counts_test c = simp (and_is, leb_is) (omega arith)
 
--- what headerOk tests
+-- what is_header_ok tests
 pub record Header (m : Lent) : Type 0 where
   pub is_marked : Is (marked m.pool)
   pub counts : InRange (buffers_in m.pool) (pieces_in m.pool) (slips_in m.pool)

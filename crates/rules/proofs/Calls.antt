@@ -8,13 +8,13 @@ use lib.ListN.{length, get_or}
 use lib.Dec.{eqb→eq, T_not}
 use Rattle.kinds.specs.declared.Refusal.TheVariants.{Torn}
 use Rattle.kinds.specs.Refusal.{refusal_code}
-use Rattle.rules.specs.Basics.{Is, member}
+use Rattle.rules.specs.Basics.{Is}
 use Rattle.rules.specs.Tables.{serial, buffer_count, slip_total, buffer_total, with_serials}
 use Rattle.rules.specs.Chain.{State, reads}
 use Rattle.rules.specs.Storage.{Zeroed}
 use Rattle.rules.specs.Room.{is_vacant, is_unheld}
 use Rattle.rules.specs.Rule.{Change, slips_of, first_code, code_in}
-use Rattle.rules.specs.Step.{Operation, Audit, Put, Free, Dup, Cut, Append, Drop, Keep, Pullup, Pack, Length, Read, Show, WireList, Write, meaning, rule}
+use Rattle.rules.specs.Step.{Operation, Audit, Put, Free, Dup, Cut, Append, Drop, Keep, Pullup, Pack, Length, Read, Show, WireList, meaning, rule}
 use Rattle.rules.specs.Causes.{Cause}
 use Rattle.rules.specs.After.{Names, ReadsOk, reads_after, vacant_after, vacates, serial_after}
 use Rattle.rules.specs.Takes.{TakesOk}
@@ -28,7 +28,6 @@ use Rattle.rules.proofs.Caused.{Before, Settled, before_settled, code_settled}
 use Rattle.rules.proofs.Sizes.{Sizes}
 use Rattle.rules.proofs.Storage.{held_bytes}
 use Rattle.rules.proofs.After.{with_stock}
-use Rattle.rules.proofs.Takes.{in_member}
 use Rattle.rules.proofs.Lawful.{Lawful, Ageable, aged_by, aged_at, others_stay, audit_lawful}
 use Rattle.rules.proofs.Put.{put_lawful}
 use Rattle.rules.proofs.Free.{free_lawful}
@@ -43,7 +42,6 @@ use Rattle.rules.proofs.Length.{length_lawful}
 use Rattle.rules.proofs.Read.{read_lawful}
 use Rattle.rules.proofs.Show.{show_lawful}
 use Rattle.rules.proofs.List.{list_lawful}
-use Rattle.rules.proofs.Write.{write_lawful}
 
 pub lawful : (o : Operation) → Lawful (meaning o)
 lawful Audit = audit_lawful
@@ -60,7 +58,6 @@ lawful (Length s) = length_lawful s
 lawful (Read s off n out) = read_lawful s off n out
 lawful (Show s n scratch) = show_lawful s n scratch
 lawful (WireList s list) = list_lawful s list
-lawful (Write s off input) = write_lawful s off input
 
 -- Each operation's refusals rise from 2 on.
 pub lowest_first : (o : Operation) (S : State) → Rising (refusal_code Torn) (rule o S).judged
@@ -126,13 +123,12 @@ pub takes : (o : Operation) (S : State) → SoundNow S.tables → Allowed (rule 
 unfolding rule
 takes o S h a = (lawful o).takes S h a (rule_sound o S h a)
 
--- every byte stays of a buffer that is held before and after, or free before and after, and is not written where it lies
+-- every byte stays of a buffer that is held before and after, or free before and after
 pub rule_bytes : (o : Operation) (S : State) → SoundNow S.tables → Fit S.tables.stock (buffer_total S.tables) S.storage
     → Allowed (rule o S) S.tables → (b : ℕ) → b < buffer_total S.tables → is_unheld (rule o S).after.tables b ≡ is_unheld S.tables b
-    → (Is (member b ((meaning o).in_place S)) → ⊥)
     → held_bytes S.tables (rule o S).after.storage b ≡ held_bytes S.tables S.storage b
 unfolding rule
-rule_bytes o S h f a b l e w =
+rule_bytes o S h f a b l e =
     let T = S.tables in
     let T' = (rule o S).after.tables in
     let taken : ℕ → Bool = λ x. is_unheld T x && not (is_unheld T' x) in
@@ -140,7 +136,6 @@ rule_bytes o S h f a b l e w =
     (λ m. (
     let t = in_passes taken 0 (buffer_total T) b _ (all_free taken (buffer_total T)) (subst (Memᴰ b) (sym (takes o S h a).buffers) m) in
     T_not (is_unheld T' b) (and_1 (is_unheld T b) _ t) (subst Is (sym e) (and_0 (is_unheld T b) _ t))))
-    (λ m. w (in_member b ((meaning o).in_place S) m))
     (λ u. not_zero (buffer_count T' b) (λ t. omega (arith, eqb→eq (buffer_count T b) 0 (subst Is e t))))
 
 -- and one that it gives back is zero

@@ -11,7 +11,7 @@ use lib.Dec.{T_not, not_T, eqb, eqb→eq, ltb, ltb→lt, lt→ltb}
 use Rattle.kinds.specs.declared.Refusal.{Refusal}
 use Rattle.kinds.specs.declared.Refusal.TheVariants.{Counts, Torn, Slip, Same, Long, Range, Narrow, Slips, Pieces, Buffers, WireList}
 use Rattle.kinds.specs.Refusal.{refusal_code}
-use Rattle.rules.specs.Basics.{Is, if◌then◌else◌, Among}
+use Rattle.rules.specs.Basics.{Is, whether◌then◌else◌, Among}
 use Rattle.rules.specs.Tables.{Tables, serial, slip_total, buffer_total}
 use Rattle.rules.specs.Chain.{State, length_of, reads}
 use Rattle.rules.specs.Room.{is_vacant}
@@ -29,7 +29,7 @@ use Rattle.rules.proofs.After.{reads_length}
 -- what the list says of r; nothing said is no
 unfoldable pub found : List Judged → Refusal → Bool
 found [] r = false
-found (j ∷ js) r = if eqb (refusal_code j.refusal) (refusal_code r) then j.applies else found js r
+found (j ∷ js) r = whether eqb (refusal_code j.refusal) (refusal_code r) then j.applies else found js r
 
 rising_found : (c : ℕ) (js : List Judged) → Rising c js → (r : Refusal) → Is (found js r) → c < refusal_code r
 unfolding found
@@ -165,7 +165,7 @@ module _ (m : Meaning) (S : State) (o : InOrder (m.rule S).judged) (c : Caused m
   lacking = full (m.asks S).new (leaves S.tables)
 
   lacking_cause : (r : Refusal) → Is (found lacking r) → Cause r m S
-  unfolding found if◌then◌else◌
+  unfolding found whether◌then◌else◌
   lacking_cause Counts t = absurd t
   lacking_cause Torn t = absurd t
   lacking_cause Slip t = absurd t
@@ -179,7 +179,7 @@ module _ (m : Meaning) (S : State) (o : InOrder (m.rule S).judged) (c : Caused m
   lacking_cause WireList t = absurd t
 
   cause_lacking : (r : Refusal) → (refusal_code r < refusal_code Slips → ⊥) → Cause r m S → Is (found lacking r)
-  unfolding found if◌then◌else◌
+  unfolding found whether◌then◌else◌
   cause_lacking Counts n x = absurd x
   cause_lacking Torn n x = absurd x
   cause_lacking Slip n x = absurd (n (omega arith))

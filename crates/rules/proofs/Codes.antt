@@ -12,7 +12,7 @@ use lib.Dec.{T_not, not_T, leb, leb→le, ltb, ltb→lt, lt→ltb, eqb, eqb→eq
 use Rattle.kinds.specs.declared.Refusal.{Refusal}
 use Rattle.kinds.specs.declared.Refusal.TheVariants.{Counts, Torn, Slip, Same, Long, Range, Narrow, Slips, Pieces, Buffers, WireList}
 use Rattle.kinds.specs.Refusal.{refusal_code}
-use Rattle.rules.specs.Basics.{Is, if◌then◌else◌}
+use Rattle.rules.specs.Basics.{Is, whether◌then◌else◌}
 use Rattle.rules.specs.Tables.{Tables, slip, serial, slip_total}
 use Rattle.rules.specs.Rule.{Judged, ◌⇐◌, first_code, Name, unnamed, Wants, want, Spare, room, Rule, full, code_in}
 use Rattle.rules.proofs.Logic.{if_T, if_F, if_either, and_0, and_1, not_not, not_zero, not_most, eq→eqb, or_none}
@@ -48,11 +48,11 @@ first_zero j js e = (
 )
 
 -- of two lists the first is judged first
-pub first_append : (js ks : List Judged) → first_code (js ++ ks) ≡ (if eqb (first_code js) 0 then first_code ks else first_code js)
-unfolding first_code if◌then◌else◌
+pub first_append : (js ks : List Judged) → first_code (js ++ ks) ≡ (whether eqb (first_code js) 0 then first_code ks else first_code js)
+unfolding first_code whether◌then◌else◌
 first_append [] ks = refl
 first_append (j ∷ js) ks =
-    if_either (λ (c : ℕ). (if j.applies then refusal_code j.refusal else first_code (js ++ ks)) ≡ (if eqb c 0 then first_code ks else c)) j.applies (refusal_code j.refusal) (first_code js)
+    if_either (λ (c : ℕ). (whether j.applies then refusal_code j.refusal else first_code (js ++ ks)) ≡ (whether eqb c 0 then first_code ks else c)) j.applies (refusal_code j.refusal) (first_code js)
     (λ t. if_T j.applies (refusal_code j.refusal) (first_code (js ++ ks)) t
     ∙ sym (if_F (eqb (refusal_code j.refusal) 0) (first_code ks) (refusal_code j.refusal) (λ z. (let q = eqb→eq (refusal_code j.refusal) 0 z in omega (arith, refusal_pos j.refusal)))))
     (λ t. if_F j.applies (refusal_code j.refusal) (first_code (js ++ ks)) t ∙ first_append js ks)

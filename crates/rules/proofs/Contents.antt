@@ -13,7 +13,7 @@ use lib.Dec.{leb, leb→le}
 use Rattle.kinds.specs.Limits.{buffer_size}
 use Rattle.kinds.specs.Sizes.{size_of, start_of}
 use Rattle.kinds.proofs.Sizes.{start_step, size_one}
-use Rattle.rules.specs.Basics.{if◌then◌else◌}
+use Rattle.rules.specs.Basics.{whether◌then◌else◌}
 use Rattle.rules.specs.Layout.{storage_length}
 use Rattle.rules.specs.Chain.{Stretch, total, cut_out, position_of, bytes_of, contents}
 use Rattle.rules.specs.Storage.{filled_at, filled, cleaned, whole_of, Zeroed}
@@ -108,7 +108,7 @@ cut_out_contents Z B st (x ∷ xs) off (suc n) s g =
 -- what stays of stretches without their first n bytes
 unfoldable pub drop_out : List Stretch → ℕ → List Stretch
 drop_out [] n = []
-drop_out (x ∷ xs) n = if leb x.len n then drop_out xs (n - x.len) else (record { buffer = x.buffer; offset = x.offset + n; len = x.len - n } ∷ xs)
+drop_out (x ∷ xs) n = whether leb x.len n then drop_out xs (n - x.len) else (record { buffer = x.buffer; offset = x.offset + n; len = x.len - n } ∷ xs)
 
 pub drop_out_contents : (Z : List ℕ) (B : ℕ) (st : List ℕ) (xs : List Stretch) (n : ℕ) → Fit Z B st → Good Z B xs → contents Z st (drop_out xs n) ≡ drop n (contents Z st xs)
 unfolding contents drop_out

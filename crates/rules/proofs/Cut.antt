@@ -5,7 +5,7 @@ use mathlib.Core.List.{[], append-nil}
 use Prim.Native.Nat.{ℕ, ◌<◌, ◌≤◌, ◌+◌, pred}
 use native.Mathlib.Omega.{arith}
 use lib.ListN.{length, take, drop, length-take, length-drop}
-use Rattle.rules.specs.Basics.{if◌then◌else◌}
+use Rattle.rules.specs.Basics.{whether◌then◌else◌}
 use Rattle.rules.specs.Tables.{buffer_total, piece_total}
 use Rattle.rules.specs.Chain.{State, spans, cut_out, stretches, reads}
 use Rattle.rules.specs.Room.{ready_slips, free_pieces, new_slip, is_free, is_unheld}
@@ -73,7 +73,7 @@ cut_takes x off n S h a h' =
     (new_pass (is_free T) (piece_total T) (length xs)) (passing_none (is_unheld T) (buffers_of xs) (cut_out_none (is_unheld T) (spans T s) off n (spans_none T s h)))
 
 cut_caused : (x : Name) (off n : ℕ) → Causing (cut_call x off n)
-unfolding found if◌then◌else◌
+unfolding found whether◌then◌else◌
 cut_caused x off n S h f = record {
   below = omega arith;
   slip = slip_one S.tables x;

@@ -10,7 +10,7 @@ use native.Mathlib.Omega.{arith}
 use lib.ListN.{length, get_or, take, length-set, drop}
 use lib.Seq.{get_or-set_same, get_or-set_other}
 use lib.Dec.{eqb, leb, eqb→eq, leb→le, le→leb}
-use Rattle.rules.specs.Basics.{Is, if◌then◌else◌, member}
+use Rattle.rules.specs.Basics.{Is, whether◌then◌else◌, member}
 use Rattle.rules.specs.Tables.{Piece, Tables, blank, piece, buffer_count, slip_total, set_piece, with_count, head_of, set_slip, buffer_total, piece_total}
 use Rattle.rules.specs.Chain.{State, chain, stretch, Stretch, stretches, spans, reads, walk, own_pieces, own_of, cut_out, overlaps, splits, own_at}
 use Rattle.rules.specs.Room.{free_pieces, free_with, is_free, is_unheld}
@@ -205,7 +205,7 @@ drop_none T own (d ∷ ds) n e =
 -- the byte n of a piece of which not all before are own
 here_count : (T : Tables) (d a n : ℕ) (xs : List Stretch) → n < (piece T d).len
     → length (drop_here T false d n).more ≡ splits (stretch (piece T d) ∷ xs) a (a + n)
-unfolding drop_here if◌then◌else◌
+unfolding drop_here whether◌then◌else◌
 here_count T d a zero xs h = sym (splits_none (stretch (piece T d) ∷ xs) a (a + 0) (omega arith))
 here_count T d a (suc n) xs h = sym (splits_inside (stretch (piece T d)) xs a n h)
 
@@ -225,15 +225,15 @@ plain_count T (d ∷ ds) a n =
 
 -- a piece that is own needs no other
 own_none : (T : Tables) (d n : ℕ) → length (drop_here T true d n).more ≡ 0
-unfolding drop_here if◌then◌else◌
+unfolding drop_here whether◌then◌else◌
 own_none T d zero = refl
 own_none T d (suc n) = refl
 
 -- the same for the pieces walked from the link m, at most k of them, where all before them are own
 own_count : (T : Tables) (Z : List ℕ) (B k m a n : ℕ) → Good Z B (stretches T (walk k T m))
     → length (drop_plan T true (walk k T m) n).more
-    ≡ (if leb (length (cut_out (stretches T (walk k T m)) 0 n)) (length (own_pieces k T m)) then 0 else splits (stretches T (walk k T m)) a (a + n))
-unfolding drop_plan stretches walk own_pieces cut_out if◌then◌else◌
+    ≡ (whether leb (length (cut_out (stretches T (walk k T m)) 0 n)) (length (own_pieces k T m)) then 0 else splits (stretches T (walk k T m)) a (a + n))
+unfolding drop_plan stretches walk own_pieces cut_out whether◌then◌else◌
 own_count T Z B zero m a n g = refl
 own_count T Z B (suc k) zero a n g = refl
 own_count T Z B (suc k) (suc d) a n g =
@@ -243,7 +243,7 @@ own_count T Z B (suc k) (suc d) a n g =
     let ds = walk k T next in
     let xs = stretches T ds in
     let own = eqb (piece T d).count 1 in
-    let mine = length (if own then d ∷ own_pieces k T next else []) in
+    let mine = length (whether own then d ∷ own_pieces k T next else []) in
     let cut = length (cut_out (x ∷ xs) 0 n) in
     let all = splits (x ∷ xs) a (a + n) in
     ⊎_elim
@@ -255,8 +255,8 @@ own_count T Z B (suc k) (suc d) a n g =
           let c = cut_count x xs n g.1 (omega (arith, g.1)) in
           ap (λ (p : Plan). length p.more) (if_T (leb l n) (drop_plan T own ds (n - l)) (drop_here T own d n) (le→leb l n h))
           ∙ ap (λ b. length (drop_plan T b ds (n - l)).more) e ∙ own_count T Z B k next (a + l) (n - l) g.3
-          ∙ (λ i. if one_more (length (cut_out xs 0 (n - l))) (length (own_pieces k T next)) i then 0 else sym (splits_past x xs a n h) i)
-          ∙ sym (λ i. if leb (c i) (length (o i)) then 0 else all))
+          ∙ (λ i. whether one_more (length (cut_out xs 0 (n - l))) (length (own_pieces k T next)) i then 0 else sym (splits_past x xs a n h) i)
+          ∙ sym (λ i. whether leb (c i) (length (o i)) then 0 else all))
       | no h ↦
           ap (λ (p : Plan). length p.more) (if_F (leb l n) (drop_plan T own ds (n - l)) (drop_here T own d n) (λ u. h (leb→le l n u)))
           ∙ ap (λ b. length (drop_here T b d n).more) e ∙ own_none T d n
@@ -265,7 +265,7 @@ own_count T Z B (suc k) (suc d) a n g =
     (λ t. (
     let o = if_F own (d ∷ own_pieces k T next) [] t in
     let e = is_false own t in
-    (λ i. length (if leb l n then drop_plan T (e i) ds (n - l) else drop_here T (e i) d n).more)
+    (λ i. length (whether leb l n then drop_plan T (e i) ds (n - l) else drop_here T (e i) d n).more)
     ∙ plain_count T (d ∷ ds) a n
     ∙ if_either (λ j. all ≡ j) (leb cut mine) 0 all
     (λ u. splits_none (x ∷ xs) a (a + n) (let q = leb→le cut mine u in let z = cut_nothing x xs n g.1 (omega (arith, ap length o)) in omega arith))
@@ -279,7 +279,7 @@ drop_count T s n h =
     let g = spans_good T s h in
     let z : 0 + n ≡ n = omega arith in
     own_count T T.stock (buffer_total T) (piece_total T) (head_of T s) 0 n g
-    ∙ (λ i. if leb (overlaps_cut T.stock (buffer_total T) xs 0 n g i) (length (own_of T s)) then 0 else splits xs 0 (z i))
+    ∙ (λ i. whether leb (overlaps_cut T.stock (buffer_total T) xs 0 n g i) (length (own_of T s)) then 0 else splits xs 0 (z i))
 
 -- ---- what drop gives back first
 
@@ -344,7 +344,7 @@ none_before Z B x xs a (suc n) g l = omega (arith, cut_first x xs (suc n) g.1 l,
 back_count : (rank : ℕ → ℕ) (T : Tables) (Z : List ℕ) (B k m a n : ℕ) → Falls rank T → AllUsed T (walk k T m) → Good Z B (stretches T (walk k T m))
     → own_pieces k (drop_plan T true (walk k T m) n).base m
     ≡ take (length (cut_out (stretches T (walk k T m)) 0 n) - splits (stretches T (walk k T m)) a (a + n)) (own_pieces k T m)
-unfolding drop_plan stretches walk own_pieces if◌then◌else◌
+unfolding drop_plan stretches walk own_pieces whether◌then◌else◌
 back_count rank T Z B zero m a n f u g = sym (take_none (length (cut_out [] 0 n) - splits [] a (a + n)))
 back_count rank T Z B (suc k) zero a n f u g = sym (take_none (length (cut_out [] 0 n) - splits [] a (a + n)))
 back_count rank T Z B (suc k) (suc d) a n f u g =
@@ -355,7 +355,7 @@ back_count rank T Z B (suc k) (suc d) a n f u g =
     let xs = stretches T ds in
     let own = eqb (piece T d).count 1 in
     let j = length (cut_out (x ∷ xs) 0 n) - splits (x ∷ xs) a (a + n) in
-    let mine : Tables → List ℕ = λ B. (if eqb (piece B d).count 1 then d ∷ own_pieces k B (piece B d).next else []) in
+    let mine : Tables → List ℕ = λ B. (whether eqb (piece B d).count 1 then d ∷ own_pieces k B (piece B d).next else []) in
     let none : (B : Tables) → (piece B d).count ≢ 1 → mine B ≡ [] = λ B n. if_F (eqb (piece B d).count 1) (d ∷ own_pieces k B (piece B d).next) [] (λ t. n (eqb→eq (piece B d).count 1 t)) in
     elim (dec_le l n) [
       | yes h ↦ (
@@ -366,7 +366,7 @@ back_count rank T Z B (suc k) (suc d) a n f u g =
           let e = is_true own t in
           let X = (drop_plan T true ds (n - l)).base in
           ap (λ (b : Bool). mine (drop_plan T b ds (n - l)).base) e
-          ∙ (λ i. if eqb (here true i).count 1 then d ∷ own_pieces k X (here true i).next else [])
+          ∙ (λ i. whether eqb (here true i).count 1 then d ∷ own_pieces k X (here true i).next else [])
           ∙ if_T own (d ∷ own_pieces k X next) [] t
           ∙ ap {B = List ℕ} (λ q. d ∷ q) (back_count rank T Z B k next (a + l) (n - l) f u.1 g.3)
           ∙ ap (λ i. take i (d ∷ own_pieces k T next)) (one_less x xs a n g h)
@@ -377,7 +377,7 @@ back_count rank T Z B (suc k) (suc d) a n f u g =
       | no h ↦
           ap (λ (p : Plan). mine p.base) (if_F (leb l n) (drop_plan T own ds (n - l)) (drop_here T own d n) (λ t. h (leb→le l n t)))
           ∙ none (drop_here T own d n).base (here_two rank T d n f u.0)
-          ∙ ap (λ i. take i (if own then d ∷ own_pieces k T next else [])) (sym (none_before Z B x xs a n g (omega arith)))
+          ∙ ap (λ i. take i (whether own then d ∷ own_pieces k T next else [])) (sym (none_before Z B x xs a n g (omega arith)))
     ]
   where
     one_less : (x : Stretch) (xs : List Stretch) (a n : ℕ) → Good Z B (x ∷ xs) → x.len ≤ n
@@ -425,7 +425,7 @@ cut_stays (suc k) rank T own (suc x) n r d f u b =
     let next = (piece T x).next in
     let ds = walk k T next in
     let p = drop_plan T own' ds (n - l) in
-    let mine : Tables → List ℕ = λ B. (if eqb (piece B x).count 1 then x ∷ own_pieces k B (piece B x).next else []) in
+    let mine : Tables → List ℕ = λ B. (whether eqb (piece B x).count 1 then x ∷ own_pieces k B (piece B x).next else []) in
     if_both (λ (link : ℕ) (q : Plan). link ≡ suc d → (rank d < r) × (0 < (piece T d).count) × (Is own → Is (member d (mine q.base)) → ⊥))
     (leb l n) (link_past T ds (n - l)) (suc x) p (drop_here T own' x n)
     (λ _ e. (
@@ -574,7 +574,7 @@ drop_takes x n S h a =
     (passing_none (is_unheld T) (buffers_of (drop_out (spans T s) n)) (drop_out_none (is_unheld T) (spans T s) n (spans_none T s h))))
 
 drop_caused : (x : Name) (n : ℕ) → Causing (drop_call x n)
-unfolding found if◌then◌else◌
+unfolding found whether◌then◌else◌
 drop_caused x n S h f = record {
   below = omega arith;
   slip = slip_one S.tables x;

@@ -5,7 +5,7 @@ use mathlib.Core.List.{[], ◌∷◌, List, ◌++◌}
 use Prim.Native.Nat.{ℕ, zero, suc, ◌<◌, ◌≤◌, min, pred}
 use native.Mathlib.Omega.{arith}
 use lib.ListN.{length, take, drop}
-use Rattle.rules.specs.Basics.{if◌then◌else◌}
+use Rattle.rules.specs.Basics.{whether◌then◌else◌}
 use Rattle.rules.specs.Tables.{Tables, piece, head_of, buffer_total}
 use Rattle.rules.specs.Chain.{State, stretches, Stretch, chain, stretch, spans, reads, total}
 use Rattle.rules.specs.Release.{shared}
@@ -110,7 +110,7 @@ dup_count T n l stop g = omega arith
 dup_count T n l (go c) g = omega (arith, g.1)
 
 dup_caused : (x : Name) → Causing (dup_call x)
-unfolding found if◌then◌else◌
+unfolding found whether◌then◌else◌
 dup_caused x S h f = record {
   below = omega arith;
   slip = slip_one S.tables x;

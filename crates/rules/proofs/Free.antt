@@ -7,7 +7,7 @@ use native.Mathlib.Omega.{arith}
 use native.Mathlib.Decide.{ℕ_discrete}
 use lib.ListN.{get_or, set}
 use Rattle.kinds.specs.Serial.{older}
-use Rattle.rules.specs.Basics.{if◌then◌else◌}
+use Rattle.rules.specs.Basics.{whether◌then◌else◌}
 use Rattle.rules.specs.Tables.{slip_total, slip, vacant, Tables, buffer_total}
 use Rattle.rules.specs.Chain.{State}
 use Rattle.rules.specs.Release.{turned}
@@ -59,7 +59,7 @@ free_takes s S b h h' =
     (λ u z. elim (ℕ_discrete u s) [ yes e ↦ ap (slip T') e ∙ gone | no e ↦ stay u e ∙ z ])
 
 free_caused : (x : Name) → Causing (free_call x)
-unfolding found if◌then◌else◌
+unfolding found whether◌then◌else◌
 free_caused x S h f = record {
   below = omega arith;
   slip = slip_one S.tables x;

@@ -10,7 +10,7 @@ use native.Mathlib.Omega.{arith}
 use lib.ListN.{length, get_or, take, length-set}
 use lib.Seq.{get_or-set_same, get_or-set_other}
 use lib.Dec.{eqb, eqb→eq}
-use Rattle.rules.specs.Basics.{Is, if◌then◌else◌, bit, sum_to, places, passing, member}
+use Rattle.rules.specs.Basics.{Is, whether◌then◌else◌, bit, sum_to, places, passing, member}
 use Rattle.rules.specs.Tables.{Piece, Tables, blank, slip, piece, buffer_count, head_of, holding, slip_total, piece_total, buffer_total, set_slip, with_count}
 use Rattle.rules.specs.Chain.{State, Stretch, chain, stretches, spans, own_pieces, own_of, bytes_of, contents, with_tables, with_storage}
 use Rattle.rules.specs.Storage.{whole_of, Zeroed}
@@ -46,7 +46,7 @@ own_low (suc k) r rank T T' (suc d) f b h =
     let l = b d refl in
     let e = h d l in
     let more = own_low k r rank T T' (piece T d).next f (λ x q. (let z = f d x q in omega arith)) h in
-    (λ i. if eqb (e i).count 1 then d ∷ own_pieces k T' (e i).next else []) ∙ (λ i. if eqb (piece T d).count 1 then d ∷ more i else [])
+    (λ i. whether eqb (e i).count 1 then d ∷ own_pieces k T' (e i).next else []) ∙ (λ i. whether eqb (piece T d).count 1 then d ∷ more i else [])
 
 -- From T to T' the pieces ds, which were in use, are given back; no other piece is freed or taken.
 pub record Frees (T T' : Tables) (ds : List ℕ) : Type 0 where
@@ -338,13 +338,13 @@ freed_stays S xs p s k h l f a =
     let cs : (b : ℕ) → buffer_count p.base b ≡ buffer_count T b = λ b. ap (λ (q : List ℕ). get_or q b 0) h.still.counts_still in
     record {
       as_long = q.as_long ∙ w.as_long;
-      others = λ b i n w₀ g.
+      others = λ b i n g.
           subst (λ (Z : List ℕ). bytes_of Z E.storage (whole_of Z b) ≡ bytes_of Z S₁.storage (whole_of Z b)) z.stock_kept
           (q.others b (omega (arith, z.counts_size))
           (λ u. ⊎_elim (λ t. spared_at p.base E.tables b p.more a (member_in b (buffers_of p.more) t) u)
           (λ t. omega (arith, cs b, g (omega (arith, cs b)), built_count E.tables (free_pieces E.tables) p.more p.tail b (λ m. t (in_member b (buffers_of p.more) m))))
           (is_dec (member b (buffers_of p.more)))))
-          ∙ w.others b i n w₀ (λ u. omega (arith, cs b));
+          ∙ w.others b i n (λ u. omega (arith, cs b));
       clean = λ b i u e.
           subst (λ (Z : List ℕ). Zeroed Z E.storage b) z.stock_kept
           (q.clean b (omega (arith, z.counts_size)) (omega (arith, cs b))

@@ -8,7 +8,7 @@ use native.Mathlib.Omega.{arith}
 use lib.ListN.{length}
 use lib.Dec.{leb, leb→le, le→leb}
 use Rattle.kinds.specs.declared.Refusal.TheVariants.{Torn}
-use Rattle.rules.specs.Basics.{Is, if◌then◌else◌}
+use Rattle.rules.specs.Basics.{Is, whether◌then◌else◌}
 use Rattle.rules.specs.Tables.{Tables}
 use Rattle.rules.specs.Bytes.{decode}
 use Rattle.rules.specs.Chain.{with_tables, spans, first_length, own_of}

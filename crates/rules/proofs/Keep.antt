@@ -8,7 +8,7 @@ use lib.ListN.{length, get_or, drop, take, take-append-drop, length-drop}
 use lib.Seq.{get_or-set_same, get_or-set_other, take_all}
 use lib.Dec.{eqb, leb, leb→le, eqb→eq}
 use Rattle.kinds.proofs.Sizes.{size_one}
-use Rattle.rules.specs.Basics.{last_of, if◌then◌else◌}
+use Rattle.rules.specs.Basics.{last_of, whether◌then◌else◌}
 use Rattle.rules.specs.Tables.{Piece, Tables, blank, piece, head_of, slip_total, buffer_total, set_piece, with_place, slip, set_slip, piece_total}
 use Rattle.rules.specs.Chain.{State, Stretch, spans, length_of, stretch, stretches, cut_out, with_tables, reads, chain, own_of, overlaps}
 use Rattle.rules.specs.Room.{free_pieces, is_free, is_unheld}
@@ -404,7 +404,7 @@ keep_count T s n h =
     )
 
 keep_caused : (x : Name) (n : ℕ) → Causing (keep_call x n)
-unfolding found if◌then◌else◌
+unfolding found whether◌then◌else◌
 keep_caused x n S h f = record {
   below = omega arith;
   slip = slip_one S.tables x;
@@ -412,7 +412,7 @@ keep_caused x n S h f = record {
   long = none_less 512;
   range = past_is S h f x.slip n;
   narrow = none_less 0;
-  asked = λ z. (λ i. want 0 (if eqb n (sym (reads_length S h f x.slip) i) then 0 else keep_count S.tables x.slip n h i) 0);
+  asked = λ z. (λ i. want 0 (whether eqb n (sym (reads_length S h f x.slip) i) then 0 else keep_count S.tables x.slip n h i) 0);
 }
 
 pub keep_lawful : (x : Name) (n : ℕ) → Lawful (keep_call x n)

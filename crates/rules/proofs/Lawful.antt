@@ -10,7 +10,7 @@ use lib.ListN.{length, get_or, set, length-set}
 use lib.Seq.{get_or-set_same, get_or-set_other}
 use lib.Dec.{T_not}
 use Rattle.kinds.specs.Serial.{older}
-use Rattle.rules.specs.Basics.{Is, if◌then◌else◌, Among}
+use Rattle.rules.specs.Basics.{Is, whether◌then◌else◌, Among}
 use Rattle.rules.specs.Tables.{Tables, buffer_count, buffer_total, slip, slip_total, with_serials}
 use Rattle.rules.specs.Chain.{State}
 use Rattle.rules.specs.Room.{is_vacant, new_slip, ready_slips}
@@ -27,7 +27,7 @@ use Rattle.rules.proofs.Caused.{Caused, found, slip_none, none_less}
 use Rattle.rules.proofs.Sizes.{Sizes, same_sizes}
 use Rattle.rules.proofs.After.{at_here, at_there, Reading}
 use Rattle.rules.proofs.Takes.{nothing_taken}
-use Rattle.rules.proofs.Stays.{StaysBut, stays_as}
+use Rattle.rules.proofs.Stays.{StorageStays, stays_as}
 
 -- each change is of a slip that is named, or that was vacant
 abbrev pub Known : Tables → List ℕ → List Change → Type 0
@@ -41,7 +41,7 @@ Leaving m = (S : State) → SoundNow S.tables → Fit S.tables.stock (buffer_tot
 
 abbrev pub Staying : Meaning → Type 0
 Staying m = (S : State) → SoundNow S.tables → Fit S.tables.stock (buffer_total S.tables) S.storage → Allowed (m.rule S) S.tables
-    → StaysBut S (m.rule S).after (m.rule S).wants.buffers (m.in_place S)
+    → StorageStays S (m.rule S).after (m.rule S).wants.buffers
 
 abbrev pub Taking : Meaning → Type 0
 Taking m = (S : State) → SoundNow S.tables → Allowed (m.rule S) S.tables → SoundNow (m.rule S).after.tables
@@ -84,7 +84,7 @@ pub record Lawful (m : Meaning) : Type 0 where
   -- tables stay as long as they were, and only serials of vacated slips move
   pub sizes : (S : State) → Sizes (with_serials S.tables (aged_by (m.changes S) S.tables.serials)) (m.rule S).after.tables
   pub ages : (S : State) → Allowed (m.rule S) S.tables → Ageable (slip_total S.tables) (m.changes S)
-  -- once it is done: storage stays as long as it was, and so does every byte of a buffer that is neither taken nor set free nor written where it lies; one set free is zero
+  -- once it is done: storage stays as long as it was, and so does every byte of a buffer that is neither taken nor set free; one set free is zero
   pub stays : Staying m
   -- soundness is kept, and only slips that it names or takes are changed
   pub sound : (S : State) → SoundNow S.tables → Allowed (m.rule S) S.tables → SoundNow (m.rule S).after.tables
@@ -110,12 +110,12 @@ others_stay g f T ns (c ∷ cs) t k n v =
 
 -- one change
 aged_one : (b : Bool) (s : ℕ) (cs : List Change) (ks : List ℕ) (t : ℕ) → (Is b → s < length ks) → (Is (vacated_by cs s) → ⊥)
-    → get_or (aged_by cs ks) t 0 ≡ (if vacated_by cs t then older (get_or ks t 0) else get_or ks t 0) → length (aged_by cs ks) ≡ length ks
-    → get_or (aged_if b s (aged_by cs ks)) t 0 ≡ (if at s b (vacated_by cs) t then older (get_or ks t 0) else get_or ks t 0)
+    → get_or (aged_by cs ks) t 0 ≡ (whether vacated_by cs t then older (get_or ks t 0) else get_or ks t 0) → length (aged_by cs ks) ≡ length ks
+    → get_or (aged_if b s (aged_by cs ks)) t 0 ≡ (whether at s b (vacated_by cs) t then older (get_or ks t 0) else get_or ks t 0)
 aged_one b s cs ks t l n r z =
     let qs = aged_by cs ks in
     let k = get_or ks t 0 in
-    let P : Bool → Type 0 = λ c. get_or (aged_if b s qs) t 0 ≡ (if c then older k else k) in
+    let P : Bool → Type 0 = λ c. get_or (aged_if b s qs) t 0 ≡ (whether c then older k else k) in
     elim (ℕ_discrete t s) [
       | yes q ↦ (
           let was : get_or qs s 0 ≡ get_or ks s 0 = ap (λ u. get_or qs u 0) (sym q) ∙ r ∙ if_F (vacated_by cs t) (older k) k (λ v. n (subst (λ u. Is (vacated_by cs u)) q v)) ∙ ap (λ u. get_or ks u 0) q in
@@ -124,7 +124,7 @@ aged_one b s cs ks t l n r z =
     ]
   where
     one : (c : Bool) → t ≡ s → get_or (aged_by cs ks) s 0 ≡ get_or ks s 0 → (Is c → s < length ks)
-        → get_or (aged_if c s (aged_by cs ks)) t 0 ≡ (if c then older (get_or ks t 0) else get_or ks t 0)
+        → get_or (aged_if c s (aged_by cs ks)) t 0 ≡ (whether c then older (get_or ks t 0) else get_or ks t 0)
     one true q was l =
         ap (λ u. get_or (set (aged_by cs ks) s (older (get_or (aged_by cs ks) s 0))) u 0) q
         ∙ get_or-set_same (aged_by cs ks) s _ 0 (omega (arith, z, l tt)) ∙ ap older (was ∙ ap (λ u. get_or ks u 0) (sym q)) ∙ sym (if_T true _ _ tt)
@@ -135,7 +135,7 @@ aged_one b s cs ks t l n r z =
     other false q = refl
 
 -- the serial of slip t once the changes are made
-pub aged_at : (cs : List Change) (ks : List ℕ) (t : ℕ) → Ageable (length ks) cs → get_or (aged_by cs ks) t 0 ≡ (if vacated_by cs t then older (get_or ks t 0) else get_or ks t 0)
+pub aged_at : (cs : List Change) (ks : List ℕ) (t : ℕ) → Ageable (length ks) cs → get_or (aged_by cs ks) t 0 ≡ (whether vacated_by cs t then older (get_or ks t 0) else get_or ks t 0)
 aged_at [] ks t a = sym (if_F false _ _ (λ z. z))
 aged_at (c ∷ cs) ks t a = aged_one c.vacated c.slip cs ks t a.0 a.1 (aged_at cs ks t a.2) (aged_size cs ks)
 

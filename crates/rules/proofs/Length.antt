@@ -4,7 +4,7 @@ use mathlib.Core.List.{[], ◌∷◌}
 use Prim.Native.Nat.{ℕ}
 use native.Mathlib.Omega.{arith}
 use lib.ListN.{length}
-use Rattle.rules.specs.Basics.{if◌then◌else◌}
+use Rattle.rules.specs.Basics.{whether◌then◌else◌}
 use Rattle.rules.specs.Tables.{buffer_total}
 use Rattle.rules.specs.Chain.{State, reads}
 use Rattle.rules.specs.Rule.{Name, asks_nothing}
@@ -24,7 +24,7 @@ length_is s S h f = sym (reads_length S h f s.slip)
 -- ---- length only looks
 
 length_caused : (x : Name) → Causing (length_call x)
-unfolding found if◌then◌else◌
+unfolding found whether◌then◌else◌
 length_caused x S h f = record {
   below = omega arith;
   slip = slip_one S.tables x;

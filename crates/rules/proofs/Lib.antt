@@ -42,12 +42,6 @@ pub mod Length
 pub mod Read
 pub mod Show
 pub mod List
--- what write is made of: pieces replaced, pieces moved to fresh buffers, bytes written over
-pub mod Lone
-pub mod Replaced
-pub mod Moved
-pub mod Over
-pub mod Write
 -- the reader without a pool
 pub mod Gather
 -- all calls together
@@ -73,6 +67,6 @@ pub mod Most
 pub mod Lists
 pub mod Serials
 pub mod Clean
+pub mod Cleaned
 pub mod Settles
 pub mod Morning
-pub mod Cases

@@ -6,7 +6,7 @@ use Prim.Native.Nat.{ℕ, ◌*◌, ◌<◌}
 use native.Mathlib.Omega.{arith}
 use lib.ListN.{length, take, drop}
 use lib.Dec.{ltb}
-use Rattle.rules.specs.Basics.{Is, if◌then◌else◌}
+use Rattle.rules.specs.Basics.{Is, whether◌then◌else◌}
 use Rattle.rules.specs.Chain.{State, Stretch, chain, spans}
 use Rattle.rules.specs.Rule.{Name}
 use Rattle.rules.specs.List.{records, list_asks, list_call, wire_list}
@@ -48,7 +48,7 @@ list_exact s list S a =
 -- ---- list only looks
 
 list_caused : (x : Name) (list : List ℕ) → Causing (list_call x list)
-unfolding found if◌then◌else◌
+unfolding found whether◌then◌else◌
 list_caused x list S h f = record {
   below = omega arith;
   slip = slip_one S.tables x;

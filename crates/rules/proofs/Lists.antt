@@ -17,7 +17,7 @@ use Rattle.rules.specs.Room.{is_vacant}
 use Rattle.rules.specs.Rule.{Name, answered}
 use Rattle.rules.specs.Read.{copied}
 use Rattle.rules.specs.Open.{openable}
-use Rattle.rules.specs.Step.{Audit, Put, Free, Dup, Cut, Append, Drop, Keep, Pullup, Pack, Length, Read, Show, WireList, Write}
+use Rattle.rules.specs.Step.{Audit, Put, Free, Dup, Cut, Append, Drop, Keep, Pullup, Pack, Length, Read, Show, WireList}
 use Rattle.rules.specs.Step.{Call, Open, Do, rule, step, state_in, next, after_calls}
 use Rattle.rules.specs.Lists.{Spared, Spares}
 use Rattle.rules.proofs.Step.{did, next_refused, open_code, step_keeps}
@@ -68,8 +68,7 @@ put_calls_read input out m cs e s l =
 -- Every call on the slips of s and r, and an open that is refused, spares any third slip.
 pub spares_others : (t : ℕ) (s r : Name) (off n : ℕ) (xs : List ℕ) (m : Lent) → t ≢ s.slip → t ≢ r.slip
     → Spares t (Do Audit ∷ Do (Put xs) ∷ Do (Free s) ∷ Do (Dup s) ∷ Do (Cut s off n) ∷ Do (Append s r) ∷ Do (Drop s n) ∷ Do (Keep s n) ∷ Do (Pullup s n)
-    ∷ Do (Pack s) ∷ Do (Length s) ∷ Do (Read s off n xs) ∷ Do (Show s n xs) ∷ Do (WireList s xs) ∷ Do (Write s off xs)
-    ∷ Open 0 6 4 ∷ []) m
+    ∷ Do (Pack s) ∷ Do (Length s) ∷ Do (Read s off n xs) ∷ Do (Show s n xs) ∷ Do (WireList s xs) ∷ Open 0 6 4 ∷ []) m
 unfolding openable
 spares_others t s r off n xs m a b =
-    (λ x. x, (λ x. x, (a, (a, (a, (⊎_elim a b, (a, (a, (a, (a, (a, (a, (a, (a, (a, (λ e. (open_code 0 6 4 _).0 e, tt))))))))))))))))
+    (λ x. x, (λ x. x, (a, (a, (a, (⊎_elim a b, (a, (a, (a, (a, (a, (a, (a, (a, (λ e. (open_code 0 6 4 _).0 e, tt)))))))))))))))

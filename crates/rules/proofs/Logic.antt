@@ -9,29 +9,29 @@ use native.Mathlib.Decide.{ℕ_discrete, dec_lt, dec_le}
 use native.Mathlib.Omega.{arith}
 use lib.ListN.{length, get_or}
 use lib.Dec.{ltb, lt→ltb, eqb, eqb→eq, eqb_refl, leb, le→leb}
-use Rattle.rules.specs.Basics.{Is, if◌then◌else◌, bit, all_to, any_to, table}
+use Rattle.rules.specs.Basics.{Is, whether◌then◌else◌, bit, all_to, any_to, table}
 
 -- ---- if
 
-pub if_T : {A : Type 0} (b : Bool) (m n : A) → Is b → (if b then m else n) ≡ m
-unfolding if◌then◌else◌
+pub if_T : {A : Type 0} (b : Bool) (m n : A) → Is b → (whether b then m else n) ≡ m
+unfolding whether◌then◌else◌
 if_T true m n t = refl
 if_T false m n t = absurd t
 
-pub if_F : {A : Type 0} (b : Bool) (m n : A) → (Is b → ⊥) → (if b then m else n) ≡ n
-unfolding if◌then◌else◌
+pub if_F : {A : Type 0} (b : Bool) (m n : A) → (Is b → ⊥) → (whether b then m else n) ≡ n
+unfolding whether◌then◌else◌
 if_F true m n t = absurd (t tt)
 if_F false m n t = refl
 
 -- what holds of both branches, each under its test, holds of the choice
-pub if_either : {A : Type 0} (P : A → Type 0) (b : Bool) (m n : A) → (Is b → P m) → ((Is b → ⊥) → P n) → P (if b then m else n)
-unfolding if◌then◌else◌
+pub if_either : {A : Type 0} (P : A → Type 0) (b : Bool) (m n : A) → (Is b → P m) → ((Is b → ⊥) → P n) → P (whether b then m else n)
+unfolding whether◌then◌else◌
 if_either P true m n f g = f tt
 if_either P false m n f g = g (λ t. t)
 
 -- and so of two choices by the same test
-pub if_both : {A B : Type 0} (P : A → B → Type 0) (b : Bool) (m n : A) (x y : B) → (Is b → P m x) → ((Is b → ⊥) → P n y) → P (if b then m else n) (if b then x else y)
-unfolding if◌then◌else◌
+pub if_both : {A B : Type 0} (P : A → B → Type 0) (b : Bool) (m n : A) (x y : B) → (Is b → P m x) → ((Is b → ⊥) → P n y) → P (whether b then m else n) (whether b then x else y)
+unfolding whether◌then◌else◌
 if_both P true m n x y f g = f tt
 if_both P false m n x y f g = g (λ t. t)
 

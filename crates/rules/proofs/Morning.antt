@@ -6,7 +6,7 @@ use native.Mathlib.Omega.{arith}
 use lib.ListN.{length, get_or, take, replicate}
 use Rattle.word.specs.Word.{get16}
 use Rattle.kinds.specs.Sizes.{class_of}
-use Rattle.rules.specs.Basics.{if◌then◌else◌, all_to, any_to, places, member}
+use Rattle.rules.specs.Basics.{whether◌then◌else◌, all_to, any_to, places, member}
 use Rattle.rules.specs.Tables.{fresh_tables, piece_total}
 use Rattle.rules.specs.Bytes.{decode, encode}
 use Rattle.rules.specs.Chain.{follow, walk, own_pieces, stretches, total, cut_out, contents, reads}
@@ -33,13 +33,13 @@ use Rattle.rules.specs.Step.{Open, Do, rule, done, perform, step, state_in, left
 use Rattle.rules.specs.Morning.{Row, byte_run, first, rows, fresh4, given, Edge, edge, edges, tried, FullTable, full_table, put600, full_tables, tried_full, serial_rows, tried_serials}
 
 -- unfolding this unfolds every rule
-unfoldable pub every_rule : Unit {0}
-unfolding get16 class_of if◌then◌else◌ all_to places decode encode follow walk own_pieces stretches total cut_out contents heads nexts lying is_header_ok acyclic sound_tables sound release_in release turned relinked built_link built under_new under_old under_freed behind_own laid filled_at stored first_code put_after dup_plan dup_after cut_after joined appended drop_here drop_plan drop_after shortened kept_by keep_after pullup_after pullup_wants pack_after pack_wants rule done perform step
+every_rule : Unit {0}
+unfolding get16 class_of whether◌then◌else◌ all_to places decode encode follow walk own_pieces stretches total cut_out contents heads nexts lying is_header_ok acyclic sound_tables sound release_in release turned relinked built_link built under_new under_old under_freed behind_own laid filled_at stored first_code put_after dup_plan dup_after cut_after joined appended drop_here drop_plan drop_after shortened kept_by keep_after pullup_after pullup_wants pack_after pack_wants rule done perform step
 every_rule = tt
 
 -- fresh4 is what open 4, 6, 4 leaves of any 95 bytes over storage of bytes 238
 pub fresh4_open : (q : List ℕ) → length q ≡ 95 → next (Open 4 6 4) (lent q (replicate 2048 238)) ≡ fresh4
-unfolding step openable if◌then◌else◌ class_of
+unfolding step openable whether◌then◌else◌ class_of
 fresh4_open q e = rw e
 
 -- along the calls of the ten rows the rules give every column of the ten rows

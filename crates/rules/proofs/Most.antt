@@ -195,6 +195,7 @@ length_uncaused S x z some few Slip (t, e, inr (inl v)) =
 length_uncaused S x z some few Slip (t, e, inr (inr n)) =
     n (ap (λ (y : Name). serial S.tables y.slip) (e ∙ z) ∙ sym (ap (λ (y : Name). y.serial) (e ∙ z)))
 length_uncaused S x z some few Same (inl c) = c
+length_uncaused S x z some few Same (inr i) = elim i [ ]
 length_uncaused S x z some few Long c = omega arith
 length_uncaused S x z some few Range c = omega arith
 length_uncaused S x z some few Narrow c = omega arith

@@ -11,7 +11,7 @@ use lib.ListN.{length, get_or, set, length-set, get_or-eq_default}
 use lib.Seq.{get_or-set_same, get_or-set_other}
 use lib.Dec.{eqb, eqb→eq, eqb_refl, lt→ltb}
 use Rattle.kinds.specs.Sizes.{size_of}
-use Rattle.rules.specs.Basics.{if◌then◌else◌, bit, sum_to}
+use Rattle.rules.specs.Basics.{whether◌then◌else◌, bit, sum_to}
 use Rattle.rules.specs.Tables.{Piece, Tables, blank, piece, buffer_count, head_of, set_slip, set_piece, set_piece_count, with_count, with_next, with_place, with_both}
 use Rattle.rules.specs.Sound.{in_use, leads, heads, lying}
 use Rattle.rules.specs.Release.{raised, lowered}
@@ -239,7 +239,7 @@ free_move {rank} {fl} {T} d h S =
 -- ---- a new rank for a piece that no piece has for its next
 
 abbrev pub over : (ℕ → ℕ) → ℕ → ℕ → ℕ → ℕ
-over rank i v x = if eqb x i then v else rank x
+over rank i v x = whether eqb x i then v else rank x
 
 over_same : (rank : ℕ → ℕ) (i v : ℕ) → over rank i v i ≡ v
 over_same rank i v = if_T (eqb i i) v (rank i) (eqb_refl i)

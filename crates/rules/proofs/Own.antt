@@ -7,7 +7,7 @@ use Prim.Native.Nat.{ℕ, zero, suc, ◌+◌, ◌-◌, ◌≤◌, ◌<◌}
 use native.Mathlib.Omega.{arith}
 use lib.ListN.{length, get_or, take}
 use lib.Dec.{eqb, eqb→eq, leb, le→leb, leb→le, ltb, ltb→lt, lt→ltb}
-use Rattle.rules.specs.Basics.{if◌then◌else◌}
+use Rattle.rules.specs.Basics.{whether◌then◌else◌}
 use Rattle.rules.specs.Tables.{Tables, piece, head_of, piece_total}
 use Rattle.rules.specs.Chain.{walk, chain, own_pieces, own_of, stretches, spans, total, own_at}
 use Rattle.rules.specs.Keep.{kept, kept_own}
@@ -70,14 +70,14 @@ keep_own T s n =
 
 -- ---- drop
 
-own_zero : (own b : Bool) (d : ℕ) (l : List ℕ) → (own && b) ≡ (own && ltb 0 (length (if b then d ∷ l else [])))
-unfolding if◌then◌else◌
+own_zero : (own b : Bool) (d : ℕ) (l : List ℕ) → (own && b) ≡ (own && ltb 0 (length (whether b then d ∷ l else [])))
+unfolding whether◌then◌else◌
 own_zero true true d l = sym (is_true _ (lt→ltb 0 (suc (length l)) (omega arith)))
 own_zero true false d l = refl
 own_zero false b d l = refl
 
-own_suc : (own b : Bool) (i d : ℕ) (l : List ℕ) → ((own && b) && ltb i (length l)) ≡ (own && ltb (suc i) (length (if b then d ∷ l else [])))
-unfolding if◌then◌else◌
+own_suc : (own b : Bool) (i d : ℕ) (l : List ℕ) → ((own && b) && ltb i (length l)) ≡ (own && ltb (suc i) (length (whether b then d ∷ l else [])))
+unfolding whether◌then◌else◌
 own_suc true true i d l =
     same_test _ _ (λ t. lt→ltb (suc i) (suc (length l)) (let q = ltb→lt i (length l) t in omega arith))
     (λ t. lt→ltb i (length l) (let q = ltb→lt (suc i) (suc (length l)) t in omega arith))

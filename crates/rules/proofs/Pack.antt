@@ -6,7 +6,7 @@ use Prim.Native.Nat.{ℕ, ◌<◌, ◌≤◌}
 use native.Mathlib.Omega.{arith}
 use lib.ListN.{length, take}
 use lib.Dec.{leb}
-use Rattle.rules.specs.Basics.{if◌then◌else◌}
+use Rattle.rules.specs.Basics.{whether◌then◌else◌}
 use Rattle.rules.specs.Tables.{slip_total, piece_total}
 use Rattle.rules.specs.Chain.{State, chain, length_of, stretches, contents, reads, with_storage}
 use Rattle.rules.specs.Room.{free_pieces, new_buffers, free_buffers, is_free}
@@ -91,7 +91,7 @@ pack_takes x S h a h'' =
     h'' (roomy a)
 
 pack_caused : (x : Name) → Causing (pack_call x)
-unfolding found if◌then◌else◌ pack_wants
+unfolding found whether◌then◌else◌ pack_wants
 pack_caused x S h f = record {
   below = omega arith;
   slip = slip_one S.tables x;
@@ -99,7 +99,7 @@ pack_caused x S h f = record {
   long = none_less 512;
   range = none_less _;
   narrow = none_less 0;
-  asked = λ z. ap (λ k. if leb (length (chain S.tables x.slip)) 1 then want 0 0 0 else want 0 (buffers_for k) (buffers_for k)) (sym (reads_length S h f x.slip));
+  asked = λ z. ap (λ k. whether leb (length (chain S.tables x.slip)) 1 then want 0 0 0 else want 0 (buffers_for k) (buffers_for k)) (sym (reads_length S h f x.slip));
 }
 
 pack_stays : (x : Name) → Staying (pack_call x)

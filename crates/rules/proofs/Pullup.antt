@@ -8,7 +8,7 @@ use native.Mathlib.Omega.{arith}
 use lib.ListN.{length, get_or, length-take, take, length-append, drop, take-append-drop}
 use lib.Dec.{eqb→eq, leb}
 use Rattle.kinds.specs.Sizes.{size_of}
-use Rattle.rules.specs.Basics.{passing, if◌then◌else◌}
+use Rattle.rules.specs.Basics.{passing, whether◌then◌else◌}
 use Rattle.rules.specs.Tables.{Tables, buffer_count, slip_total, buffer_total}
 use Rattle.rules.specs.Chain.{State, spans, first_length, Stretch, stretches, chain, contents, reads, with_storage}
 use Rattle.rules.specs.Room.{is_unheld, free_pieces, free_with, free_buffers, new_buffers}
@@ -85,8 +85,9 @@ new_spared T B E i (b ∷ bs) n e a = (
 
 pulled_spared : (S : State) (T : Tables) (s n : ℕ) → s < slip_total T → SoundNow T → Spared (pulled T s n).base (emptied S (pulled T s n) s).tables (pulled T s n).more
 pulled_spared S T s n l h =
-    spared_append (dropped T s n).base _ (laid T.stock (new_buffers T 1) n) (dropped T s n).more
-    (new_spared T (dropped T s n).base _ 0 (new_buffers T 1) n (dropped_planned T s n h).still.counts_still (new_buffers_in T 1)) (dropped_spared S T s n l h)
+    let E = (emptied S (pulled T s n) s).tables in
+    spared_append (dropped T s n).base E (laid T.stock (new_buffers T 1) n) (dropped T s n).more
+    (new_spared T (dropped T s n).base E 0 (new_buffers T 1) n (dropped_planned T s n h).still.counts_still (new_buffers_in T 1)) (dropped_spared S T s n l h)
 
 -- ---- pullup is lawful
 
@@ -152,7 +153,7 @@ pullup_takes x n S h a h'' =
     h'' (roomy a)
 
 pullup_caused : (x : Name) (n : ℕ) → Causing (pullup_call x n)
-unfolding found if◌then◌else◌ pullup_wants
+unfolding found whether◌then◌else◌ pullup_wants
 pullup_caused x n S h f = record {
   below = omega arith;
   slip = slip_one S.tables x;
@@ -163,7 +164,7 @@ pullup_caused x n S h f = record {
   asked = λ z. (
       let T = S.tables in
       let e : suc (length (dropped T x.slip n).more) ≡ 1 + drop_pieces T x.slip n = omega (arith, drop_count T x.slip n h) in
-      λ i. if leb n (first_length (spans T x.slip)) then want 0 0 0 else giving (drop_back_lem T x.slip n h i) (e i) 1);
+      λ i. whether leb n (first_length (spans T x.slip)) then want 0 0 0 else giving (drop_back_lem T x.slip n h i) (e i) 1);
 }
 
 pullup_stays : (x : Name) (n : ℕ) → Staying (pullup_call x n)

@@ -5,7 +5,7 @@ use Prim.Native.Nat.{ℕ, ◌≤◌, ◌+◌}
 use native.Mathlib.Omega.{arith}
 use lib.ListN.{length, take, drop, length-append, length-take, length-drop}
 use lib.Seq.{take_at, drop_at}
-use Rattle.rules.specs.Basics.{if◌then◌else◌}
+use Rattle.rules.specs.Basics.{whether◌then◌else◌}
 use Rattle.rules.specs.Tables.{buffer_total}
 use Rattle.rules.specs.Chain.{State, reads}
 use Rattle.rules.specs.Rule.{Name}
@@ -52,7 +52,7 @@ read_exact s off n out S h f a =
 -- ---- read only looks
 
 read_caused : (x : Name) (off n : ℕ) (out : List ℕ) → Causing (read_call x off n out)
-unfolding found if◌then◌else◌
+unfolding found whether◌then◌else◌
 read_caused x off n out S h f = record {
   below = omega arith;
   slip = slip_one S.tables x;

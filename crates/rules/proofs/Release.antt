@@ -8,7 +8,7 @@ use native.Mathlib.Omega.{arith}
 use lib.ListN.{length}
 use lib.Dec.{ltb→lt, lt→ltb}
 use lib.Seq.{set-set}
-use Rattle.rules.specs.Basics.{Is, if◌then◌else◌}
+use Rattle.rules.specs.Basics.{Is, whether◌then◌else◌}
 use Rattle.rules.specs.Tables.{Tables, piece, head_of, piece_total, set_slip, with_slips}
 use Rattle.rules.specs.Chain.{State, with_tables}
 use Rattle.rules.specs.Release.{another, lowered, freed, release_in, release, turned}
@@ -74,8 +74,8 @@ release_slips S n = release_in_slips (piece_total S.tables) S n
 abbrev entered : State → ℕ → ℕ → State
 entered S s v = with_tables S (set_slip S.tables s v)
 
-either_way : (b : Bool) (s w : ℕ) (A B A' B' : State) → entered A s w ≡ A' → entered B s w ≡ B' → entered (if b then A else B) s w ≡ (if b then A' else B')
-unfolding if◌then◌else◌
+either_way : (b : Bool) (s w : ℕ) (A B A' B' : State) → entered A s w ≡ A' → entered B s w ≡ B' → entered (whether b then A else B) s w ≡ (whether b then A' else B')
+unfolding whether◌then◌else◌
 either_way true s w A B A' B' p q = p
 either_way false s w A B A' B' p q = q
 

@@ -8,7 +8,7 @@ use native.Mathlib.Decide.{ℕ_discrete}
 use native.Mathlib.Omega.{arith}
 use lib.ListN.{length, get_or, take}
 use lib.Dec.{eqb→eq, T_not, not_T}
-use Rattle.rules.specs.Basics.{Is, if◌then◌else◌, bit, sum_to, places, passing}
+use Rattle.rules.specs.Basics.{Is, whether◌then◌else◌, bit, sum_to, places, passing}
 use Rattle.rules.specs.Tables.{Tables, slip, piece, slip_total, piece_total, buffer_total}
 use Rattle.rules.specs.Room.{is_vacant, is_spent, is_ready, is_free, is_unheld, ready_slips, free_pieces, free_buffers, new_slip, new_buffers}
 use Rattle.rules.proofs.Logic.{if_T, if_F, if_either, and_intro, and_0, and_1, bit_T, bit_F}
@@ -147,7 +147,7 @@ passing_none f (x ∷ l) n = if_F (f x) (x ∷ passing f l) (passing f l) n.0 �
 pub passing_back : (f : ℕ → Bool) (l b : List ℕ) → NoneOf f b → passing f (l ++ b) ≡ passing f l
 unfolding passing
 passing_back f [] b n = passing_none f b n
-passing_back f (x ∷ l) b n = ap {B = List ℕ} (λ q. if f x then x ∷ q else q) (passing_back f l b n)
+passing_back f (x ∷ l) b n = ap {B = List ℕ} (λ q. whether f x then x ∷ q else q) (passing_back f l b n)
 
 -- ---- places known by their members
 

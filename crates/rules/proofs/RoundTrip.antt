@@ -10,7 +10,7 @@ use lib.Seq.{take-length}
 use lib.Dec.{eqb, ltb, ltb→lt, lt→ltb, T_not, not_T}
 use Rattle.kinds.specs.declared.Refusal.TheVariants.{Slip, Range, Narrow}
 use Rattle.kinds.specs.Serial.{older, name_with}
-use Rattle.rules.specs.Basics.{Is, if◌then◌else◌}
+use Rattle.rules.specs.Basics.{Is, whether◌then◌else◌}
 use Rattle.rules.specs.Tables.{Tables, slip, serial, name_of, slip_total, buffer_total}
 use Rattle.rules.specs.Bytes.{decode}
 use Rattle.rules.specs.Chain.{spans, total, length_of, reads}
@@ -68,8 +68,8 @@ unfolding serial_after vacates
 reading_serial o m s xs c e t =
     let k = serial (decode m.pool) t in
     slips_serial o m e t
-    ∙ ap (λ (cs : List Change). if changed (λ (x : Change). x.vacated) cs (λ u. false) t then older k else k) c
-    ∙ if_F (if eqb t s then false else false) _ _ (if_either (λ (b : Bool). Is b → ⊥) (eqb t s) false false (λ _ z. z) (λ _ z. z))
+    ∙ ap (λ (cs : List Change). whether changed (λ (x : Change). x.vacated) cs (λ u. false) t then older k else k) c
+    ∙ if_F (whether eqb t s then false else false) _ _ (if_either (λ (b : Bool). Is b → ⊥) (eqb t s) false false (λ _ z. z) (λ _ z. z))
 
 -- A done call that answers a new slip, which reads xs.
 pub record Gave (o : Operation) (m : Lent) (xs : List ℕ) : Type 0 where

@@ -10,15 +10,14 @@ use lib.ListN.{take, drop}
 use lib.Dec.{eqb, eqb→eq, T_not, not_T}
 use Rattle.kinds.specs.declared.Refusal.TheVariants.{Slip}
 use Rattle.kinds.specs.Serial.{older}
-use Rattle.rules.specs.Basics.{Is, if◌then◌else◌}
-use Rattle.rules.specs.Storage.{patched}
+use Rattle.rules.specs.Basics.{Is, whether◌then◌else◌}
 use Rattle.rules.specs.Tables.{Tables, slip, serial, slip_total}
 use Rattle.rules.specs.Bytes.{decode}
 use Rattle.rules.specs.Chain.{State, reads}
 use Rattle.rules.specs.Sound.{Lent, sound}
 use Rattle.rules.specs.Room.{is_vacant, is_ready, ready_slips, new_slip}
 use Rattle.rules.specs.Rule.{Name, name, answered, unnamed, Change}
-use Rattle.rules.specs.Step.{Operation, Audit, Put, Free, Dup, Cut, Append, Drop, Keep, Pullup, Pack, Length, Read, Show, WireList, Write}
+use Rattle.rules.specs.Step.{Operation, Audit, Put, Free, Dup, Cut, Append, Drop, Keep, Pullup, Pack, Length, Read, Show, WireList}
 use Rattle.rules.specs.Step.{Call, Open, Do, meaning, rule, step, state_in, next, after_calls}
 use Rattle.rules.specs.After.{at, changed, reads_after, vacant_after, vacates, serial_after}
 use Rattle.rules.specs.Takes.{took_slips}
@@ -185,7 +184,6 @@ gives_vacates (Length s) m e x g = absurd g
 gives_vacates (Read s off n out) m e x g = absurd g
 gives_vacates (Show s n scratch) m e x g = absurd g
 gives_vacates (WireList s list) m e x g = absurd g
-gives_vacates (Write s off input) m e x g = absurd g
 
 gives_gone : (o : Operation) (m : Lent) → (step (Do o) m).code ≡ 0 → (x : Name) → GivesUp o x → Gone x (next (Do o) m)
 gives_gone o m e x g =
@@ -203,7 +201,7 @@ reading_none s t z = if_either (λ (b : Bool). Is b → ⊥) (eqb t s) false fal
 
 -- the slip of a comes to read ys: what that of x then reads, by names
 at_name : (a x : Name) (ys : List ℕ) (f : ℕ → List ℕ) (zs : List ℕ) → (a.slip ≡ x.slip → a ≡ x) → (a.slip ≡ x.slip → ys ≡ zs)
-    → at a.slip ys f x.slip ≡ (if is_name a x then zs else f x.slip)
+    → at a.slip ys f x.slip ≡ (whether is_name a x then zs else f x.slip)
 at_name a x ys f zs h k =
     elim (ℕ_discrete a.slip x.slip) [
       | yes e ↦ at_here a.slip x.slip ys f (sym e) ∙ k e
@@ -228,7 +226,6 @@ new_gave (Length s) m n = absurd n
 new_gave (Read s off k out) m n = absurd n
 new_gave (Show s k scratch) m n = absurd n
 new_gave (WireList s list) m n = absurd n
-new_gave (Write s off input) m n = absurd n
 
 -- the new slip may be given
 new_ready : (o : Operation) (m : Lent) (xs : List ℕ) → (step (Do o) m).code ≡ 0 → Gave o m xs → let T = decode m.pool in Is (is_ready T (new_slip T))
@@ -264,7 +261,6 @@ module _ (m : Lent) (x : Name) (h : Missing (decode m.pool) x → ⊥) where
   vacates_gives (Read s off n out) e z = absurd z
   vacates_gives (Show s n scratch) e z = absurd z
   vacates_gives (WireList s list) e z = absurd z
-  vacates_gives (Write s off input) e z = reading_none s.slip x.slip z
 
   -- the slip that a done put, dup or cut gives is not that of x
   new_other : (o : Operation) (xs : List ℕ) → (step (Do o) m).code ≡ 0 → Gave o m xs → x.slip ≢ new_slip (decode m.pool)
@@ -284,7 +280,7 @@ module _ (m : Lent) (x : Name) (h : Missing (decode m.pool) x → ⊥) where
       let S = state_in m in
       let o = Append a b in
       at_name a x _ (at b.slip [] (reads S)) (reads S x.slip ++ reads S b.slip) (same_name o e a (inl refl)) (λ q. ap (λ t. reads S t ++ reads S b.slip) q)
-      ∙ ap (λ (ys : List ℕ). if is_name a x then reads S x.slip ++ reads S b.slip else ys) (at_there b.slip x.slip [] (reads S) (λ q. n (same_name o e b (inr refl) (sym q))))
+      ∙ ap (λ (ys : List ℕ). whether is_name a x then reads S x.slip ++ reads S b.slip else ys) (at_there b.slip x.slip [] (reads S) (λ q. n (same_name o e b (inr refl) (sym q))))
   makes_read (Drop s k) e n = (let S = state_in m in at_name s x _ (reads S) (drop k (reads S x.slip)) (same_name (Drop s k) e s refl) (λ q. ap (λ t. drop k (reads S t)) q))
   makes_read (Keep s k) e n = (let S = state_in m in at_name s x _ (reads S) (take k (reads S x.slip)) (same_name (Keep s k) e s refl) (λ q. ap (λ t. take k (reads S t)) q))
   makes_read (Pullup s k) e n = at_same s.slip x.slip _ (reads (state_in m)) refl
@@ -293,8 +289,6 @@ module _ (m : Lent) (x : Name) (h : Missing (decode m.pool) x → ⊥) where
   makes_read (Read s off k out) e n = refl
   makes_read (Show s k scratch) e n = refl
   makes_read (WireList s list) e n = refl
-  makes_read (Write s off input) e n =
-      (let S = state_in m in at_name s x _ (reads S) (patched (reads S x.slip) off input) (same_name (Write s off input) e s refl) (λ q. ap (λ t. patched (reads S t) off input) q))
 
 -- so x stays good
 good_done : (x : Name) (xs : List ℕ) (o : Operation) (m : Lent) → (step (Do o) m).code ≡ 0 → (GivesUp o x → ⊥) → Good x xs m
@@ -422,7 +416,6 @@ reads_at x xs (d ∷ cs) m l u = reads_at x (made_by d m x xs) cs (next d m) (l.
 abbrev pub Naming : (Operation → Type 0) → Name → ℕ → ℕ → List ℕ → Type 0
 Naming P s off n xs =
     P (Free s) × P (Dup s) × P (Cut s off n) × P (Drop s n) × P (Keep s n) × P (Pullup s n) × P (Pack s) × P (Length s) × P (Read s off n xs) × P (Show s n xs) × P (WireList s xs)
-    × P (Write s off xs)
 
 abbrev pub Joining : (Operation → Type 0) → Name → Name → Type 0
 Joining P s a = P (Append s a) × P (Append a s)
@@ -441,7 +434,6 @@ each_naming P s off n xs f = (
   f (Read s off n xs) (λ y k. k) refl,
   f (Show s n xs) (λ y k. k) refl,
   f (WireList s xs) (λ y k. k) refl,
-  f (Write s off xs) (λ y k. k) refl,
 )
 
 -- every call that names s is refused with 3, alone or beside a

@@ -15,7 +15,7 @@ use Rattle.rules.specs.Sound.{Lent, lent}
 use Rattle.rules.specs.Room.{is_free_with, is_unheld}
 use Rattle.rules.specs.Build.{buffers_for}
 use Rattle.rules.specs.Rule.{Name, Wants, want, View}
-use Rattle.rules.specs.Step.{Operation, Audit, Put, Free, Dup, Cut, Append, Drop, Keep, Pullup, Pack, Length, Read, Show, WireList, Write}
+use Rattle.rules.specs.Step.{Operation, Audit, Put, Free, Dup, Cut, Append, Drop, Keep, Pullup, Pack, Length, Read, Show, WireList}
 use Rattle.rules.specs.Pack.{in_one, pack_wants}
 use Rattle.rules.specs.Step.{Call, Open, Do, Result, rule, step, state_in, next, after_calls}
 use Rattle.rules.specs.Recount.{Reached, headed, after, reached, references, holders, counted_by, recounted, leaves, Recount}
@@ -122,7 +122,6 @@ answered_one (Length s) S n k x y = x ∙ sym y
 answered_one (Read s off j out) S n k x y = x ∙ sym y
 answered_one (Show s j scratch) S n k x y = x ∙ sym y
 answered_one (WireList s list) S n k x y = x ∙ sym y
-answered_one (Write s off input) S n k x y = x ∙ sym y
 
 by_one : (c : Call) (m : Lent) (n k : ℕ) → AnsweredBy c m n → AnsweredBy c m k → n ≡ k
 by_one (Open B P S) m n k x y = x ∙ sym y
@@ -191,7 +190,6 @@ seen_one (Length s) S v w x y = unseen_one v w x y
 seen_one (Read s off n out) S v w x y = unseen_one v w x y
 seen_one (Show s n scratch) S v w x y = shown_one S.tables.stock (spans S.tables s.slip) n v w x y
 seen_one (WireList s list) S v w x y = unseen_one v w x y
-seen_one (Write s off input) S v w x y = unseen_one v w x y
 
 by_seen : (c : Call) (m : Lent) (v w : View) → SeenBy c m v → SeenBy c m w → v ≡ w
 by_seen (Open B P S) m v w x y = unseen_one v w x y

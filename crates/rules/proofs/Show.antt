@@ -8,7 +8,7 @@ use native.Mathlib.Omega.{arith}
 use lib.ListN.{length, take, drop, length-take}
 use lib.Seq.{take-append-le, take-take}
 use lib.Dec.{eqb, eqb→eq, leb, leb→le, T_not, not_T, ltb, ltb→lt, lt→ltb, le→leb}
-use Rattle.rules.specs.Basics.{Is, if◌then◌else◌}
+use Rattle.rules.specs.Basics.{Is, whether◌then◌else◌}
 use Rattle.rules.specs.Tables.{buffer_total}
 use Rattle.rules.specs.Chain.{Stretch, State, spans, total, first_length, position_of, bytes_of, contents, reads}
 use Rattle.rules.specs.Rule.{Name, View}
@@ -29,14 +29,14 @@ use Rattle.rules.proofs.Read.{copied_front, copied_rest, copied_length}
 
 -- a view of the scratch, or of storage from p on
 seen_either : (b : Bool) (p n : ℕ) (st xs scratch ys : List ℕ) → (Is b → take n xs ≡ ys) → ((Is b → ⊥) → take n (drop p st) ≡ ys)
-    → seen (if b then record { in_scratch = 1; start = 0 } else record { in_scratch = 0; start = p }) n st (if b then xs else scratch) ≡ ys
-unfolding if◌then◌else◌
+    → seen (whether b then record { in_scratch = 1; start = 0 } else record { in_scratch = 0; start = p }) n st (whether b then xs else scratch) ≡ ys
+unfolding whether◌then◌else◌
 seen_either true p n st xs scratch ys f g = f tt
 seen_either false p n st xs scratch ys f g = g (λ t. t)
 
 -- the view of stretches shows their first n bytes
 seen_first : (Z : List ℕ) (B : ℕ) (st scratch : List ℕ) (xs : List Stretch) (n : ℕ) → Fit Z B st → Good Z B xs → n ≤ total xs → length (take n (contents Z st xs)) ≡ n
-    → seen (view_of Z xs n) n st (if scattered xs n then copied (take n (contents Z st xs)) scratch else scratch) ≡ take n (contents Z st xs)
+    → seen (view_of Z xs n) n st (whether scattered xs n then copied (take n (contents Z st xs)) scratch else scratch) ≡ take n (contents Z st xs)
 unfolding view_of contents total
 seen_first Z B st scratch [] zero f g l e = refl
 seen_first Z B st scratch [] (suc n) f g l e = absurd (omega arith)
@@ -44,7 +44,7 @@ seen_first Z B st scratch (x ∷ xs) zero f g l e = refl
 seen_first Z B st scratch (x ∷ xs) (suc n) f g l e =
     let c = contents Z st (x ∷ xs) in
     let b = scattered (x ∷ xs) (suc n) in
-    ap (λ (v : View). seen v (suc n) st (if b then copied (take (suc n) c) scratch else scratch)) (if_F (eqb (suc n) 0) _ _ (λ t. omega (arith, eqb→eq (suc n) 0 t)))
+    ap (λ (v : View). seen v (suc n) st (whether b then copied (take (suc n) c) scratch else scratch)) (if_F (eqb (suc n) 0) _ _ (λ t. omega (arith, eqb→eq (suc n) 0 t)))
     ∙ seen_either b (position_of Z x) (suc n) st (copied (take (suc n) c) scratch) scratch (take (suc n) c) (λ _. copied_front (suc n) (take (suc n) c) scratch e)
     (λ t. (
     let u = leb→le (suc n) x.len (not_not (leb (suc n) x.len) t) in
@@ -83,7 +83,7 @@ show_unchanged s n scratch S l = if_F (scattered (spans S.tables s.slip) n) _ _ 
 -- ---- show only looks
 
 -- the scratch is too short for what is copied
-narrow_is : (k n c : ℕ) → Is (not (leb n k) && ltb c n) ↔ (c < (if ltb k n then n else 0))
+narrow_is : (k n c : ℕ) → Is (not (leb n k) && ltb c n) ↔ (c < (whether ltb k n then n else 0))
 narrow_is k n c =
     let u = not (leb n k) in
     if_either (λ (j : ℕ). Is (u && ltb c n) ↔ (c < j)) (ltb k n) n 0
@@ -93,7 +93,7 @@ narrow_is k n c =
     (λ t. (λ x. absurd (T_not (leb n k) (and_0 u (ltb c n) x) (le→leb n k (not_less k n t))), λ x. absurd (omega arith)))
 
 show_caused : (x : Name) (n : ℕ) (scratch : List ℕ) → Causing (show_call x n scratch)
-unfolding found if◌then◌else◌
+unfolding found whether◌then◌else◌
 show_caused x n scratch S h f = record {
   below = omega arith;
   slip = slip_one S.tables x;

@@ -4,7 +4,7 @@ use mathlib.Core.Bool.{Bool}
 use mathlib.Core.List.{List, [], ◌∷◌}
 use Prim.Native.Nat.{ℕ, zero, suc}
 use lib.ListN.{length, length-set}
-use Rattle.rules.specs.Basics.{last_of, if◌then◌else◌}
+use Rattle.rules.specs.Basics.{last_of, whether◌then◌else◌}
 use Rattle.rules.specs.Layout.{storage_length}
 use Rattle.rules.specs.Tables.{Piece, Tables, blank, piece, head_of, holding, buffer_total, piece_total, set_slip, set_piece, set_piece_count}
 use Rattle.rules.specs.Chain.{State, Stretch, with_tables}
@@ -38,7 +38,7 @@ then_sizes s t = record {
 }
 
 -- where it may be that nothing changes
-pub maybe_sizes : (S X : State) (b : Bool) → Sizes S.tables X.tables → Sizes S.tables (if b then S else X).tables
+pub maybe_sizes : (S X : State) (b : Bool) → Sizes S.tables X.tables → Sizes S.tables (whether b then S else X).tables
 maybe_sizes S X b h = if_either (λ (Y : State). Sizes S.tables Y.tables) b S X (λ _. same_sizes S.tables) (λ _. h)
 
 -- the stores

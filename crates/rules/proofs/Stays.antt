@@ -7,7 +7,7 @@ use native.Mathlib.Decide.{dec_lt, ℕ_discrete}
 use native.Mathlib.Omega.{arith}
 use lib.ListN.{length, get_or, set}
 use lib.Seq.{get_or-set_same, get_or-set_other}
-use Rattle.rules.specs.Basics.{Is, if◌then◌else◌, passing}
+use Rattle.rules.specs.Basics.{Is, whether◌then◌else◌, passing}
 use Rattle.rules.specs.Tables.{Tables, buffer_count, head_of, slip_total, buffer_total}
 use Rattle.rules.specs.Chain.{Stretch, State, bytes_of, with_tables, with_storage}
 use Rattle.rules.specs.Storage.{whole_of, Zeroed}
@@ -22,18 +22,14 @@ use Rattle.rules.proofs.Sizes.{Sizes, made_sizes, new_length}
 use Rattle.rules.proofs.Storage.{held_bytes, Keeps, fit_by, old_keeps, behind_keeps}
 use Rattle.rules.proofs.Takes.{buffers_of}
 
--- From S to S' the length of storage stays, and so does every byte of a buffer that is not one of the k lowest free, is not
--- written where it lies (ws), and is not set free: it was free, or is held afterwards. One that is set free is zero.
-pub record StaysBut (S S' : State) (k : ℕ) (ws : List ℕ) : Type 0 where
+-- From S to S' the length of storage stays, and so does every byte of a buffer that is not one of
+-- the k lowest free, and is not set free: it was free, or is held afterwards. One that is set free is zero.
+pub record StorageStays (S S' : State) (k : ℕ) : Type 0 where
   pub as_long : length S'.storage ≡ length S.storage
-  pub others : (b : ℕ) → b < buffer_total S.tables → (Memᴰ b (new_buffers S.tables k) → ⊥) → (Memᴰ b ws → ⊥)
+  pub others : (b : ℕ) → b < buffer_total S.tables → (Memᴰ b (new_buffers S.tables k) → ⊥)
       → (0 < buffer_count S.tables b → 0 < buffer_count S'.tables b) → held_bytes S.tables S'.storage b ≡ held_bytes S.tables S.storage b
   pub clean : (b : ℕ) → b < buffer_total S.tables → 0 < buffer_count S.tables b → buffer_count S'.tables b ≡ 0
       → Zeroed S.tables.stock S'.storage b
-
--- no buffer is written where it lies
-abbrev pub StorageStays : State → State → ℕ → Type 0
-StorageStays S S' k = StaysBut S S' k []
 
 -- no buffer is set free
 abbrev pub NoneFreed : Tables → Tables → Type 0
@@ -43,7 +39,7 @@ NoneFreed T T' = (b : ℕ) → 0 < buffer_count T b → 0 < buffer_count T' b
 pub stays_as : (S S' : State) (k : ℕ) → S'.storage ≡ S.storage → NoneFreed S.tables S'.tables → StorageStays S S' k
 stays_as S S' k e u = record {
   as_long = ap length e;
-  others = λ b _ _ _ _. ap (λ (q : List ℕ). held_bytes S.tables q b) e;
+  others = λ b _ _ _. ap (λ (q : List ℕ). held_bytes S.tables q b) e;
   clean = λ b _ w z. absurd (omega (arith, u b w));
 }
 
@@ -60,7 +56,7 @@ pub stays_new : (S S' : State) (k : ℕ) (xs : List ℕ) → Fit S.tables.stock 
     → S'.storage ≡ stored S.tables.stock S.storage (new_buffers S.tables k) xs → NoneFreed S.tables S'.tables → StorageStays S S' k
 stays_new S S' k xs f e u = record {
   as_long = ap length e ∙ new_length S k xs f;
-  others = λ b l n _ _. ap (λ (q : List ℕ). held_bytes S.tables q b) e ∙ new_apart S k xs f b l n;
+  others = λ b l n _. ap (λ (q : List ℕ). held_bytes S.tables q b) e ∙ new_apart S k xs f b l n;
   clean = λ b _ w z. absurd (omega (arith, u b w));
 }
 
@@ -73,15 +69,15 @@ pub stays_then : {S S₁ S' : State} {k : ℕ} → Sizes S.tables S₁.tables �
     → StorageStays S S₁ k → Keeps S₁ S' → StorageStays S S' k
 stays_then {S} {S₁} {S'} z o u w q = record {
   as_long = q.as_long ∙ w.as_long;
-  others = λ b l n w₀ h.
+  others = λ b l n h.
       subst (λ (Z : List ℕ). bytes_of Z S'.storage (whole_of Z b) ≡ bytes_of Z S₁.storage (whole_of Z b)) z.stock_kept
       (q.others b (omega (arith, z.counts_size)) (λ v. h (o b n v)))
-      ∙ w.others b l n w₀ (λ v. omega (arith, h v, q.fell b));
+      ∙ w.others b l n (λ v. omega (arith, h v, q.fell b));
   clean = λ b l v e. subst (λ (Z : List ℕ). Zeroed Z S'.storage b) z.stock_kept (q.clean b (omega (arith, z.counts_size)) (u b v) e);
 }
 
 -- where it may be that nothing changes
-pub maybe_stays : (S X : State) (b : Bool) (k : ℕ) → StorageStays S X k → StorageStays S (if b then S else X) k
+pub maybe_stays : (S X : State) (b : Bool) (k : ℕ) → StorageStays S X k → StorageStays S (whether b then S else X) k
 maybe_stays S X b k h = if_either (λ (Y : State). StorageStays S Y k) b S X (λ _. stays_as S S k refl (λ b u. u)) (λ _. h)
 
 -- ---- which buffers are taken

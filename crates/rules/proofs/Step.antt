@@ -12,7 +12,7 @@ use Rattle.kinds.specs.declared.Refusal.{Refusal}
 use Rattle.kinds.specs.declared.Refusal.TheVariants.{Counts, Torn}
 use Rattle.kinds.specs.Limits.{most_buffers, most_pieces, most_slips, counted}
 use Rattle.kinds.specs.Refusal.{refusal_code}
-use Rattle.rules.specs.Basics.{Is, member}
+use Rattle.rules.specs.Basics.{Is}
 use Rattle.rules.specs.Layout.{storage_length}
 use Rattle.rules.specs.Tables.{Tables, serial, slip_total, piece_total, buffer_total, blank, fresh_tables}
 use Rattle.rules.specs.Bytes.{stock_in, decode, encode}
@@ -306,16 +306,16 @@ slips_took o m e =
 
 -- ---- bytes that stay
 
--- A done operation leaves every byte of a buffer that is held before and after it, or free before and after it, and that it does not write where it lies.
+-- A done operation leaves every byte of a buffer that is held before and after it, or free before and after it.
 pub bytes_stay : (o : Operation) (m : Lent) → (step (Do o) m).code ≡ 0 → (b : ℕ) → b < buffer_total (decode m.pool)
-    → is_unheld (decode (next (Do o) m).pool) b ≡ is_unheld (decode m.pool) b → (Is (member b ((meaning o).in_place (state_in m))) → ⊥)
+    → is_unheld (decode (next (Do o) m).pool) b ≡ is_unheld (decode m.pool) b
     → held_bytes (decode m.pool) (next (Do o) m).storage b ≡ held_bytes (decode m.pool) m.storage b
-bytes_stay o m e b l u w =
+bytes_stay o m e b l u =
     let d = did o m e in
     let S = state_in m in
     let T = S.tables in
-    subst (λ (X : State). is_unheld X.tables b ≡ is_unheld T b → (Is (member b ((meaning o).in_place S)) → ⊥) → held_bytes T X.storage b ≡ held_bytes T S.storage b) (sym (after_state o m e))
-    (rule_bytes o S (sound_now m d.was_sound) (sound_within m d.was_sound).storage_fits (allowed (rule o S) T d.allowed_code) b l) u w
+    subst (λ (X : State). is_unheld X.tables b ≡ is_unheld T b → held_bytes T X.storage b ≡ held_bytes T S.storage b) (sym (after_state o m e))
+    (rule_bytes o S (sound_now m d.was_sound) (sound_within m d.was_sound).storage_fits (allowed (rule o S) T d.allowed_code) b l) u
 
 -- It leaves zeros in a buffer that it gives back: one that is held before it, and free after it.
 pub given_back_zero : (o : Operation) (m : Lent) → (step (Do o) m).code ≡ 0 → (b : ℕ) → b < buffer_total (decode m.pool)

@@ -1,7 +1,7 @@
 -- What every slip reads once an operation is done, which slips are then vacant, and their serials.
 use Rattle.std.specs.Prelude.{◌≡◌, Bool, false, List, [], ◌∷◌, ℕ, take, drop, eqb}
 use Rattle.kinds.specs.Serial.{older}
-use Rattle.rules.specs.Basics.{if◌then◌else◌, Among}
+use Rattle.rules.specs.Basics.{whether◌then◌else◌, Among}
 use Rattle.rules.specs.Tables.{serial}
 use Rattle.rules.specs.Chain.{State, reads}
 use Rattle.rules.specs.Room.{is_vacant}
@@ -10,7 +10,7 @@ use Rattle.rules.specs.Step.{Operation, meaning, rule}
 
 -- f, but x at s
 abbrev pub at : {A : Type 0} → ℕ → A → (ℕ → A) → ℕ → A
-at s x f t = if eqb t s then x else f t
+at s x f t = whether eqb t s then x else f t
 
 -- f, but for each change's slip what g gives of it; of two changes of one slip the first counts
 abbrev pub changed : {A : Type 0} → (Change → A) → List Change → (ℕ → A) → ℕ → A
@@ -31,7 +31,7 @@ unfoldable pub vacates : Operation → State → ℕ → Bool
 vacates o S = changed (λ (c : Change). c.vacated) ((meaning o).changes S) (λ t. false)
 
 unfoldable pub serial_after : Operation → State → ℕ → ℕ
-serial_after o S t = let k = serial S.tables t in if vacates o S t then older k else k
+serial_after o S t = let k = serial S.tables t in whether vacates o S t then older k else k
 
 -- The claim about an operation that is done, proved in proofs/Calls.antt.
 pub record ReadsOk (o : Operation) (S : State) : Type 0 where
@@ -44,4 +44,4 @@ Names o t = Among (slips_of (meaning o).names) t
 
 -- the n bytes that a view shows
 abbrev pub seen : View → ℕ → List ℕ → List ℕ → List ℕ
-seen v n storage scratch = take n (drop v.start (if eqb v.in_scratch 0 then storage else scratch))
+seen v n storage scratch = take n (drop v.start (whether eqb v.in_scratch 0 then storage else scratch))

@@ -7,7 +7,7 @@ use Rattle.rules.specs.Chain.{State, Stretch, chain, spans, first_length, positi
 use Rattle.rules.specs.Sound.{Lent}
 use Rattle.rules.specs.Room.{is_vacant}
 use Rattle.rules.specs.Rule.{View}
-use Rattle.rules.specs.Step.{Operation, Audit, Put, Free, Dup, Cut, Append, Drop, Keep, Pullup, Pack, Length, Read, Show, WireList, Write}
+use Rattle.rules.specs.Step.{Operation, Audit, Put, Free, Dup, Cut, Append, Drop, Keep, Pullup, Pack, Length, Read, Show, WireList}
 use Rattle.rules.specs.Step.{Call, Open, Do, lent_to, Result, state_in}
 
 -- slip t is vacant, and its serial is not the last
@@ -40,7 +40,6 @@ Answered (Length s) S n = n ≡ length (reads S s.slip)
 Answered (Read s off k out) S n = n ≡ k
 Answered (Show s k scratch) S n = n ≡ k
 Answered (WireList s list) S n = n ≡ length (chain S.tables s.slip)
-Answered (Write s off input) S n = n ≡ 0
 
 -- the number of a done call on m
 abbrev pub AnsweredBy : Call → Lent → ℕ → Type 0
@@ -88,7 +87,6 @@ Seen (Length s) S v = Unseen v
 Seen (Read s off n out) S v = Unseen v
 Seen (Show s n scratch) S v = Shown S.tables.stock (spans S.tables s.slip) n v
 Seen (WireList s list) S v = Unseen v
-Seen (Write s off input) S v = Unseen v
 
 abbrev pub SeenBy : Call → Lent → View → Type 0
 SeenBy (Open B P S) m v = Unseen v

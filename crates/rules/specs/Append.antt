@@ -1,7 +1,7 @@
 -- append a, b: a reads as a then b; b is vacant, and its serial goes up.
 use Rattle.std.specs.Prelude.{Bool, ◌||◌, List, [], ◌∷◌, ◌++◌, ℕ, ◌-◌, length, drop, eqb}
 use Rattle.kinds.specs.declared.Refusal.TheVariants.{Slip, Same}
-use Rattle.rules.specs.Basics.{if◌then◌else◌}
+use Rattle.rules.specs.Basics.{whether◌then◌else◌}
 use Rattle.rules.specs.Tables.{Tables, slip, head_of, vacant, set_slip}
 use Rattle.rules.specs.Chain.{State, Stretch, spans, reads, with_tables, aging, chain, own_of}
 use Rattle.rules.specs.Room.{free_pieces}
@@ -30,8 +30,8 @@ joined a b S =
 unfoldable pub appended : ℕ → ℕ → State → State
 appended a b S =
     let T = S.tables in
-    if is_empty T a then with_tables S (set_slip (set_slip T b vacant) a (slip T b))
-    else if is_empty T b then with_tables S (set_slip T b vacant)
+    whether is_empty T a then with_tables S (set_slip (set_slip T b vacant) a (slip T b))
+    else whether is_empty T b then with_tables S (set_slip T b vacant)
     else joined a b S
 
 abbrev pub append_after : ℕ → ℕ → State → State
@@ -41,13 +41,13 @@ abbrev pub append : Name → Name → State → Rule
 append a b S =
     let T = S.tables in
     alters ((Slip ⇐ (unnamed T a || unnamed T b)) ∷ (Same ⇐ eqb a.slip b.slip) ∷ [])
-    (want 0 (if one_empty T a.slip b.slip then 0 else length (not_own T a.slip)) 0) 0 (append_after a.slip b.slip S)
+    (want 0 (whether one_empty T a.slip b.slip then 0 else length (not_own T a.slip)) 0) 0 (append_after a.slip b.slip S)
 
 -- a piece for each piece of a that is not own, where both have bytes
 abbrev pub append_asks : Name → Name → State → Asks
 append_asks a b S =
     let T = S.tables in
-    asks_new (want 0 (if eqb (length (reads S a.slip)) 0 || eqb (length (reads S b.slip)) 0 then 0 else length (chain T a.slip) - length (own_of T a.slip)) 0)
+    asks_new (want 0 (whether eqb (length (reads S a.slip)) 0 || eqb (length (reads S b.slip)) 0 then 0 else length (chain T a.slip) - length (own_of T a.slip)) 0)
 
 -- a reads as a then b; b is vacant
 abbrev pub append_call : Name → Name → Meaning

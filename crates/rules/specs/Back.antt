@@ -1,16 +1,16 @@
 -- What a call gives back first, in the recount's words: drop and pullup the pieces that are reached by way of the bytes that go alone, every other call nothing.
 use Rattle.std.specs.Prelude.{◌≡◌, ◌↔◌, List, [], ◌∷◌, ℕ, suc, ◌+◌, ◌-◌, length, leb}
-use Rattle.rules.specs.Basics.{Is, if◌then◌else◌, member}
+use Rattle.rules.specs.Basics.{Is, whether◌then◌else◌, member}
 use Rattle.rules.specs.Tables.{Tables, piece, holding, set_slip}
 use Rattle.rules.specs.Chain.{chain}
 use Rattle.rules.specs.Rule.{Wants}
-use Rattle.rules.specs.Step.{Operation, Audit, Put, Free, Dup, Cut, Append, Drop, Keep, Pullup, Pack, Length, Read, Show, WireList, Write}
+use Rattle.rules.specs.Step.{Operation, Audit, Put, Free, Dup, Cut, Append, Drop, Keep, Pullup, Pack, Length, Read, Show, WireList}
 use Rattle.rules.specs.Recount.{Reached, leaves}
 
 -- the link to the first of the pieces ds with a byte past the first n, or none
 unfoldable pub link_past : Tables → List ℕ → ℕ → ℕ
 link_past T [] n = 0
-link_past T (d ∷ ds) n = if leb (piece T d).len n then link_past T ds (n - (piece T d).len) else suc d
+link_past T (d ∷ ds) n = whether leb (piece T d).len n then link_past T ds (n - (piece T d).len) else suc d
 
 -- the tables in which slip s heads that piece of its chain
 abbrev pub turned_past : Tables → ℕ → ℕ → Tables
@@ -38,4 +38,3 @@ GivesFirst (Length s) T w = w.back ≡ []
 GivesFirst (Read s off n out) T w = w.back ≡ []
 GivesFirst (Show s n scratch) T w = w.back ≡ []
 GivesFirst (WireList s list) T w = w.back ≡ []
-GivesFirst (Write s off input) T w = w.back ≡ []

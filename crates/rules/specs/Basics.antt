@@ -5,11 +5,11 @@ use Rattle.std.specs.Prelude.{◌≡◌, ◌⊎◌, Bool, true, false, ◌&&◌,
 abbrev pub Is : Bool → Type 0
 Is b = T b
 
-unfoldable pub if◌then◌else◌ : {A : Type 0} → Bool → A → A → A
-if true then x else y = x
-if false then x else y = y
+unfoldable pub whether◌then◌else◌ : {A : Type 0} → Bool → A → A → A
+whether true then x else y = x
+whether false then x else y = y
 
-infixr 10 if◌then◌else◌
+infixr 10 whether◌then◌else◌
 -- 1 for a test that passes
 abbrev pub bit : Bool → ℕ
 bit true = 1
@@ -38,12 +38,12 @@ table (suc n) f = f 0 ∷ table n (λ i. f (suc i))
 -- those of the k numbers from i on that pass, lowest first
 unfoldable pub places : (ℕ → Bool) → ℕ → ℕ → List ℕ
 places f i zero = []
-places f i (suc k) = let more = places f (suc i) k in if f i then i ∷ more else more
+places f i (suc k) = let more = places f (suc i) k in whether f i then i ∷ more else more
 
 -- the numbers of a list that pass, in the list's order
 unfoldable pub passing : (ℕ → Bool) → List ℕ → List ℕ
 passing f [] = []
-passing f (x ∷ xs) = if f x then x ∷ passing f xs else passing f xs
+passing f (x ∷ xs) = whether f x then x ∷ passing f xs else passing f xs
 
 -- d stands in the list
 unfoldable pub member : ℕ → List ℕ → Bool

@@ -1,7 +1,7 @@
 -- Chains: following next, the pieces that a slip's chain has, their stretches, and their bytes.
 use Rattle.std.specs.Prelude.{◌&&◌, Bool, List, [], ◌∷◌, ◌++◌, ℕ, zero, suc, ◌+◌, ◌-◌, min, take, drop, eqb, ltb, leb}
 use Rattle.kinds.specs.Sizes.{start_of}
-use Rattle.rules.specs.Basics.{if◌then◌else◌, bit}
+use Rattle.rules.specs.Basics.{whether◌then◌else◌, bit}
 use Rattle.rules.specs.Tables.{Piece, Tables, piece, head_of, piece_total, aged}
 
 -- the link that k follows of next lead to from the link n
@@ -24,15 +24,15 @@ chain T s = walk (piece_total T) T (head_of T s)
 unfoldable pub own_pieces : ℕ → Tables → ℕ → List ℕ
 own_pieces zero T n = []
 own_pieces (suc k) T zero = []
-own_pieces (suc k) T (suc d) = if eqb (piece T d).count 1 then d ∷ own_pieces k T (piece T d).next else []
+own_pieces (suc k) T (suc d) = whether eqb (piece T d).count 1 then d ∷ own_pieces k T (piece T d).next else []
 
 -- the own pieces of a slip, by the counts of the tables
 abbrev pub own_of : Tables → ℕ → List ℕ
 own_of T s = own_pieces (piece_total T) T (head_of T s)
 
 -- piece d is own where all before it are and its count is 1
-abbrev pub field_own : Tables → Bool → ℕ → Bool
-field_own T own d = own && eqb (piece T d).count 1
+abbrev pub own_at : Tables → Bool → ℕ → Bool
+own_at T own d = own && eqb (piece T d).count 1
 
 -- A stretch is what a piece covers: len bytes of a buffer, from offset on.
 pub record Stretch : Type 0 where
@@ -69,7 +69,7 @@ unfoldable pub cut_out : List Stretch → ℕ → ℕ → List Stretch
 cut_out [] off n = []
 cut_out (x ∷ xs) off zero = []
 cut_out (x ∷ xs) off (suc n) =
-    if leb x.len off
+    whether leb x.len off
     then cut_out xs (off - x.len) (suc n)
     else (record { buffer = x.buffer; offset = x.offset + off; len = min (suc n) (x.len - off) } ∷ cut_out xs 0 (suc n - (x.len - off)))
 

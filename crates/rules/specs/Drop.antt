@@ -1,7 +1,7 @@
 -- drop s, n: the first n bytes go.
 use Rattle.std.specs.Prelude.{Bool, true, List, [], ◌∷◌, ℕ, zero, suc, ◌+◌, ◌-◌, length, take, drop, ltb, eqb, leb}
 use Rattle.kinds.specs.declared.Refusal.TheVariants.{Slip, Range}
-use Rattle.rules.specs.Basics.{if◌then◌else◌}
+use Rattle.rules.specs.Basics.{whether◌then◌else◌}
 use Rattle.rules.specs.Tables.{Piece, Tables, piece, set_piece, with_place}
 use Rattle.rules.specs.Chain.{State, stretch, chain, length_of, reads, spans, overlaps, splits, own_of, own_at}
 use Rattle.rules.specs.Release.{shared}
@@ -17,7 +17,7 @@ shorter p n = with_place p (p.offset + n) (p.len - n)
 unfoldable pub drop_here : Tables → Bool → ℕ → ℕ → Plan
 drop_here T own d zero = record { base = shared T (suc d); more = []; tail = suc d }
 drop_here T own d (suc r) =
-    if own
+    whether own
     then record { base = set_piece (shared T (suc d)) d (shorter (piece (shared T (suc d)) d) (suc r)); more = []; tail = suc d }
     else record { base = shared T (piece T d).next; more = stretch (shorter (piece T d) (suc r)) ∷ []; tail = (piece T d).next }
 
@@ -26,7 +26,7 @@ unfoldable pub drop_plan : Tables → Bool → List ℕ → ℕ → Plan
 unfolding drop_here
 drop_plan T own [] n = plain T []
 drop_plan T own (d ∷ ds) n =
-    if leb (piece T d).len n then drop_plan T (own_at T own d) ds (n - (piece T d).len) else drop_here T (own_at T own d) d n
+    whether leb (piece T d).len n then drop_plan T (own_at T own d) ds (n - (piece T d).len) else drop_here T (own_at T own d) d n
 
 -- what drop of n leaves of the chain of s
 abbrev pub dropped : Tables → ℕ → ℕ → Plan
@@ -37,7 +37,7 @@ abbrev pub drop_back : Tables → ℕ → ℕ → List ℕ
 drop_back T s n = own_of (dropped T s n).base s
 
 unfoldable pub drop_after : ℕ → ℕ → State → State
-drop_after s n S = if eqb n 0 then S else under_freed S (dropped S.tables s n) s
+drop_after s n S = whether eqb n 0 then S else under_freed S (dropped S.tables s n) s
 
 abbrev pub drop_first : Name → ℕ → State → Rule
 drop_first s n S =
@@ -47,7 +47,7 @@ drop_first s n S =
 
 -- A piece where n falls inside a piece that is not own: that piece is the last that the n bytes overlap.
 abbrev pub drop_pieces : Tables → ℕ → ℕ → ℕ
-drop_pieces T s n = let xs = spans T s in if leb (overlaps xs 0 0 n) (length (own_of T s)) then 0 else splits xs 0 n
+drop_pieces T s n = let xs = spans T s in whether leb (overlaps xs 0 0 n) (length (own_of T s)) then 0 else splits xs 0 n
 
 -- The own pieces in front: of those that the n bytes overlap, all but one that n falls inside.
 abbrev pub front_own : Tables → ℕ → ℕ → List ℕ

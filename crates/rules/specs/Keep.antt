@@ -1,7 +1,7 @@
 -- keep s, n: the first n bytes stay.
 use Rattle.std.specs.Prelude.{Bool, List, [], ◌∷◌, ℕ, ◌-◌, length, take, drop, ltb, eqb}
 use Rattle.kinds.specs.declared.Refusal.TheVariants.{Slip, Range}
-use Rattle.rules.specs.Basics.{if◌then◌else◌, last_of}
+use Rattle.rules.specs.Basics.{whether◌then◌else◌, last_of}
 use Rattle.rules.specs.Tables.{Tables, piece, head_of, set_piece, with_place}
 use Rattle.rules.specs.Chain.{State, Stretch, spans, length_of, own_pieces, cut_out, reads, with_tables, overlaps, own_of}
 use Rattle.rules.specs.Room.{free_pieces}
@@ -43,19 +43,19 @@ unfoldable pub keep_after : ℕ → ℕ → State → State
 unfolding kept_by
 keep_after s n S =
     let T = S.tables in
-    if keeps_all T s n then S else kept_by S s (kept_own T s n) (kept T s n) (kept_not_own T s n)
+    whether keeps_all T s n then S else kept_by S s (kept_own T s n) (kept T s n) (kept_not_own T s n)
 
 abbrev pub keep : Name → ℕ → State → Rule
 keep s n S =
     let T = S.tables in
     alters ((Slip ⇐ unnamed T s) ∷ (Range ⇐ ltb (length_of T s.slip) n) ∷ [])
-    (want 0 (if keeps_all T s.slip n then 0 else length (kept_not_own T s.slip n)) 0) 0 (keep_after s.slip n S)
+    (want 0 (whether keeps_all T s.slip n then 0 else length (kept_not_own T s.slip n)) 0) 0 (keep_after s.slip n S)
 
 -- a piece for each piece that the n bytes overlap and that is not own, where they are not the whole
 abbrev pub keep_asks : Name → ℕ → State → Asks
 keep_asks s n S =
     let T = S.tables in
-    asking 0 n 0 (want 0 (if eqb n (length (reads S s.slip)) then 0 else overlaps (spans T s.slip) 0 0 n - length (own_of T s.slip)) 0)
+    asking 0 n 0 (want 0 (whether eqb n (length (reads S s.slip)) then 0 else overlaps (spans T s.slip) 0 0 n - length (own_of T s.slip)) 0)
 
 -- s reads the first n of its bytes
 abbrev pub keep_call : Name → ℕ → Meaning

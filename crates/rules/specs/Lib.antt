@@ -26,7 +26,6 @@ pub mod Read
 pub mod Show
 pub mod List
 pub mod Gather
-pub mod Write
 pub mod Step
 pub mod Recount
 pub mod Places
@@ -44,4 +43,3 @@ pub mod Clean
 pub mod Still
 pub mod Fills
 pub mod Morning
-pub mod Cases

@@ -1,7 +1,7 @@
 -- pack s: the chain's bytes put afresh under the same slip.
 use Rattle.std.specs.Prelude.{Bool, [], ◌∷◌, ℕ, length, leb}
 use Rattle.kinds.specs.declared.Refusal.TheVariants.{Slip}
-use Rattle.rules.specs.Basics.{if◌then◌else◌}
+use Rattle.rules.specs.Basics.{whether◌then◌else◌}
 use Rattle.rules.specs.Tables.{Tables}
 use Rattle.rules.specs.Chain.{State, chain, length_of, reads, with_storage}
 use Rattle.rules.specs.Room.{free_pieces, new_buffers}
@@ -16,11 +16,11 @@ unfoldable pub pack_after : ℕ → State → State
 pack_after s S =
     let T = S.tables in
     let bs = new_buffers T (buffers_for (length_of T s)) in
-    if in_one T s then S
+    whether in_one T s then S
     else under_old (with_storage S (stored T.stock S.storage bs (reads S s))) (plain T (laid T.stock bs (length_of T s))) (free_pieces T) s
 
 unfoldable pub pack_wants : Tables → ℕ → Wants
-pack_wants T s = if in_one T s then want 0 0 0 else want 0 (buffers_for (length_of T s)) (buffers_for (length_of T s))
+pack_wants T s = whether in_one T s then want 0 0 0 else want 0 (buffers_for (length_of T s)) (buffers_for (length_of T s))
 
 abbrev pub pack : Name → State → Rule
 pack s S = alters ((Slip ⇐ unnamed S.tables s) ∷ []) (pack_wants S.tables s.slip) 0 (pack_after s.slip S)
@@ -29,7 +29,7 @@ pack s S = alters ((Slip ⇐ unnamed S.tables s) ∷ []) (pack_wants S.tables s.
 abbrev pub pack_asks : Name → State → Asks
 pack_asks s S =
     let k = buffers_for (length (reads S s.slip)) in
-    asks_new (if leb (length (chain S.tables s.slip)) 1 then want 0 0 0 else want 0 k k)
+    asks_new (whether leb (length (chain S.tables s.slip)) 1 then want 0 0 0 else want 0 k k)
 
 -- s reads as before
 abbrev pub pack_call : Name → Meaning

@@ -2,7 +2,7 @@
 use Rattle.std.specs.Prelude.{Bool, [], ◌∷◌, ◌++◌, ℕ, suc, ◌+◌, length, take, ltb, leb}
 use Rattle.kinds.specs.declared.Refusal.TheVariants.{Slip, Long, Range}
 use Rattle.kinds.specs.Limits.{buffer_size}
-use Rattle.rules.specs.Basics.{if◌then◌else◌}
+use Rattle.rules.specs.Basics.{whether◌then◌else◌}
 use Rattle.rules.specs.Tables.{Tables}
 use Rattle.rules.specs.Chain.{State, spans, first_length, length_of, reads, with_storage}
 use Rattle.rules.specs.Room.{new_buffers}
@@ -24,11 +24,11 @@ in_first T s n = leb n (first_length (spans T s))
 unfoldable pub pullup_after : ℕ → ℕ → State → State
 pullup_after s n S =
     let T = S.tables in
-    if in_first T s n then S
+    whether in_first T s n then S
     else under_freed (with_storage S (stored T.stock S.storage (new_buffers T 1) (take n (reads S s)))) (pulled T s n) s
 
 unfoldable pub pullup_wants : Tables → ℕ → ℕ → Wants
-pullup_wants T s n = if in_first T s n then want 0 0 0 else giving (drop_back T s n) (suc (length (dropped T s n).more)) 1
+pullup_wants T s n = whether in_first T s n then want 0 0 0 else giving (drop_back T s n) (suc (length (dropped T s n).more)) 1
 
 abbrev pub pullup : Name → ℕ → State → Rule
 pullup s n S =
@@ -40,7 +40,7 @@ pullup s n S =
 abbrev pub pullup_asks : Name → ℕ → State → Asks
 pullup_asks s n S =
     let T = S.tables in
-    asking n n 0 (if leb n (first_length (spans T s.slip)) then want 0 0 0 else giving (front_own T s.slip n) (1 + drop_pieces T s.slip n) 1)
+    asking n n 0 (whether leb n (first_length (spans T s.slip)) then want 0 0 0 else giving (front_own T s.slip n) (1 + drop_pieces T s.slip n) 1)
 
 -- s reads as before
 abbrev pub pullup_call : Name → ℕ → Meaning

@@ -1,6 +1,6 @@
 -- Release of a reference (bf_afree), and the stores that give a reference or take one.
 use Rattle.std.specs.Prelude.{Bool, ℕ, zero, suc, ◌-◌, eqb, ltb}
-use Rattle.rules.specs.Basics.{if◌then◌else◌}
+use Rattle.rules.specs.Basics.{whether◌then◌else◌}
 use Rattle.rules.specs.Tables.{Tables, blank, piece, buffer_count, head_of, piece_total, set_slip, set_piece, set_piece_count, with_count, with_next}
 use Rattle.rules.specs.Chain.{State, state_of, with_tables}
 use Rattle.rules.specs.Storage.{cleaned}
@@ -28,7 +28,7 @@ freed S d =
     let T = S.tables in
     let b = (piece T d).buffer in
     let n = buffer_count T b - 1 in
-    state_of (set_piece_count T d blank b n) (if eqb n 0 then cleaned T.stock S.storage b else S.storage)
+    state_of (set_piece_count T d blank b n) (whether eqb n 0 then cleaned T.stock S.storage b else S.storage)
 
 -- Release of a reference to the link n: 1 is taken from the piece's count; only where that
 -- reaches 0 is the piece freed and its next released in turn. k bounds the pieces freed.
@@ -38,7 +38,7 @@ release_in (suc k) S zero = S
 release_in (suc k) S (suc d) =
     let T = S.tables in
     let more = release_in k (freed S d) (piece T d).next in
-    if another T d then with_tables S (lowered T d) else more
+    whether another T d then with_tables S (lowered T d) else more
 
 -- no chain has more than P pieces
 unfoldable pub release : State → ℕ → State

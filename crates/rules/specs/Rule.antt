@@ -4,7 +4,7 @@ use Rattle.kinds.specs.declared.Refusal.{Refusal}
 use Rattle.kinds.specs.declared.Refusal.TheVariants.{Slips, Pieces, Buffers}
 use Rattle.kinds.specs.Refusal.{refusal_code}
 use Rattle.kinds.specs.Serial.{slip_in, serial_in}
-use Rattle.rules.specs.Basics.{if◌then◌else◌}
+use Rattle.rules.specs.Basics.{whether◌then◌else◌}
 use Rattle.rules.specs.Tables.{Tables, serial, slip_total}
 use Rattle.rules.specs.Chain.{State}
 use Rattle.rules.specs.Room.{is_vacant, ready_slips, free_pieces, free_buffers}
@@ -21,7 +21,7 @@ infixl 40 ◌⇐◌
 -- the code of the first refusal whose cause is there, or 0
 unfoldable pub first_code : List Judged → ℕ
 first_code [] = 0
-first_code (j ∷ js) = if j.applies then refusal_code j.refusal else first_code js
+first_code (j ∷ js) = whether j.applies then refusal_code j.refusal else first_code js
 
 -- What a caller gives for a slip: its number and its serial (a handle and its generation).
 pub record Name : Type 0 where
@@ -143,20 +143,18 @@ abbrev pub vacating : ℕ → Change
 vacating s = record { slip = s; bytes = []; vacated = true }
 
 -- The meaning of a call: its rule; the output, scratch or list that it is lent; the names that it
--- gives; what changes for callers, the slip that gets what is new first; what it asks; and the
--- buffers in use whose bytes it sets where they lie.
+-- gives; what changes for callers, the slip that gets what is new first; and what it asks.
 pub record Meaning : Type 0 where
   pub rule : State → Rule
   pub lent : List ℕ
   pub names : List Name
   pub changes : State → List Change
   pub asks : State → Asks
-  pub in_place : State → List ℕ
 
 -- a call that names slips, is lent no output, and changes slips
 abbrev pub means : List Name → (State → Rule) → (State → List Change) → (State → Asks) → Meaning
-means ns r cs a = record { rule = r; lent = []; names = ns; changes = cs; asks = a; in_place = λ S. [] }
+means ns r cs a = record { rule = r; lent = []; names = ns; changes = cs; asks = a }
 
 -- a call that names slips, is lent an output, and changes none
 abbrev pub looks : List Name → List ℕ → (State → Rule) → (State → Asks) → Meaning
-looks ns out r a = record { rule = r; lent = out; names = ns; changes = λ S. []; asks = a; in_place = λ S. [] }
+looks ns out r a = record { rule = r; lent = out; names = ns; changes = λ S. []; asks = a }

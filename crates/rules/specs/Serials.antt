@@ -1,12 +1,11 @@
 -- What a name is worth over lists of calls: put, dup and cut give it, it is good until it is given up, and from then on it is refused.
 use Rattle.std.specs.Prelude.{◌≡◌, ◌≢◌, ◌⊎◌, Bool, ◌&&◌, List, [], ◌∷◌, ◌++◌, ℕ, take, drop, eqb}
-use Rattle.rules.specs.Basics.{if◌then◌else◌, Among}
+use Rattle.rules.specs.Basics.{whether◌then◌else◌, Among}
 use Rattle.rules.specs.Bytes.{decode}
 use Rattle.rules.specs.Chain.{State, reads}
-use Rattle.rules.specs.Storage.{patched}
 use Rattle.rules.specs.Sound.{Lent}
 use Rattle.rules.specs.Rule.{Name, answered}
-use Rattle.rules.specs.Step.{Operation, Audit, Put, Free, Dup, Cut, Append, Drop, Keep, Pullup, Pack, Length, Read, Show, WireList, Write}
+use Rattle.rules.specs.Step.{Operation, Audit, Put, Free, Dup, Cut, Append, Drop, Keep, Pullup, Pack, Length, Read, Show, WireList}
 use Rattle.rules.specs.Step.{Call, Open, Do, meaning, step, state_in, next}
 use Rattle.rules.specs.Causes.{Missing}
 
@@ -41,7 +40,6 @@ GivesUp (Length s) x = ⊥
 GivesUp (Read s off n out) x = ⊥
 GivesUp (Show s n scratch) x = ⊥
 GivesUp (WireList s list) x = ⊥
-GivesUp (Write s off input) x = ⊥
 
 -- the call is done, and gives x up
 abbrev pub EndsName : Call → Name → Lent → Type 0
@@ -71,7 +69,6 @@ NewName (Length s) = ⊥
 NewName (Read s off n out) = ⊥
 NewName (Show s n scratch) = ⊥
 NewName (WireList s list) = ⊥
-NewName (Write s off input) = ⊥
 
 abbrev pub first_bytes : Operation → State → List ℕ
 first_bytes Audit S = []
@@ -88,34 +85,32 @@ first_bytes (Length s) S = []
 first_bytes (Read s off n out) S = []
 first_bytes (Show s n scratch) S = []
 first_bytes (WireList s list) S = []
-first_bytes (Write s off input) S = []
 
 -- a and x are one name
 abbrev pub is_name : Name → Name → Bool
 is_name a x = eqb a.slip x.slip && eqb a.serial x.serial
 
--- what a done operation makes of the bytes xs that x reads: append, drop, keep and write alone change them, where they name x first
+-- what a done operation makes of the bytes xs that x reads: append, drop and keep alone change them, where they name x first
 abbrev pub makes : Operation → State → Name → List ℕ → List ℕ
 makes Audit S x xs = xs
 makes (Put input) S x xs = xs
 makes (Free s) S x xs = xs
 makes (Dup s) S x xs = xs
 makes (Cut s off n) S x xs = xs
-makes (Append a b) S x xs = if is_name a x then xs ++ reads S b.slip else xs
-makes (Drop s n) S x xs = if is_name s x then drop n xs else xs
-makes (Keep s n) S x xs = if is_name s x then take n xs else xs
+makes (Append a b) S x xs = whether is_name a x then xs ++ reads S b.slip else xs
+makes (Drop s n) S x xs = whether is_name s x then drop n xs else xs
+makes (Keep s n) S x xs = whether is_name s x then take n xs else xs
 makes (Pullup s n) S x xs = xs
 makes (Pack s) S x xs = xs
 makes (Length s) S x xs = xs
 makes (Read s off n out) S x xs = xs
 makes (Show s n scratch) S x xs = xs
 makes (WireList s list) S x xs = xs
-makes (Write s off input) S x xs = if is_name s x then patched xs off input else xs
 
 -- what any call makes of them: nothing where it is refused
 abbrev pub made_by : Call → Lent → Name → List ℕ → List ℕ
 made_by (Open B P S) m x xs = xs
-made_by (Do o) m x xs = if eqb (step (Do o) m).code 0 then makes o (state_in m) x xs else xs
+made_by (Do o) m x xs = whether eqb (step (Do o) m).code 0 then makes o (state_in m) x xs else xs
 
 -- The name x is good on m, and reads xs.
 pub record Good (x : Name) (xs : List ℕ) (m : Lent) : Type 0 where

@@ -2,7 +2,7 @@
 use Rattle.std.specs.Prelude.{Bool, not, ◌&&◌, List, [], ◌∷◌, ℕ, length, take, ltb, leb, eqb}
 use Rattle.kinds.specs.declared.Refusal.TheVariants.{Slip, Long, Range, Narrow}
 use Rattle.kinds.specs.Limits.{buffer_size}
-use Rattle.rules.specs.Basics.{if◌then◌else◌}
+use Rattle.rules.specs.Basics.{whether◌then◌else◌}
 use Rattle.rules.specs.Chain.{State, Stretch, spans, first_length, length_of, position_of, reads}
 use Rattle.rules.specs.Rule.{Rule, Name, ◌⇐◌, unnamed, want, View, no_view, Meaning, looks, Asks, asking}
 use Rattle.rules.specs.Read.{copied}
@@ -15,8 +15,8 @@ scattered xs n = not (leb n (first_length xs))
 unfoldable pub view_of : List ℕ → List Stretch → ℕ → View
 view_of Z [] n = no_view
 view_of Z (x ∷ xs) n =
-    if eqb n 0 then no_view
-    else if scattered (x ∷ xs) n then record { in_scratch = 1; start = 0 }
+    whether eqb n 0 then no_view
+    else whether scattered (x ∷ xs) n then record { in_scratch = 1; start = 0 }
     else record { in_scratch = 0; start = position_of Z x }
 
 abbrev pub show : Name → ℕ → List ℕ → State → Rule
@@ -28,13 +28,13 @@ show s n scratch S =
       wants = want 0 0 0;
       after = S;
       number = n;
-      output = if scattered (spans T s.slip) n then copied (take n (reads S s.slip)) scratch else scratch;
+      output = whether scattered (spans T s.slip) n then copied (take n (reads S s.slip)) scratch else scratch;
       view = view_of T.stock (spans T s.slip) n;
     }
 
 -- n bytes at once, copied where the first piece does not have them
 abbrev pub show_asks : Name → ℕ → State → Asks
-show_asks s n S = asking n n (if ltb (first_length (spans S.tables s.slip)) n then n else 0) (want 0 0 0)
+show_asks s n S = asking n n (whether ltb (first_length (spans S.tables s.slip)) n then n else 0) (want 0 0 0)
 
 -- it changes nothing, and is lent the scratch
 abbrev pub show_call : Name → ℕ → List ℕ → Meaning

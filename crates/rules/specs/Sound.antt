@@ -2,7 +2,7 @@
 use Rattle.std.specs.Prelude.{◌≡◌, Bool, true, false, ◌&&◌, List, [], ◌∷◌, ℕ, zero, suc, ◌+◌, ◌<◌, length, get_or, ltb, eqb, leb}
 use Rattle.kinds.specs.Limits.{most_buffers, most_pieces, most_slips, counted}
 use Rattle.kinds.specs.Sizes.{size_of}
-use Rattle.rules.specs.Basics.{Is, if◌then◌else◌, bit, sum_to, all_to}
+use Rattle.rules.specs.Basics.{Is, whether◌then◌else◌, bit, sum_to, all_to}
 use Rattle.rules.specs.Layout.{version, pool_length, storage_length, mark}
 use Rattle.rules.specs.Tables.{Piece, Tables, piece, buffer_count, is_blank, head_of, slip_total, piece_total, buffer_total}
 use Rattle.rules.specs.Bytes.{version_in, buffers_in, pieces_in, slips_in, decode}
@@ -48,7 +48,7 @@ link_ok T (suc d) = ltb d (piece_total T) && in_use (piece T d)
 -- all zero, or a buffer below B, a length of at least 1, inside the buffer, and a good next
 abbrev pub piece_ok : Tables → Piece → Bool
 piece_ok T p =
-    if eqb p.count 0
+    whether eqb p.count 0
     then is_blank p
     else (ltb p.buffer (buffer_total T) && (leb 1 p.len && (leb (p.offset + p.len) (size_of T.stock p.buffer) && link_ok T p.next)))
 

@@ -2,7 +2,7 @@
 use Rattle.std.specs.Prelude.{List, [], ◌∷◌, ℕ, eqb}
 use Rattle.kinds.specs.declared.Refusal.TheVariants.{Counts, Torn}
 use Rattle.kinds.specs.Refusal.{refusal_code}
-use Rattle.rules.specs.Basics.{if◌then◌else◌}
+use Rattle.rules.specs.Basics.{whether◌then◌else◌}
 use Rattle.rules.specs.Tables.{fresh_tables}
 use Rattle.rules.specs.Bytes.{decode, encode}
 use Rattle.rules.specs.Chain.{State, state_of}
@@ -23,7 +23,6 @@ use Rattle.rules.specs.Length.{length_call}
 use Rattle.rules.specs.Read.{read_call}
 use Rattle.rules.specs.Show.{show_call}
 use Rattle.rules.specs.List.{list_call}
-use Rattle.rules.specs.Write.{write_call}
 
 -- The calls that ask a sound pool, with what they are lent besides pool and storage.
 pub data Operation : Type 0 where
@@ -41,7 +40,6 @@ pub data Operation : Type 0 where
   Read : Name → ℕ → ℕ → List ℕ → Operation
   Show : Name → ℕ → List ℕ → Operation
   WireList : Name → List ℕ → Operation
-  Write : Name → ℕ → List ℕ → Operation
 
 -- A call opens the pool anew with counts B, P and S, or does an operation.
 pub data Call : Type 0 where
@@ -64,7 +62,6 @@ meaning (Length s) = length_call s
 meaning (Read s off n out) = read_call s off n out
 meaning (Show s n scratch) = show_call s n scratch
 meaning (WireList s list) = list_call s list
-meaning (Write s off input) = write_call s off input
 
 -- its rule, and the output, scratch or list that it is lent
 unfoldable pub rule : Operation → State → Rule
@@ -104,15 +101,15 @@ unfoldable pub perform : Operation → Lent → Result
 perform o m =
     let r = rule o (state_in m) in
     let c = code_in r (decode m.pool) in
-    if eqb c 0 then done r else refused c m (lent_out o)
+    whether eqb c 0 then done r else refused c m (lent_out o)
 
 -- one call
 unfoldable pub step : Call → Lent → Result
 step (Open B P S) m =
-    if openable B P S m
+    whether openable B P S m
     then record { code = 0; number = 0; pool = encode (fresh_tables B P S); storage = m.storage; output = []; view = no_view }
     else refused (refusal_code Counts) m []
-step (Do o) m = if sound m then perform o m else refused (refusal_code Torn) m (lent_out o)
+step (Do o) m = whether sound m then perform o m else refused (refusal_code Torn) m (lent_out o)
 
 -- pool and storage after a call, and after a list of calls
 abbrev pub left_by : Result → Lent

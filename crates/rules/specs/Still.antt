@@ -1,18 +1,9 @@
 -- Operations that leave every byte as it is.
-use Rattle.std.specs.Prelude.{◌≡◌, ◌⊎◌, List, ℕ, ◌≤◌, length, take, drop}
+use Rattle.std.specs.Prelude.{◌≡◌, ◌≤◌, length}
 use Rattle.rules.specs.Chain.{State, chain, spans, first_length, reads}
-use Rattle.rules.specs.Write.{touched, written_in}
-use Rattle.rules.specs.Step.{Operation, Audit, Put, Free, Dup, Cut, Append, Drop, Keep, Pullup, Pack, Length, Read, Show, WireList, Write}
+use Rattle.rules.specs.Step.{Operation, Audit, Put, Free, Dup, Cut, Append, Drop, Keep, Pullup, Pack, Length, Read, Show, WireList}
 
--- a write of the bytes that are there, in which every touched piece stays
-abbrev pub Rewrites : ℕ → ℕ → List ℕ → State → Type 0
-Rewrites s off input S =
-    let T = S.tables in
-    let n = length input in
-    (length (written_in T s off n) ≡ length (touched T s off n)) × (take n (drop off (reads S s)) ≡ input)
-
--- Nothing to do: drop of no bytes, keep of all, pullup of what the first piece has, pack of at most one piece, write of no data or of the bytes that
--- are there in place, and every call that only looks.
+-- Nothing to do: drop of no bytes, keep of all, pullup of what the first piece has, pack of at most one piece, and every call that only looks.
 abbrev pub Still : Operation → State → Type 0
 Still Audit S = Unit {0}
 Still (Put input) S = ⊥
@@ -28,4 +19,3 @@ Still (Length s) S = Unit {0}
 Still (Read s off n out) S = Unit {0}
 Still (Show s n scratch) S = Unit {0}
 Still (WireList s list) S = Unit {0}
-Still (Write s off input) S = (length input ≡ 0) ⊎ Rewrites s.slip off input S

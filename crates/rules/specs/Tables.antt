@@ -108,9 +108,6 @@ with_next p n = record { count = p.count; buffer = p.buffer; offset = p.offset; 
 abbrev pub with_place : Piece → ℕ → ℕ → Piece
 with_place p off n = record { count = p.count; buffer = p.buffer; offset = off; len = n; next = p.next }
 
-abbrev pub with_buffer : Piece → ℕ → Piece
-with_buffer p b = record { count = p.count; buffer = b; offset = p.offset; len = p.len; next = p.next }
-
 -- the serial of slip s goes up by 1, never past the last
 abbrev pub aged : Tables → ℕ → Tables
 aged T s = set_serial T s (older (serial T s))

@@ -1,4 +1,6 @@
 // The calls of the C driver: each hands on to its body, which audits the pool that it is lent and then does its operation.
+#![tactic(auto)]
+
 ghost use Rattle.std.specs.Prelude.{◌≡◌, []};
 ghost use Rattle.rules.specs.Sound.{lent};
 ghost use Rattle.rules.specs.Rule.{name, no_view};
@@ -15,14 +17,7 @@ use kinds::{Answer, Serial, SlipNumber};
 use list::Stretch;
 
 // open: writes the fresh pool.
-#[unsafe(no_mangle)]
-pub extern "C" fn slp_open(
-    pool: &mut [u8],
-    storage: &[u8],
-    buffers: u16,
-    pieces: u16,
-    slips: u16,
-) -> Answer
+pub fn slp_open(pool: &mut [u8], storage: &[u8], buffers: u16, pieces: u16, slips: u16) -> Answer
     ensures { result_of result pool.new storage.now [] no_view
         ≡ step (Open buffers pieces slips) (lent pool.old storage.now) }
 {
@@ -30,16 +25,14 @@ pub extern "C" fn slp_open(
 }
 
 // audit: 0 if the pool is sound.
-#[unsafe(no_mangle)]
-pub extern "C" fn slp_audit(pool: &[u8], storage: &[u8]) -> Answer
+pub fn slp_audit(pool: &[u8], storage: &[u8]) -> Answer
     ensures { result_of result pool.now storage.now [] no_view ≡ step (Do Audit) (lent pool.now storage.now) }
 {
     calls_open::audit(pool, storage)
 }
 
 // put: bytes into fresh buffers, under a new slip.
-#[unsafe(no_mangle)]
-pub extern "C" fn slp_put(pool: &mut [u8], storage: &mut [u8], input: &[u8]) -> Answer
+pub fn slp_put(pool: &mut [u8], storage: &mut [u8], input: &[u8]) -> Answer
     ensures { result_of result pool.new storage.new [] no_view
         ≡ step (Do (Put input.now)) (lent pool.old storage.old) }
 {
@@ -47,8 +40,7 @@ pub extern "C" fn slp_put(pool: &mut [u8], storage: &mut [u8], input: &[u8]) -> 
 }
 
 // free: a slip gives up its chain.
-#[unsafe(no_mangle)]
-pub extern "C" fn slp_free(pool: &mut [u8], storage: &mut [u8], slip: u16, serial: u16) -> Answer
+pub fn slp_free(pool: &mut [u8], storage: &mut [u8], slip: u16, serial: u16) -> Answer
     ensures { result_of result pool.new storage.new [] no_view
         ≡ step (Do (Free (name slip serial))) (lent pool.old storage.old) }
 {
@@ -56,8 +48,7 @@ pub extern "C" fn slp_free(pool: &mut [u8], storage: &mut [u8], slip: u16, seria
 }
 
 // dup: a new slip on the same chain.
-#[unsafe(no_mangle)]
-pub extern "C" fn slp_dup(pool: &mut [u8], storage: &[u8], slip: u16, serial: u16) -> Answer
+pub fn slp_dup(pool: &mut [u8], storage: &[u8], slip: u16, serial: u16) -> Answer
     ensures { result_of result pool.new storage.now [] no_view
         ≡ step (Do (Dup (name slip serial))) (lent pool.old storage.now) }
 {
@@ -65,8 +56,7 @@ pub extern "C" fn slp_dup(pool: &mut [u8], storage: &[u8], slip: u16, serial: u1
 }
 
 // cut: a new slip on a range of a chain.
-#[unsafe(no_mangle)]
-pub extern "C" fn slp_cut(
+pub fn slp_cut(
     pool: &mut [u8],
     storage: &[u8],
     slip: u16,
@@ -88,8 +78,7 @@ pub extern "C" fn slp_cut(
 }
 
 // append: one chain behind another.
-#[unsafe(no_mangle)]
-pub extern "C" fn slp_append(
+pub fn slp_append(
     pool: &mut [u8],
     storage: &[u8],
     a: u16,
@@ -111,14 +100,7 @@ pub extern "C" fn slp_append(
 }
 
 // drop: the first bytes of a chain go.
-#[unsafe(no_mangle)]
-pub extern "C" fn slp_drop(
-    pool: &mut [u8],
-    storage: &mut [u8],
-    slip: u16,
-    serial: u16,
-    n: u32,
-) -> Answer
+pub fn slp_drop(pool: &mut [u8], storage: &mut [u8], slip: u16, serial: u16, n: u32) -> Answer
     ensures { result_of result pool.new storage.new [] no_view
         ≡ step (Do (Drop (name slip serial) n)) (lent pool.old storage.old) }
 {
@@ -126,14 +108,7 @@ pub extern "C" fn slp_drop(
 }
 
 // keep: the first bytes of a chain stay.
-#[unsafe(no_mangle)]
-pub extern "C" fn slp_keep(
-    pool: &mut [u8],
-    storage: &mut [u8],
-    slip: u16,
-    serial: u16,
-    n: u32,
-) -> Answer
+pub fn slp_keep(pool: &mut [u8], storage: &mut [u8], slip: u16, serial: u16, n: u32) -> Answer
     ensures { result_of result pool.new storage.new [] no_view
         ≡ step (Do (Keep (name slip serial) n)) (lent pool.old storage.old) }
 {
@@ -141,14 +116,7 @@ pub extern "C" fn slp_keep(
 }
 
 // pullup: the first bytes of a chain in one piece.
-#[unsafe(no_mangle)]
-pub extern "C" fn slp_pullup(
-    pool: &mut [u8],
-    storage: &mut [u8],
-    slip: u16,
-    serial: u16,
-    n: u32,
-) -> Answer
+pub fn slp_pullup(pool: &mut [u8], storage: &mut [u8], slip: u16, serial: u16, n: u32) -> Answer
     ensures { result_of result pool.new storage.new [] no_view
         ≡ step (Do (Pullup (name slip serial) n)) (lent pool.old storage.old) }
 {
@@ -156,8 +124,7 @@ pub extern "C" fn slp_pullup(
 }
 
 // pack: a chain's bytes put afresh under the same slip.
-#[unsafe(no_mangle)]
-pub extern "C" fn slp_pack(pool: &mut [u8], storage: &mut [u8], slip: u16, serial: u16) -> Answer
+pub fn slp_pack(pool: &mut [u8], storage: &mut [u8], slip: u16, serial: u16) -> Answer
     ensures { result_of result pool.new storage.new [] no_view
         ≡ step (Do (Pack (name slip serial))) (lent pool.old storage.old) }
 {
@@ -165,8 +132,7 @@ pub extern "C" fn slp_pack(pool: &mut [u8], storage: &mut [u8], slip: u16, seria
 }
 
 // length: the byte count of a chain.
-#[unsafe(no_mangle)]
-pub extern "C" fn slp_length(pool: &[u8], storage: &[u8], slip: u16, serial: u16) -> Answer
+pub fn slp_length(pool: &[u8], storage: &[u8], slip: u16, serial: u16) -> Answer
     ensures { result_of result pool.now storage.now [] no_view
         ≡ step (Do (Length (name slip serial))) (lent pool.now storage.now) }
 {
@@ -174,8 +140,7 @@ pub extern "C" fn slp_length(pool: &[u8], storage: &[u8], slip: u16, serial: u16
 }
 
 // read: copies bytes of a chain to the front of a lent output.
-#[unsafe(no_mangle)]
-pub extern "C" fn slp_read(
+pub fn slp_read(
     pool: &[u8],
     storage: &[u8],
     slip: u16,
@@ -199,8 +164,7 @@ pub extern "C" fn slp_read(
 }
 
 // show: the first bytes of a chain in one stretch, of storage or of a lent scratch.
-#[unsafe(no_mangle)]
-pub extern "C" fn slp_show(
+pub fn slp_show(
     pool: &[u8],
     storage: &[u8],
     slip: u16,
@@ -215,14 +179,7 @@ pub extern "C" fn slp_show(
 }
 
 // list: where the pieces of a chain lie in storage, two numbers each, to the front of a lent list.
-#[unsafe(no_mangle)]
-pub extern "C" fn slp_list(
-    pool: &[u8],
-    storage: &[u8],
-    slip: u16,
-    serial: u16,
-    list: &mut [u32],
-) -> Answer
+pub fn slp_list(pool: &[u8], storage: &[u8], slip: u16, serial: u16, list: &mut [u32]) -> Answer
     ensures { result_of result pool.now storage.now list.new no_view
         ≡ step (Do (WireList (name slip serial) list.old)) (lent pool.now storage.now) }
 {
@@ -230,16 +187,14 @@ pub extern "C" fn slp_list(
 }
 
 // gather: the bytes that the records of a list name, copied out of storage to the front of a lent output, with no pool.
-#[unsafe(no_mangle)]
-pub extern "C" fn slp_gather(storage: &[u8], list: &[u32], output: &mut [u8]) -> Gathered
+pub fn slp_gather(storage: &[u8], list: &[u32], output: &mut [u8]) -> Gathered
     ensures { gathered_of result output.new ≡ gather storage.now list.now output.old }
 {
     gather::gather(storage, list, output)
 }
 
 // stretches: list over a lent slice of records instead of numbers.
-#[unsafe(no_mangle)]
-pub extern "C" fn slp_stretches(
+pub fn slp_stretches(
     pool: &[u8],
     storage: &[u8],
     slip: u16,

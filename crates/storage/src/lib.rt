@@ -1,4 +1,6 @@
 // The bytes of storage: a buffer is filled, and bytes are copied.
+#![tactic(auto)]
+
 ghost use Rattle.std.specs.Prelude.{◌≡◌, [], ◌++◌, ◌+◌, ◌-◌, ◌*◌, ◌≤◌, length, take, drop, replicate};
 ghost use Rattle.kinds.specs.Limits.{buffer_size};
 ghost use Rattle.rules.specs.Storage.{filled_at};

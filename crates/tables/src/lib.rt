@@ -1,4 +1,6 @@
 // The pool's tables in lent bytes: every entry is loaded and stored here and nowhere else.
+#![tactic(auto)]
+
 ghost use Rattle.std.specs.Prelude.{◌≡◌, pred, ◌<◌, ◌≤◌, ◌∷◌, ◌++◌, length};
 ghost use Rattle.kinds.specs.SlipState.{state_of};
 ghost use Rattle.rules.specs.Tables.{blank, slip, serial, piece, buffer_count, set_slip, set_serial, aged, set_piece, with_count, with_next, with_place, set_count};
@@ -10,7 +12,7 @@ use kinds::{BufferNumber, PieceNumber, Serial, SlipNumber, SlipState};
 use layout::Shape;
 
 // The five numbers of a piece, loaded.
-#[derive(Drop)]
+#[derive(Clone, Copy)]
 pub struct Entry {
     pub count: u16,
     pub buffer: BufferNumber,

@@ -8,7 +8,7 @@ use native.Mathlib.Decide.{ℕ_discrete}
 use native.Mathlib.Omega.{arith}
 use lib.ListN.{length, drop}
 use lib.Dec.{ltb, ltb→lt}
-use Rattle.rules.specs.Basics.{Is, if◌then◌else◌}
+use Rattle.rules.specs.Basics.{Is, whether◌then◌else◌}
 use Rattle.rules.specs.Layout.{storage_length}
 use Rattle.rules.specs.Tables.{Tables, piece, piece_total, buffer_total}
 use Rattle.rules.specs.Chain.{own_at, total, contents}
@@ -54,8 +54,8 @@ abbrev place_of : Spot → Cursor
 place_of s = record { link = s.link; into = s.into }
 
 -- it goes by the test that chose the spot
-place_choice : (b : Bool) (x y u v : Spot) → place_of x ≡ place_of u → place_of y ≡ place_of v → place_of (if b then x else y) ≡ place_of (if b then u else v)
-unfolding if◌then◌else◌
+place_choice : (b : Bool) (x y u v : Spot) → place_of x ≡ place_of u → place_of y ≡ place_of v → place_of (whether b then x else y) ≡ place_of (whether b then u else v)
+unfolding whether◌then◌else◌
 place_choice true x y u v e f = e
 place_choice false x y u v e f = f
 

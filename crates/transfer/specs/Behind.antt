@@ -1,6 +1,6 @@
 -- Places in a chain, one behind the other.
 use Rattle.std.specs.Prelude.{◌≡◌, true, ℕ, ◌+◌, ◌-◌, ◌<◌, min, ltb}
-use Rattle.rules.specs.Basics.{if◌then◌else◌}
+use Rattle.rules.specs.Basics.{whether◌then◌else◌}
 use Rattle.rules.specs.Tables.{Tables, piece, piece_total}
 use Rattle.rules.specs.Chain.{stretch, position_of}
 use Rattle.chain.specs.Find.{spot_of}
@@ -26,6 +26,6 @@ extent_at T c n =
 -- the place k bytes behind the place c, which are of its piece; at its end, the start of the next
 abbrev pub advanced : Tables → Cursor → ℕ → Cursor
 advanced T c k =
-    if ltb (c.into + k) (piece T (c.link - 1)).len
+    whether ltb (c.into + k) (piece T (c.link - 1)).len
     then record { link = c.link; into = c.into + k }
     else record { link = (piece T (c.link - 1)).next; into = 0 }

@@ -1,4 +1,6 @@
 // The bytes of chains: copied out to a lent slice, and filled into free buffers.
+#![tactic(auto)]
+
 ghost use Rattle.std.specs.Prelude.{◌≡◌, ◌+◌, ◌-◌, ◌<◌, ◌≤◌, min, length, take, drop};
 ghost use Rattle.kinds.specs.Limits.{buffer_size};
 ghost use Rattle.rules.specs.Basics.{Is};
@@ -23,14 +25,14 @@ use layout::Shape;
 const SIZE: usize = BufferNumber::SIZE as usize;
 
 // A place in a chain, the link to a piece and the bytes of it before the place: a cursor.
-#[derive(Drop)]
+#[derive(Clone, Copy)]
 pub struct Cursor {
     pub link: u16,
     pub into: u32,
 }
 
 // Bytes of a chain that lie together in storage, where they start and how many: an extent.
-#[derive(Drop)]
+#[derive(Clone, Copy)]
 struct Extent {
     start: usize,
     count: u32,

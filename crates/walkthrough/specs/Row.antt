@@ -1,7 +1,7 @@
 -- A row of the walk-through, behind its call: the answer, the tables or the bytes shown, a blank line.
 use Rattle.std.specs.Prelude.{List, [], ◌∷◌, ◌++◌, ℕ, eqb}
 use Rattle.kinds.specs.declared.Answer.{Answer}
-use Rattle.rules.specs.Basics.{if◌then◌else◌}
+use Rattle.rules.specs.Basics.{whether◌then◌else◌}
 use Rattle.rules.specs.Sound.{Lent}
 use Rattle.rules.specs.Rule.{Name, View}
 use Rattle.rules.specs.Step.{Show, Do, step}
@@ -18,7 +18,7 @@ row_text kind a pool = answer_text kind a ++ ascii "\n" ++ pool_text pool ++ asc
 
 -- the place of a view, on a line of its own
 abbrev pub place_text : View → List ℕ
-place_text v = if eqb v.in_scratch 0 then ascii "\n  storage " else ascii "\n  scratch "
+place_text v = whether eqb v.in_scratch 0 then ascii "\n  storage " else ascii "\n  scratch "
 
 -- bytes in decimal, each behind a space
 unfoldable pub bytes_text : List ℕ → List ℕ

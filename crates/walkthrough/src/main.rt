@@ -1,5 +1,7 @@
 // One morning at a relay: document 01's ten marked rows, each with its call, its answer and the tables after it, and two shows, each with the bytes seen.
 // Every slip is named at its first serial.
+#![tactic(auto)]
+
 ghost use Rattle.std.specs.Prelude.{◌≡◌, length};
 ghost use Rattle.rules.specs.Morning.{byte_run};
 ghost use Rattle.rules.specs.Sound.{lent};
@@ -10,9 +12,9 @@ ghost use Rattle.walkthrough.specs.Row.{row_text, place_text, bytes_text, shown_
 
 use calls_look::Shown;
 use kinds::{Answer, SlipNumber};
-use libc::STDOUT_FILENO;
 use page::Cursor;
 use reply::Reply;
+use std::io;
 
 // Sets byte i to i mod 251: the morning's data.
 fn fill_data(input: &mut [u8])
@@ -83,107 +85,143 @@ fn put_shown<'a>(
 }
 
 // Prints a row whose call stands before the cursor: one write.
-fn show(out: &mut [u8], c: Cursor, kind: Reply, a: Answer, pool: &[u8]) {
+fn show(
+    rt: &impl Print,
+    out: &mut [u8],
+    c: Cursor,
+    kind: Reply,
+    a: Answer,
+    pool: &[u8],
+) -> io::Result<()> {
     let end = put_row(out, c, kind, a, pool);
-    io::write_all(STDOUT_FILENO, page::written(out, end));
+    rt.write_all(page::written(out, end))
 }
 
 // Prints a row whose call has one number: a call of one argument.
-fn show_one(name: &[u8], n: u32, kind: Reply, a: Answer, pool: &[u8]) {
+fn show_one(
+    rt: &impl Print,
+    name: &[u8],
+    n: u32,
+    kind: Reply,
+    a: Answer,
+    pool: &[u8],
+) -> io::Result<()> {
     let mut out = [0u8; 1024];
     let c = page::put_tagged(&mut out, page::start(), name, n);
-    show(&mut out, c, kind, a, pool);
+    show(rt, &mut out, c, kind, a, pool)
 }
 
 // Prints a row whose call has two numbers and answers none: a call of two arguments.
-fn show_two(name: &[u8], m: u32, n: u32, a: Answer, pool: &[u8]) {
+fn show_two(
+    rt: &impl Print,
+    name: &[u8],
+    m: u32,
+    n: u32,
+    a: Answer,
+    pool: &[u8],
+) -> io::Result<()> {
     let mut out = [0u8; 1024];
     let first = page::put_tagged(&mut out, page::start(), name, m);
     let c = page::put_tagged(&mut out, first, b" ", n);
-    show(&mut out, c, Reply::Done, a, pool);
+    show(rt, &mut out, c, Reply::Done, a, pool)
 }
 
 // Prints a row whose call has three numbers: a call of three arguments.
-fn show_three(name: &[u8], l: u32, m: u32, n: u32, kind: Reply, a: Answer, pool: &[u8]) {
+fn show_three(
+    rt: &impl Print,
+    name: &[u8],
+    l: u32,
+    m: u32,
+    n: u32,
+    kind: Reply,
+    a: Answer,
+    pool: &[u8],
+) -> io::Result<()> {
     let mut out = [0u8; 1024];
     let first = page::put_tagged(&mut out, page::start(), name, l);
     let second = page::put_tagged(&mut out, first, b" ", m);
     let c = page::put_tagged(&mut out, second, b" ", n);
-    show(&mut out, c, kind, a, pool);
+    show(rt, &mut out, c, kind, a, pool)
 }
 
 // Prints the first `n` bytes of a slip, of storage or, where they are scattered, copied to a scratch: a show.
-fn show_bytes(pool: &[u8], storage: &[u8], slip: SlipNumber, n: u32) {
+fn show_bytes(
+    rt: &impl Print,
+    pool: &[u8],
+    storage: &[u8],
+    slip: SlipNumber,
+    n: u32,
+) -> io::Result<()> {
     let mut scratch = [0u8; 512];
     let mut out = [0u8; 1024];
     let first = page::put_tagged(&mut out, page::start(), b"show ", slip.0 as u32);
     let c = page::put_tagged(&mut out, first, b" ", n);
     let end = put_shown(&mut out, c, pool, storage, slip, n, &mut scratch);
-    io::write_all(STDOUT_FILENO, page::written(&out, end));
+    rt.write_all(page::written(&out, end))
 }
 
 // A fresh pool of 4 buffers, 6 pieces and 4 slips: the initial image.
-fn open(pool: &mut [u8], storage: &[u8]) {
+fn open(rt: &impl Print, pool: &mut [u8], storage: &[u8]) -> io::Result<()> {
     let a = slp::slp_open(pool, storage, 4, 6, 4);
-    show_three(b"open ", 4, 6, 4, Reply::Done, a, pool);
+    show_three(rt, b"open ", 4, 6, 4, Reply::Done, a, pool)
 }
 
 // Row 1, 600 bytes into two buffers: a put.
-fn put(pool: &mut [u8], storage: &mut [u8]) {
+fn put(rt: &impl Print, pool: &mut [u8], storage: &mut [u8]) -> io::Result<()> {
     let mut input = [0u8; 600];
     fill_data(&mut input);
     let a = slp::slp_put(pool, storage, &input);
-    show_one(b"put ", 600, Reply::Slip, a, pool);
+    show_one(rt, b"put ", 600, Reply::Slip, a, pool)
 }
 
 // Rows 2 and 3, a cut and a dup that share buffers and pieces: no byte is copied.
-fn share(pool: &mut [u8], storage: &[u8]) {
+fn share(rt: &impl Print, pool: &mut [u8], storage: &[u8]) -> io::Result<()> {
     let cut = slp::slp_cut(pool, storage, 0, 0, 500, 50);
-    show_three(b"cut ", 0, 500, 50, Reply::Slip, cut, pool);
+    show_three(rt, b"cut ", 0, 500, 50, Reply::Slip, cut, pool)?;
     let dup = slp::slp_dup(pool, storage, 0, 0);
-    show_one(b"dup ", 0, Reply::Slip, dup, pool);
+    show_one(rt, b"dup ", 0, Reply::Slip, dup, pool)
 }
 
 // Rows 4 and 10, a slip gives up its chain: a release.
-fn free(pool: &mut [u8], storage: &mut [u8], slip: SlipNumber) {
+fn free(rt: &impl Print, pool: &mut [u8], storage: &mut [u8], slip: SlipNumber) -> io::Result<()> {
     let a = slp::slp_free(pool, storage, slip.0, 0);
-    show_one(b"free ", slip.0 as u32, Reply::Done, a, pool);
+    show_one(rt, b"free ", slip.0 as u32, Reply::Done, a, pool)
 }
 
 // Row 5, a chain shortened at its front: no byte is copied.
-fn trim_front(pool: &mut [u8], storage: &mut [u8]) {
+fn trim_front(rt: &impl Print, pool: &mut [u8], storage: &mut [u8]) -> io::Result<()> {
     let drop = slp::slp_drop(pool, storage, 2, 0, 520);
-    show_two(b"drop ", 2, 520, drop, pool);
+    show_two(rt, b"drop ", 2, 520, drop, pool)
 }
 
 // Rows 6 and 7, a chain joined to another, and shortened at its end: no byte is copied.
-fn join_and_trim(pool: &mut [u8], storage: &mut [u8]) {
+fn join_and_trim(rt: &impl Print, pool: &mut [u8], storage: &mut [u8]) -> io::Result<()> {
     let append = slp::slp_append(pool, storage, 1, 0, 2, 0);
-    show_two(b"append ", 1, 2, append, pool);
+    show_two(rt, b"append ", 1, 2, append, pool)?;
     let keep = slp::slp_keep(pool, storage, 1, 0, 40);
-    show_two(b"keep ", 1, 40, keep, pool);
+    show_two(rt, b"keep ", 1, 40, keep, pool)
 }
 
 // Rows 8 and 9, a chain's bytes brought together in a fresh buffer: a gather.
-fn gather(pool: &mut [u8], storage: &mut [u8]) {
+fn gather(rt: &impl Print, pool: &mut [u8], storage: &mut [u8]) -> io::Result<()> {
     let pullup = slp::slp_pullup(pool, storage, 1, 0, 20);
-    show_two(b"pullup ", 1, 20, pullup, pool);
-    show_bytes(pool, storage, SlipNumber(1), 20);
+    show_two(rt, b"pullup ", 1, 20, pullup, pool)?;
+    show_bytes(rt, pool, storage, SlipNumber(1), 20)?;
     let pack = slp::slp_pack(pool, storage, 1, 0);
-    show_one(b"pack ", 1, Reply::Done, pack, pool);
+    show_one(rt, b"pack ", 1, Reply::Done, pack, pool)
 }
 
 // The morning, on a pool and storage of its own.
-fn main() {
+fn main(rt: HostRuntime) -> io::Result<()> {
     let mut pool = [0u8; 95];
     let mut storage = [0u8; 2048];
-    open(&mut pool, &storage);
-    put(&mut pool, &mut storage);
-    share(&mut pool, &storage);
-    free(&mut pool, &mut storage, SlipNumber(0));
-    trim_front(&mut pool, &mut storage);
-    join_and_trim(&mut pool, &mut storage);
-    show_bytes(&pool, &storage, SlipNumber(1), 20);
-    gather(&mut pool, &mut storage);
-    free(&mut pool, &mut storage, SlipNumber(1));
+    open(&rt, &mut pool, &storage)?;
+    put(&rt, &mut pool, &mut storage)?;
+    share(&rt, &mut pool, &storage)?;
+    free(&rt, &mut pool, &mut storage, SlipNumber(0))?;
+    trim_front(&rt, &mut pool, &mut storage)?;
+    join_and_trim(&rt, &mut pool, &mut storage)?;
+    show_bytes(&rt, &pool, &storage, SlipNumber(1), 20)?;
+    gather(&rt, &mut pool, &mut storage)?;
+    free(&rt, &mut pool, &mut storage, SlipNumber(1))
 }

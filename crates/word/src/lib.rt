@@ -1,4 +1,6 @@
 // 16-bit numbers in bytes, low byte first (little-endian).
+#![tactic(auto)]
+
 ghost use Rattle.std.specs.Prelude.{◌≡◌, ◌+◌, ◌*◌, ◌≤◌, length};
 ghost use Rattle.word.specs.Word.{get16, set16};
 

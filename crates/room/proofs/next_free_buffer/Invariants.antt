@@ -1,0 +1,13 @@
+use mathlib.Core.Path.{◌≡◌}
+use Prim.Native.Nat.{◌-◌}
+use Rattle.rules.specs.Tables.{buffer_total}
+use Rattle.rules.specs.Bytes.{decode}
+use Rattle.rules.specs.Room.{is_unheld}
+use Rattle.room.specs.Free.{first_from}
+use Rattle.room.proofs.next_free_buffer.Given as goal
+
+abbrev pub invariant-loop-b : goal.invariant-loop-b
+invariant-loop-b l = let T = decode l.pool in first_from (is_unheld T) l.b (buffer_total T) ≡ first_from (is_unheld T) l.initial.b (buffer_total T)
+
+abbrev pub decreases-loop-b : goal.decreases-loop-b
+decreases-loop-b l = l.shape.buffers - l.b

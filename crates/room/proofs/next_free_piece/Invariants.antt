@@ -1,0 +1,13 @@
+use mathlib.Core.Path.{◌≡◌}
+use Prim.Native.Nat.{◌-◌}
+use Rattle.rules.specs.Tables.{piece_total}
+use Rattle.rules.specs.Bytes.{decode}
+use Rattle.rules.specs.Room.{is_free}
+use Rattle.room.specs.Free.{first_from}
+use Rattle.room.proofs.next_free_piece.Given as goal
+
+abbrev pub invariant-loop-d : goal.invariant-loop-d
+invariant-loop-d l = let T = decode l.pool in first_from (is_free T) l.d (piece_total T) ≡ first_from (is_free T) l.initial.d (piece_total T)
+
+abbrev pub decreases-loop-d : goal.decreases-loop-d
+decreases-loop-d l = l.shape.pieces - l.d

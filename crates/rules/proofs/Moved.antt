@@ -1,1 +1,0 @@
--- Pieces moved to fresh buffers. Assumes nothing.

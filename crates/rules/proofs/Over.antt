@@ -1,1 +1,0 @@
--- Bytes written over where they lie. Assumes nothing.

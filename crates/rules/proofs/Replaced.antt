@@ -1,1 +1,0 @@
--- Pieces that are not own are replaced, and the chain goes on behind them. Assumes nothing.

@@ -1,0 +1,11 @@
+-- `tables::serial` meets its contract. Assumes nothing.
+use Prim.Native.Nat.{ℕ}
+use mathlib.Core.Path.{ap}
+use native.Mathlib.Omega.{arith}
+use Rattle.tables.proofs.Laws.{load_serial}
+use Rattle.tables.proofs.serial.Goals as goal
+
+pub returns : goal.returns
+returns c =
+    let z = c.before.before.before in
+    ap (λ (n : ℕ). record { 0 = n }) (load_serial z.requires.0 c.get16.ensures z.args.s.0 z.requires.1 (omega arith) (omega arith))
