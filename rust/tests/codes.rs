@@ -109,11 +109,13 @@ fn header_calls() {
 #[test]
 fn reply() {
     let source = include_str!("../../crates/reply/src/lib.rt");
-    let arms = between(source, "match code {\n", "_ => c,").trim().lines();
+    let arms = between(source, "match code {\n", "_ => b\"\",")
+        .trim()
+        .lines();
     let arm = |line: &str| {
         let (code, call) = line.split_once(" => ").expect(line);
-        let word = call.strip_prefix("page::put_text(out, c, b\" ");
-        let word = word.and_then(|word| word.strip_suffix("\"),"));
+        let word = call.strip_prefix("b\" ");
+        let word = word.and_then(|word| word.strip_suffix("\","));
         (number(code), word.expect(line).to_string())
     };
     assert_eq!(arms.map(arm).collect::<Codes>(), table());
@@ -128,10 +130,16 @@ fn reply() {
 #[test]
 fn kinds() {
     let source = include_str!("../../crates/kinds/src/lib.rt");
-    let arms = source.lines().map(str::trim);
-    let arms = arms.filter_map(|line| line.strip_prefix("Refusal::")?.strip_suffix(','));
-    let said: Codes = arms.map(|arm| capitals(pair(arm, " => "))).collect();
-    assert_eq!(said, table());
+    // A variant without a number of its own has the one behind that of the variant before it.
+    let mut last = 0;
+    let variants = between(source, "pub enum Refusal {\n", "\n}").lines();
+    let row = |line: &str| {
+        let line = line.trim().trim_end_matches(',');
+        let (variant, code) = line.split_once(" = ").unwrap_or((line, ""));
+        last = code.parse().unwrap_or(last + 1);
+        capitals((last, variant.to_string()))
+    };
+    assert_eq!(variants.map(row).collect::<Codes>(), table());
 
     let specs = include_str!("../../crates/kinds/specs/Refusal.antt");
     let rows = specs.lines().filter(|line| line.contains(" = "));

@@ -31,9 +31,9 @@ fn text_at(place: &str) -> String {
 
 /// Whether a line declares a name: after words of declaration it has the name and then, unless one of them tells a kind, its type.
 fn declares(line: &str, name: &str) -> bool {
-    const PLAIN: [&str; 4] = ["pub ", "abbrev ", "unfoldable ", "extern \"C\" "];
-    const TELLING: [&str; 7] = [
-        "record ", "data ", "ruleset ", "fn ", "struct ", "enum ", "const ",
+    const PLAIN: [&str; 5] = ["pub ", "abbrev ", "unfoldable ", "extern \"C\" ", "final "];
+    const TELLING: [&str; 9] = [
+        "record ", "data ", "ruleset ", "fn ", "struct ", "enum ", "const ", "type ", "impl ",
     ];
     let (mut rest, mut told) = (line.trim_start(), false);
     loop {

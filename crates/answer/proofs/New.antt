@@ -6,9 +6,8 @@ use native.Mathlib.Omega.{arith}
 use lib.ListN.{get_or}
 use Rattle.kinds.specs.Serial.{name_with, slip_in}
 use Rattle.kinds.specs.SlipState.{state_of}
-use Rattle.kinds.specs.declared.Outcome.{Outcome}
-use Rattle.kinds.specs.declared.Outcome.TheVariants.{Done}
-use Rattle.kinds.specs.Outcome.{number_of}
+use Rattle.std.specs.Prelude.{Ok}
+use Rattle.kinds.specs.Outcome.{Outcome, number_of}
 use Rattle.rules.specs.Tables.{Tables, slip, serial, name_of, piece_total, holding, set_slip}
 use Rattle.rules.specs.Bytes.{decode}
 use Rattle.rules.specs.Chain.{Stretch}
@@ -50,7 +49,7 @@ pub new_name : (T : Tables) (x : Plan) (fs : List ℕ) (t : ℕ) {p : List ℕ} 
 new_name T x fs t was e = ap (λ (U : Tables). name_of U t) was.is ∙ ap (λ (ks : List ℕ). name_with t (get_or ks t 0)) e
 
 -- the slip that is answered is left in the state answered
-pub new_leaves : (D U : Tables) (t : ℕ) {o : Outcome} → t < 65536 → o ≡ Done (record { state = state_of (slip D t); number = name_of U t })
+pub new_leaves : (D U : Tables) (t : ℕ) {o : Outcome} → t < 65536 → o ≡ Ok (record { state = state_of (slip D t); number = name_of U t })
     → Leaves o (state_of (slip D (slip_in (number_of o))))
 new_leaves D U t l e =
     subst (λ (y : Outcome). Leaves y (state_of (slip D (slip_in (number_of y))))) (sym e) (ap (λ (s : ℕ). state_of (slip D s)) (sym (slip_in_lem t (serial U t) l)))

@@ -8,8 +8,8 @@ use lib.Dec.{eqb, eqb→eq, ltb, ltb→lt}
 use Rattle.kinds.specs.declared.SlipState.{SlipState}
 use Rattle.kinds.specs.declared.Refusal.{Refusal}
 use Rattle.kinds.specs.declared.Refusal.TheVariants.{Slips, Pieces, Buffers}
-use Rattle.kinds.specs.declared.Outcome.{Outcome}
-use Rattle.kinds.specs.declared.Outcome.TheVariants.{Done}
+use Rattle.kinds.specs.Outcome.{Outcome}
+use Rattle.std.specs.Prelude.{Ok}
 use Rattle.kinds.specs.Refusal.{refusal_code}
 use Rattle.rules.specs.Basics.{Is}
 use Rattle.rules.specs.Bytes.{decode, encode}
@@ -90,7 +90,7 @@ module _ (o : Operation) (m : Lent) (early : first_code (rule o (state_in m)).ju
 
 -- ---- what an operation that is done leaves: the bytes of the rule's tables, and its storage
 
-pub changed : {a : Outcome} {x : SlipState} {n : ℕ} {p st : List ℕ} {h : Shape} (js : List Judged) (w : Wants) (k : ℕ) (S : State) → a ≡ Done (record { state = x; number = n }) → n ≡ k
+pub changed : {a : Outcome} {x : SlipState} {n : ℕ} {p st : List ℕ} {h : Shape} (js : List Judged) (w : Wants) (k : ℕ) (S : State) → a ≡ Ok (record { state = x; number = n }) → n ≡ k
     → AllBytes p → Holds p h S.tables → st ≡ S.storage → result_of a p st [] no_view ≡ done (alters js w k S)
 unfolding done
 changed {p = p} {st} js w k S a n b is e =

@@ -1,9 +1,7 @@
 -- What an operation answers and leaves, as the rules write it.
-use Rattle.std.specs.Prelude.{◌≡◌, List, ℕ}
+use Rattle.std.specs.Prelude.{◌≡◌, List, ℕ, Ok, Err}
 use Rattle.kinds.specs.declared.SlipState.{SlipState}
-use Rattle.kinds.specs.declared.Outcome.{Outcome}
-use Rattle.kinds.specs.declared.Outcome.TheVariants.{Done, Refused}
-use Rattle.kinds.specs.Outcome.{code_of, number_of}
+use Rattle.kinds.specs.Outcome.{Outcome, code_of, number_of}
 use Rattle.rules.specs.Rule.{View}
 use Rattle.rules.specs.Step.{Result}
 
@@ -13,5 +11,5 @@ result_of o pool storage output view = record { code = code_of o; number = numbe
 
 -- a done outcome carries the slip's state
 abbrev pub Leaves : Outcome → SlipState → Type 0
-Leaves (Done t) state = t.state ≡ state
-Leaves (Refused r) state = Unit {0}
+Leaves (Ok t) state = t.state ≡ state
+Leaves (Err r) state = Unit {0}

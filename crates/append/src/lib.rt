@@ -14,8 +14,9 @@ ghost use Rattle.chain.specs.Opened.{Opened};
 ghost use Rattle.answer.specs.Result.{result_of, Leaves};
 ghost use Rattle.append.specs.Join.{good_name, Joinable, linked};
 
-use kinds::{Outcome, PieceNumber, Refusal, Serial, SlipNumber};
+use kinds::{Outcome, PieceNumber, Refusal, SlipName, SlipNumber, Step};
 use layout::Shape;
+use own::OwnRun;
 
 // The link `n` goes behind the piece that `last` leads to, or under slip `s` where that is 0: a tail linked.
 fn link(pool: &mut [u8], shape: Shape, s: SlipNumber, last: u16, n: u16)
@@ -39,10 +40,10 @@ fn lower(pool: &mut [u8], shape: Shape, d: PieceNumber)
 }
 
 // Slip `b` is vacant, and its serial goes up; the answer is slip `a`'s: a handle retired.
-fn retire(pool: &mut [u8], shape: Shape, a: SlipNumber, b: SlipNumber) -> Outcome
+fn retire(pool: &mut [u8], shape: Shape, a: SlipNumber, b: SlipNumber) -> Step
     requires { Shaped pool.old shape × (a.0 < shape.slips) × (b.0 < shape.slips) }
     ensures becomes { Becomes pool.old pool.new shape (λ T. aged T b.0) }
-    ensures value { result ≡ Outcome.Done (record { state = state_of (slip (decode pool.new) a.0); number = 0 }) }
+    ensures value { result ≡ record { state = state_of (slip (decode pool.new) a.0); number = 0 } }
 {
     tables::age(pool, shape, b);
     answer::done(pool, shape, a, 0)
@@ -62,62 +63,41 @@ fn join(
         ≡ perform (Append (good_name (decode pool.old) a.0) (good_name (decode pool.old) b.0)) (lent pool.old st) }
     ensures leaves { Leaves result (state_of (slip (decode pool.new) a.0)) }
 {
-    let own = own::own_run(pool, shape, head);
-    let last = own.last;
-    let next = own.next;
+    let OwnRun { last, next } = own::own_run(pool, shape, head);
     if next == 0 {
         tables::set_slip(pool, shape, b, 0);
         link(pool, shape, a, last, tail);
-        return retire(pool, shape, a, b);
+        return Ok(retire(pool, shape, a, b));
     }
     let pieces = chain::pieces_from(pool, shape, next);
-    let room = room::piece_room(pool, shape, pieces as usize);
-    if !room.enough {
-        return Outcome::Refused(Refusal::Pieces);
-    }
-    let lowest = room.lowest;
+    let lowest = room::room_for(pool, shape, pieces as usize).ok_or(Refusal::Pieces)?;
     let first = build::copy_pieces(pool, shape, next, 0, u32::MAX, pieces, lowest, tail);
     tables::set_slip(pool, shape, b, 0);
     link(pool, shape, a, last, first);
     lower(pool, shape, PieceNumber(next - 1));
-    retire(pool, shape, a, b)
+    Ok(retire(pool, shape, a, b))
 }
 
 // Slip `a` comes to read as a and then b, and `b` is vacant: a chain concatenated.
-pub fn append(
-    pool: &mut [u8],
-    shape: Shape,
-    a: SlipNumber,
-    a_serial: Serial,
-    b: SlipNumber,
-    b_serial: Serial,
-) -> Outcome
+pub fn append(pool: &mut [u8], shape: Shape, a: SlipName, b: SlipName) -> Outcome
     requires { Opened pool.old shape }
     ensures by_index { (st : List ℕ) → result_of result pool.new st [] no_view
-        ≡ perform (Append (name a.0 a_serial.0) (name b.0 b_serial.0)) (lent pool.old st) }
-    ensures leaves { Leaves result (state_of (slip (decode pool.new) a.0)) }
+        ≡ perform (Append (name a.slip.0 a.serial.0) (name b.slip.0 b.serial.0)) (lent pool.old st) }
+    ensures leaves { Leaves result (state_of (slip (decode pool.new) a.slip.0)) }
 {
-    let first = chain::enter(pool, shape, a, a_serial);
-    if !kinds::state_of(first).held() {
-        return Outcome::Refused(Refusal::Slip);
+    let head = chain::enter(pool, shape, a)?;
+    let tail = chain::enter(pool, shape, b)?;
+    if a.slip == b.slip {
+        return Err(Refusal::Same);
     }
-    let second = chain::enter(pool, shape, b, b_serial);
-    if !kinds::state_of(second).held() {
-        return Outcome::Refused(Refusal::Slip);
-    }
-    if a.0 == b.0 {
-        return Outcome::Refused(Refusal::Same);
-    }
-    let head = first - 1;
-    let tail = second - 1;
     if head == 0 {
-        tables::set_slip(pool, shape, b, 0);
-        tables::set_slip(pool, shape, a, second);
-        return retire(pool, shape, a, b);
+        tables::set_slip(pool, shape, b.slip, 0);
+        tables::set_slip(pool, shape, a.slip, tail + 1);
+        return Ok(retire(pool, shape, a.slip, b.slip));
     }
     if tail == 0 {
-        tables::set_slip(pool, shape, b, 0);
-        return retire(pool, shape, a, b);
+        tables::set_slip(pool, shape, b.slip, 0);
+        return Ok(retire(pool, shape, a.slip, b.slip));
     }
-    join(pool, shape, a, b, head, tail)
+    join(pool, shape, a.slip, b.slip, head, tail)
 }

@@ -1,7 +1,8 @@
 -- The walks with colours decide whether following next ends. Assumes nothing.
 use mathlib.Core.Path.{◌≡◌, refl, sym, ap, ◌∙◌}
 use mathlib.Core.Logic.{◌≢◌, ◌⊎◌, inl, inr, ⊎_elim}
-use mathlib.Core.Bool.{true, false, not, true≢false, false≢true}
+use Rattle.std.specs.Prelude.{Ok, Err}
+use mathlib.Core.Bool.{true}
 use mathlib.Core.List.{List, [], ◌∷◌}
 use Prim.Native.Nat.{ℕ, zero, suc, ◌+◌, ◌-◌, ◌≤◌, ◌<◌}
 use native.Mathlib.Nat.{le_refl, not-suc-le-zero}
@@ -9,19 +10,21 @@ use native.Mathlib.Decide.{ℕ_discrete, dec_lt}
 use native.Mathlib.Omega.{arith}
 use lib.ListN.{length, get_or, set, length-set, length-map, get_or-map}
 use lib.Seq.{get_or-set_same, get_or-set_other}
-use lib.Dec.{ltb, ltb→lt, lt→ltb, eqb, eqb→eq}
-use borrow.Author.Tests.{eq-eqb, ne_eqb}
+use lib.Dec.{ltb, ltb→lt, lt→ltb, eqb→eq}
 use Rattle.kinds.specs.Limits.{most_count}
 use Rattle.rules.specs.Basics.{Is, bit}
 use Rattle.rules.specs.Tables.{Tables, piece, piece_total}
+use Rattle.rules.specs.Bytes.{decode}
 use Rattle.rules.specs.Chain.{follow}
 use Rattle.rules.specs.Sound.{acyclic}
 use Rattle.rules.proofs.Logic.{bit_T, bit_F, bit_one, is_true, is_false, same_test, eq→eqb, all_intro, all_at}
 use Rattle.rules.proofs.Sums.{sum_to_same, sum_to_one, sum_to_change, sum_to_none, sum_to_ones}
 use Rattle.rules.proofs.Audit.{follow_more}
 use Rattle.layout.specs.declared.Shape.{Shape}
-use Rattle.counts.specs.Counters.{Hold, references}
-use Rattle.counts.proofs.Counters.{Totals, references_most}
+use Rattle.counts.specs.Ranges.{pieces_in_range}
+use Rattle.counts.specs.Counters.{Limited, Hold, references}
+use Rattle.counts.proofs.Ranges.{pieces_linked}
+use Rattle.counts.proofs.Counters.{totals, references_most}
 use Rattle.audit.specs.Follows.{ends_from, is_met, follows_of}
 use Rattle.audit.specs.Colours.{colours_in, Plain, coloured, Covered, Scanned, Walked}
 use Rattle.audit.proofs.Follows.{follow_last, met_by, met_from, follows_all}
@@ -97,11 +100,10 @@ colours_set (x ∷ xs) zero w = refl
 colours_set (x ∷ xs) (suc d) w = ap (λ l. (x - most_count) ∷ l) (colours_set xs d w)
 
 -- where counters hold what refers to each piece, they hold counts alone
-pub plain_held : {T : Tables} {h : Shape} {c : List ℕ} → Totals T h → Hold (piece_total T) c (references T) → Plain h.pieces c
-plain_held {T} k v = record {
-  long = omega (arith, v.long);
-  each = λ d l. omega (arith, v.each d (omega (arith, v.long)), references_most T d);
-}
+pub plain_held : {p : List ℕ} {h : Shape} {c : List ℕ} → Limited p h → Hold (piece_total (decode p)) c (references (decode p)) → Plain h.pieces c
+plain_held {p} k v =
+    let t = totals k in
+    record { long = omega (arith, v.long); each = λ d l. omega (arith, v.each d (omega (arith, v.long)), references_most (decode p) d) }
 
 -- ---- one walk
 
@@ -123,7 +125,7 @@ pub record InWalk (T : Tables) (c₀ : List ℕ) (n₀ a : ℕ) (c : List ℕ) (
   pub closed : (e : ℕ) → e < piece_total T → 0 < get_or c e 0 → ((piece T e).next ≡ link) ⊎ Covered c (piece T e).next
 
 module _ {T : Tables} {c₀ : List ℕ} {n₀ a : ℕ} (r : Scanned T c₀ n₀ a) (l : a < piece_total T) where
-  pub walk_start : InWalk T c₀ n₀ a c₀ (a + 1) n₀
+  walk_start : InWalk T c₀ n₀ a c₀ (a + 1) n₀
   unfolding follow
   walk_start = record {
     long = r.long;
@@ -177,7 +179,9 @@ module _ {T : Tables} {c₀ : List ℕ} {n₀ a : ℕ} (r : Scanned T c₀ n₀ 
       ];
       closed = λ e m p. elim (ℕ_discrete e d) [
         | yes s ↦ inl (ap (λ x. (piece T x).next) s)
-        | no s ↦ inr (⊎_elim (λ x. cover (set c d (a + 1)) (x ∙ to) (omega (arith, at d refl))) (λ x f q. kept f (x f q)) (v.closed e m (omega (arith, other e s))))
+        | no s ↦ (
+            let w = v.closed e m (omega (arith, other e s)) in
+            inr (⊎_elim (λ x. cover (set c d (a + 1)) (x ∙ to) (omega (arith, at d refl))) (λ x f q. kept f (x f q)) w))
       ];
     }
       where
@@ -194,14 +198,14 @@ module _ {T : Tables} {c₀ : List ℕ} {n₀ a : ℕ} (r : Scanned T c₀ n₀ 
         kept e p = elim (ℕ_discrete e d) [ yes s ↦ omega (arith, at e s) | no s ↦ omega (arith, other e s) ]
 
   module _ {c : List ℕ} {link n : ℕ} (v : InWalk T c₀ n₀ a c link n) where
-    pub walk_most : n ≤ piece_total T
+    walk_most : n ≤ piece_total T
     walk_most = omega (arith, v.follows, coloured_most c (piece_total T))
 
     -- where following next from here ends within the follows before this walk, the walk ends
-    walk_good : follow T n₀ link ≡ 0 → 0 < get_or c a 0 → Covered c link → Walked T c a n true
+    walk_good : follow T n₀ link ≡ 0 → 0 < get_or c a 0 → Covered c link → Walked T c a (Ok n)
     walk_good h s g = record {
       bounded = walk_most;
-      good = λ _. record {
+      good = record {
         long = v.long;
         linked = r.linked;
         within = omega arith;
@@ -218,11 +222,11 @@ module _ {T : Tables} {c₀ : List ℕ} {n₀ a : ℕ} (r : Scanned T c₀ n₀ 
         met = v.met;
         closed = λ e m p. ⊎_elim (λ x f q. g f (sym x ∙ q)) (λ x. x) (v.closed e m p);
       };
-      bad = λ q. absurd (true≢false q);
+      bad = tt;
     }
 
     -- it ends at no piece
-    pub walk_none : link ≡ 0 → Walked T c a n true
+    walk_none : link ≡ 0 → Walked T c a (Ok n)
     walk_none z =
         walk_good (rw z (none_ends T n₀)) (⊎_elim (λ x. absurd (omega arith)) (λ x. omega arith) v.begun) (λ f q. absurd (omega arith))
 
@@ -231,7 +235,7 @@ module _ {T : Tables} {c₀ : List ℕ} {n₀ a : ℕ} (r : Scanned T c₀ n₀ 
       m = omega (arith, v.in_range)
 
       -- it comes to a piece of an earlier walk
-      walk_met : 0 < get_or c d 0 → get_or c d 0 ≢ a + 1 → Walked T c a n true
+      walk_met : 0 < get_or c d 0 → get_or c d 0 ≢ a + 1 → Walked T c a (Ok n)
       walk_met p q =
           let old : get_or c d 0 ≡ get_or c₀ d 0 = ⊎_elim (λ x. absurd (q x)) (λ x. x) (v.either d m) in
           walk_good (rw to (r.ended d m (omega arith)))
@@ -292,63 +296,82 @@ module _ {T : Tables} {c₀ : List ℕ} {n₀ a : ℕ} (r : Scanned T c₀ n₀ 
                 let (f, k, s, ends, h) = met_from T e t in
                 lt→ltb 0 (get_or c e 0) (stays k (suc f) e s (cover c refl (begins f ends)) h)
 
-        walk_back : Walked T c a n false
+        walk_back : Walked T c a (Err n)
         unfolding acyclic follows_of coloured
         walk_back = record {
           bounded = walk_most;
-          good = λ x. absurd (false≢true x);
-          bad = λ _. (
+          good = tt;
+          bad = (
             is_false _ (λ t. endless (all_at (piece_total T) (ends_from T) t a l)),
             v.follows ∙ sum_to_same (piece_total T) _ _ (λ e i. ap bit (coloured_met e i)),
           );
         }
 
-      -- it comes to a piece that has a colour
-      walk_seen : get_or c d 0 ≢ 0 → Walked T c a n (not (eqb (get_or c d 0) (a + 1)))
-      walk_seen p =
-          elim (ℕ_discrete (get_or c d 0) (a + 1)) [
-            | yes q ↦ rw (eq-eqb (get_or c d 0) (a + 1) q) (walk_back q)
-            | no q ↦ rw (ne_eqb (get_or c d 0) (a + 1) q) (walk_met (omega arith) q)
-          ]
+-- ---- the same of the counters that hold the colours: what is above every count is a colour
 
-  -- the same of the counters that hold the colours: what is above every count is a colour
-  module _ (c : List ℕ) {link n : ℕ} (v : InWalk T c₀ n₀ a (colours_in c) link n) (d : ℕ) (to : link ≡ suc d) where
-    pub counter_on : get_or c d 0 ≤ most_count → InWalk T c₀ n₀ a (colours_in (set c d (most_count + a + 1))) (piece T d).next (n + 1)
-    counter_on s =
-        let e : most_count + a + 1 - most_count ≡ a + 1 = omega arith in
-        rw (colours_set, e) (walk_on v d to (omega (arith, colour_at c d)))
+-- the walk under way in the pool p of the shape h, with the counters c
+pub record Under (p : List ℕ) (h : Shape) (c₀ : List ℕ) (n₀ a : ℕ) (c : List ℕ) (link n : ℕ) : Type 0 where
+  pub walk : InWalk (decode p) (colours_in c₀) n₀ a (colours_in c) link n
+  pub leads : link ≤ h.pieces
+  pub room : h.pieces ≤ length c
+  pub few : n ≤ h.pieces
 
-    pub counter_seen : most_count < get_or c d 0 → Walked T (colours_in c) a n (not (eqb (get_or c d 0) (most_count + a + 1)))
-    counter_seen s =
-        let x = get_or (colours_in c) d 0 in
-        let y = get_or c d 0 in
-        let e : eqb x (a + 1) ≡ eqb y (most_count + a + 1) = same_test _ _
-        (λ t. eq→eqb y (most_count + a + 1) (omega (arith, colour_at c d, eqb→eq x (a + 1) t)))
-        (λ t. eq→eqb x (a + 1) (omega (arith, colour_at c d, eqb→eq y (most_count + a + 1) t))) in
-        rw e at (walk_seen v d to (omega (arith, colour_at c d)))
+from : {p : List ℕ} {h : Shape} {a : ℕ} → Limited p h → a < h.pieces → a < piece_total (decode p)
+from k l = let t = totals k in omega arith
+
+module _ {p : List ℕ} {h : Shape} (k : Limited p h) {c₀ : List ℕ} {n₀ a : ℕ} (r : Scanned (decode p) (colours_in c₀) n₀ a) (l : a < h.pieces) where
+  under : {c : List ℕ} {link n : ℕ} → InWalk (decode p) (colours_in c₀) n₀ a (colours_in c) link n → Under p h c₀ n₀ a c link n
+  under {c} v =
+      let t = totals k in
+      record { walk = v; leads = omega (arith, v.in_range); room = omega (arith, v.long, colours_long c); few = omega (arith, walk_most r (from k l) v) }
+
+  pub under_start : Under p h c₀ n₀ a c₀ (a + 1) n₀
+  under_start = under (walk_start r (from k l))
+
+  module _ {c : List ℕ} {link n : ℕ} (u : Under p h c₀ n₀ a c link n) where
+    pub under_none : link ≡ 0 → Walked (decode p) (colours_in c) a (Ok n)
+    under_none z = walk_none r (from k l) u.walk z
+
+    module _ {d : ℕ} (to : link ≡ suc d) where
+      pub under_on : get_or c d 0 ≤ most_count → Under p h c₀ n₀ a (set c d (most_count + a + 1)) (piece (decode p) d).next (n + 1)
+      under_on s =
+          let e : most_count + a + 1 - most_count ≡ a + 1 = omega arith in
+          under (rw (colours_set, e) (walk_on r (from k l) u.walk d to (omega (arith, colour_at c d))))
+
+      pub under_back : get_or c d 0 ≡ most_count + a + 1 → Walked (decode p) (colours_in c) a (Err n)
+      under_back s = walk_back r (from k l) u.walk d to (omega (arith, colour_at c d))
+
+      pub under_met : most_count < get_or c d 0 → get_or c d 0 ≢ most_count + a + 1 → Walked (decode p) (colours_in c) a (Ok n)
+      under_met s q = walk_met r (from k l) u.walk d to (omega (arith, colour_at c d)) (λ x. q (omega (arith, colour_at c d)))
 
 -- ---- the walks from every piece
 
-pub scan_start : (T : Tables) {h : Shape} {c : List ℕ} → Totals T h → ((e : ℕ) → e < piece_total T → (piece T e).next ≤ piece_total T) → Plain h.pieces c →
-    Scanned T (colours_in c) 0 0
-scan_start T {h} {c} k linked v =
-    let zero_at : (e : ℕ) → e < piece_total T → get_or (colours_in c) e 0 ≡ 0 = λ e l. omega (arith, colour_at c e, v.each e (omega arith)) in
-    record {
-      long = omega (arith, colours_long c, v.long);
-      linked = linked;
-      within = omega arith;
-      follows = sym (coloured_none (colours_in c) (piece_total T) zero_at);
-      older = λ e l. omega (arith, zero_at e l);
-      passed = λ e l. absurd (not-suc-le-zero l);
-      ended = λ e l p. absurd (omega (arith, zero_at e l));
-      met = λ e w l q. absurd (omega (arith, zero_at e l));
-      closed = λ e l p. absurd (omega (arith, zero_at e l));
-    }
+module _ {p : List ℕ} {h : Shape} (k : Limited p h) where
+  pub scan_start : {c : List ℕ} → pieces_in_range (decode p) ≡ true → Plain h.pieces c → Scanned (decode p) (colours_in c) 0 0
+  scan_start {c} q v =
+      let t = totals k in
+      let P = piece_total (decode p) in
+      let zero_at : (e : ℕ) → e < P → get_or (colours_in c) e 0 ≡ 0 = λ e l. omega (arith, colour_at c e, v.each e (omega arith)) in
+      record {
+        long = omega (arith, colours_long c, v.long);
+        linked = pieces_linked (decode p) q;
+        within = omega arith;
+        follows = sym (coloured_none (colours_in c) P zero_at);
+        older = λ e l. omega (arith, zero_at e l);
+        passed = λ e l. absurd (not-suc-le-zero l);
+        ended = λ e l x. absurd (omega (arith, zero_at e l));
+        met = λ e w l x. absurd (omega (arith, zero_at e l));
+        closed = λ e l x. absurd (omega (arith, zero_at e l));
+      }
 
-pub scan_end : {T : Tables} {c : List ℕ} {n d : ℕ} → Scanned T c n d → piece_total T ≤ d → (acyclic T ≡ true) × (n ≡ follows_of T) × (n ≤ piece_total T)
-unfolding acyclic
-scan_end {T} {c} {n} v k =
-    let P = piece_total T in
-    let all : n ≡ P = v.follows ∙ coloured_all c P (λ e l. v.passed e (omega arith)) in
-    let ends : Is (acyclic T) = all_intro P (ends_from T) (λ e l. eq→eqb (follow T P (suc e)) 0 (follow_more T n P (suc e) (omega arith) (v.ended e l (v.passed e (omega arith))))) in
-    (is_true _ ends, all ∙ sym (follows_all T ends), omega arith)
+  pub scan_end : {c : List ℕ} {n d : ℕ} → Scanned (decode p) c n d → h.pieces ≤ d →
+      (true ≡ acyclic (decode p)) × (n ≡ follows_of (decode p)) × (n ≤ piece_total (decode p))
+  unfolding acyclic
+  scan_end {c} {n} v l =
+      let t = totals k in
+      let T = decode p in
+      let P = piece_total T in
+      let all : n ≡ P = v.follows ∙ coloured_all c P (λ e m. v.passed e (omega arith)) in
+      let ended : (e : ℕ) → e < P → follow T P (suc e) ≡ 0 = λ e m. follow_more T n P (suc e) (omega arith) (v.ended e m (v.passed e (omega arith))) in
+      let ends : Is (acyclic T) = all_intro P (ends_from T) (λ e m. eq→eqb _ _ (ended e m)) in
+      (sym (is_true _ ends), all ∙ sym (follows_all T ends), omega arith)

@@ -1,7 +1,8 @@
 -- How often next is followed: never more than P times, and exactly P times where no chain meets itself. Assumes nothing.
+use Rattle.std.specs.Prelude.{Result, Err, is_ok}
 use mathlib.Core.Path.{◌≡◌, refl, sym, ◌∙◌}
 use mathlib.Core.Logic.{⊎_elim}
-use mathlib.Core.Bool.{Bool, true, false, ◌&&◌}
+use mathlib.Core.Bool.{true, false, ◌&&◌}
 use Prim.Native.Nat.{ℕ, zero, suc, ◌≤◌, ◌<◌}
 use native.Mathlib.Omega.{arith}
 use lib.Dec.{eqb, eqb→eq}
@@ -10,12 +11,13 @@ use Rattle.rules.specs.Tables.{Tables, piece, piece_total}
 use Rattle.rules.specs.Bytes.{pieces_in, decode}
 use Rattle.rules.specs.Chain.{follow}
 use Rattle.rules.specs.Sound.{Lent, is_header_ok, acyclic, sound_tables, sound}
-use Rattle.rules.proofs.Logic.{bit_T, bit_one, is_true, is_false, is_dec, eq→eqb, and_0, and_1, and_intro, all_intro, all_at, any_intro, any_at, if_T, if_F, if_either}
+use Rattle.rules.proofs.Logic.{bit_T, bit_one, is_true, is_false, is_dec, eq→eqb, and_0, and_1, and_intro, all_intro, all_at, any_intro, any_at}
+use Rattle.rules.proofs.Logic.{if_T, if_F, if_either}
 use Rattle.rules.proofs.Sums.{sum_to_same, sum_to_one, sum_to_ones}
 use Rattle.rules.proofs.Bytes.{decode_pieces}
 use Rattle.counts.specs.Ranges.{references_ok}
 use Rattle.counts.proofs.Ranges.{references_torn, references_held}
-use Rattle.audit.specs.Follows.{ends_from, meets, walked_from, is_met, follows_of, tables_follows, Tested, audit_follows}
+use Rattle.audit.specs.Follows.{followed, ends_from, meets, walked_from, is_met, follows_of, tables_follows, Tested, audit_follows}
 
 -- one follow more
 pub follow_last : (T : Tables) (k n d : ℕ) → follow T k n ≡ suc d → follow T (suc k) n ≡ (piece T d).next
@@ -65,10 +67,10 @@ module _ (T : Tables) where
   tables_all q = if_T (references_ok T) (follows_of T) 0 (rw q tt)
 
   -- what the tables' test answers, where an entry or a count is wrong and where all are right
-  pub tested_torn : references_ok T ≡ false → Tested T false 0
+  pub tested_torn : references_ok T ≡ false → Tested T (Err 0)
   tested_torn q = record { exact = references_torn T q; follows = sym (tables_none q); bounded = omega arith }
 
-  pub tested_held : references_ok T ≡ true → {r : Bool} {n : ℕ} → r ≡ acyclic T → n ≡ follows_of T → n ≤ piece_total T → Tested T r n
+  pub tested_held : references_ok T ≡ true → {r : Result ℕ ℕ} → is_ok r ≡ acyclic T → followed r ≡ follows_of T → followed r ≤ piece_total T → Tested T r
   tested_held q e f l = record { exact = e ∙ references_held T q; follows = f ∙ sym (tables_all q); bounded = l }
 
 -- the audit follows next at most P times, whatever the pool
@@ -76,8 +78,9 @@ pub audit_most : (m : Lent) → audit_follows m ≤ pieces_in m.pool
 unfolding audit_follows tables_follows
 audit_most m =
     let T = decode m.pool in
-    if_either (λ n. n ≤ pieces_in m.pool) (is_header_ok m) (tables_follows T) 0
-    (λ _. if_either (λ n. n ≤ pieces_in m.pool) (references_ok T) (follows_of T) 0 (λ _. omega (arith, follows_most T, decode_pieces m.pool)) (λ _. omega arith))
+    let Few : ℕ → Type 0 = λ n. n ≤ pieces_in m.pool in
+    if_either Few (is_header_ok m) (tables_follows T) 0
+    (λ _. if_either Few (references_ok T) (follows_of T) 0 (λ _. omega (arith, follows_most T, decode_pieces m.pool)) (λ _. omega arith))
     (λ _. omega arith)
 
 -- and of a sound pool exactly P times

@@ -1,45 +1,47 @@
--- What a caller gets from the audit's verdict, without a look into the test. Assumes nothing.
-use mathlib.Core.Path.{◌≡◌, sym, ◌∙◌}
-use mathlib.Core.Bool.{true, false}
-use mathlib.Core.List.{List}
+-- What a caller gets from the audit's answer, without a look into the test. Assumes nothing.
+use mathlib.Core.Path.{◌≡◌, sym, ap, ◌∙◌}
+use mathlib.Core.Bool.{false}
+use mathlib.Core.List.{List, [], ◌∷◌}
 use Prim.Native.Nat.{ℕ}
-use native.Mathlib.Omega.{arith}
-use lib.ListN.{length, length-replicate}
+use lib.ListN.{length}
+use Rattle.std.specs.Prelude.{Ok, Err}
+use Rattle.kinds.specs.declared.Refusal.{Refusal}
 use Rattle.rules.specs.Basics.{Is}
-use Rattle.rules.specs.Sound.{sound, Sound, lent}
+use Rattle.rules.specs.Layout.{storage_length}
+use Rattle.rules.specs.Bytes.{decode}
+use Rattle.rules.specs.Sound.{sound, Sound, SoundTables, lent}
 use Rattle.rules.proofs.Audit.{sound_is}
 use Rattle.rules.proofs.Bytes.{Header, header_facts}
-use Rattle.tables.specs.Shape.{Shaped}
+use Rattle.layout.specs.declared.Shape.{Shape}
+use Rattle.tables.specs.Shape.{stock_of}
 use Rattle.counts.specs.Counters.{Limited, zeros}
-use Rattle.audit.specs.declared.Audited.{Audited}
-use Rattle.audit.specs.Verdict.{Verdict}
+use Rattle.audit.specs.Verdict.{AuditIs}
+use Rattle.audit.proofs.Verdict.{within, bytes}
 
-module _ {p : List ℕ} {n : ℕ} {r : Audited} (v : Verdict p n r) where
+module _ {p : List ℕ} {n : ℕ} where
   -- the pool is torn
-  pub verdict_torn : r.sound ≡ false → (st : List ℕ) → length st ≡ n → sound (lent p st) ≡ false
-  verdict_torn q st l = sym (v.exact st l) ∙ q
+  pub audit_torn : {why : Refusal} → AuditIs p n (Err why) → (st : List ℕ) → length st ≡ n → sound (lent p st) ≡ false
+  audit_torn v st l = sym (v.exact st l)
 
-  module _ (q : r.sound ≡ true) where
+  module _ {h : Shape} (v : AuditIs p n (Ok h)) where
     -- the pool is sound
-    verdict_true : (st : List ℕ) → length st ≡ n → sound (lent p st) ≡ true
-    verdict_true st l = sym (v.exact st l) ∙ q
+    pub audit_is : (st : List ℕ) → length st ≡ n → Is (sound (lent p st))
+    audit_is st l = rw (← v.exact st l) tt
 
-    pub verdict_is : (st : List ℕ) → length st ≡ n → Is (sound (lent p st))
-    verdict_is st l = rw (verdict_true st l) tt
+    whole : Sound (lent p (zeros n))
+    whole = (sound_is _).0 (audit_is (zeros n) (bytes n))
 
-    pub verdict_sound : (st : List ℕ) → length st ≡ n → Sound (lent p st)
-    verdict_sound st l = (sound_is (lent p st)).0 (verdict_is st l)
+    header : Header (lent p (zeros n))
+    header = header_facts _ whole.header_ok
 
-    pub verdict_header : (st : List ℕ) → length st ≡ n → Header (lent p st)
-    verdict_header st l = header_facts (lent p st) (verdict_sound st l).header_ok
+    -- so are its tables
+    pub audit_tables : SoundTables (decode p)
+    audit_tables = whole.tables_ok
 
-    -- the pool has the shape that was loaded
-    pub verdict_shaped : Shaped p r.shape
-    verdict_shaped = v.shaped q
+    -- the storage has the bytes of its buffers
+    pub audit_storage : n ≡ storage_length (stock_of h) h.buffers
+    audit_storage = sym (bytes n) ∙ header.storage_long ∙ ap (λ (b : ℕ). storage_length (b ∷ []) b) (sym v.shaped.buffers)
 
     -- the counts are within their limits
-    pub verdict_limited : Limited p r.shape
-    verdict_limited =
-        let s = verdict_shaped in
-        let k = verdict_header (zeros n) (length-replicate {A = ℕ} n 0) in
-        record { shaped = s; few_buffers_lem = omega arith; few_pieces_lem = omega arith; few_slips = omega arith }
+    pub audit_limited : Limited p h
+    audit_limited = within header v.shaped

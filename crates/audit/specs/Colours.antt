@@ -1,18 +1,11 @@
 -- The walks with colours: from each piece without a colour next is followed, and each piece met gets the walk's colour.
-use Rattle.std.specs.Prelude.{◌≡◌, Bool, true, false, List, map, ℕ, suc, ◌+◌, ◌-◌, ◌/◌, ◌≤◌, ◌<◌, length, get_or, ltb}
-use Rattle.kinds.specs.Limits.{most_buffers, most_pieces, most_count}
+use Rattle.std.specs.Prelude.{◌≡◌, false, List, map, ℕ, suc, ◌+◌, ◌-◌, ◌≤◌, ◌<◌, length, get_or, ltb, Result, IfOk, IfErr}
+use Rattle.kinds.specs.Limits.{most_count}
 use Rattle.rules.specs.Basics.{bit, sum_to}
 use Rattle.rules.specs.Tables.{Tables, piece, piece_total}
 use Rattle.rules.specs.Chain.{follow}
 use Rattle.rules.specs.Sound.{acyclic}
-use Rattle.audit.specs.Follows.{follows_of}
-
--- the most pieces and buffers of a small pool
-abbrev pub few_pieces : ℕ
-few_pieces = most_pieces / 8
-
-abbrev pub few_buffers : ℕ
-few_buffers = most_buffers / 8
+use Rattle.audit.specs.Follows.{followed, follows_of}
 
 -- the colours in counters c: what is above every count; a count itself is none, 0
 unfoldable pub colours_in : List ℕ → List ℕ
@@ -45,8 +38,8 @@ pub record Scanned (T : Tables) (c : List ℕ) (n d : ℕ) : Type 0 where
   pub met : (e w : ℕ) → e < piece_total T → get_or c e 0 ≡ suc w → (k : ℕ) × (k < n) × (follow T k (suc w) ≡ suc e)
   pub closed : (e : ℕ) → e < piece_total T → 0 < get_or c e 0 → Covered c (piece T e).next
 
--- What a walk from piece d leaves: n follows, at most P, and whether it ends. Where it comes back, n is the follows of all walks.
-pub record Walked (T : Tables) (c : List ℕ) (d n : ℕ) (ends : Bool) : Type 0 where
-  pub bounded : n ≤ piece_total T
-  pub good : ends ≡ true → Scanned T c n (d + 1)
-  pub bad : ends ≡ false → (acyclic T ≡ false) × (n ≡ follows_of T)
+-- What a walk from piece d leaves: n follows, at most P, Ok where it ends. Where it comes back, n is the follows of all walks.
+pub record Walked (T : Tables) (c : List ℕ) (d : ℕ) (r : Result ℕ ℕ) : Type 0 where
+  pub bounded : followed r ≤ piece_total T
+  pub good : IfOk r (λ n. Scanned T c n (d + 1))
+  pub bad : IfErr r (λ n. (acyclic T ≡ false) × (n ≡ follows_of T))

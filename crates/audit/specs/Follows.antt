@@ -1,5 +1,5 @@
 -- How often the audit follows next: once for each piece that its walks meet, so at most P times.
-use Rattle.std.specs.Prelude.{◌≡◌, Bool, ◌&&◌, ℕ, suc, ◌≤◌, eqb}
+use Rattle.std.specs.Prelude.{◌≡◌, Bool, ◌&&◌, ℕ, suc, ◌≤◌, eqb, Result, Ok, Err, is_ok}
 use Rattle.rules.specs.Basics.{whether◌then◌else◌, bit, sum_to, all_to, any_to}
 use Rattle.rules.specs.Tables.{Tables, piece_total}
 use Rattle.rules.specs.Bytes.{decode}
@@ -31,11 +31,16 @@ follows_of T = sum_to (piece_total T) (λ e. bit (is_met T e))
 unfoldable pub tables_follows : Tables → ℕ
 tables_follows T = whether references_ok T then follows_of T else 0
 
--- what the test of the tables answers: whether they are sound, and n follows, at most P
-pub record Tested (T : Tables) (r : Bool) (n : ℕ) : Type 0 where
-  pub exact : r ≡ sound_tables T
-  pub follows : n ≡ tables_follows T
-  pub bounded : n ≤ piece_total T
+-- the follows that following next took, whether it ends or comes back
+abbrev pub followed : Result ℕ ℕ → ℕ
+followed (Ok n) = n
+followed (Err n) = n
+
+-- what the test of the tables answers: Ok where they are sound, and the follows, at most P
+pub record Tested (T : Tables) (r : Result ℕ ℕ) : Type 0 where
+  pub exact : is_ok r ≡ sound_tables T
+  pub follows : followed r ≡ tables_follows T
+  pub bounded : followed r ≤ piece_total T
 
 -- the follows of the audit: none where the header does not fit
 unfoldable pub audit_follows : Lent → ℕ

@@ -10,33 +10,23 @@ use Rattle.rules.specs.Basics.{Is}
 use Rattle.rules.specs.Tables.{Piece, Tables, piece, piece_total, buffer_total}
 use Rattle.rules.specs.Bytes.{decode}
 use Rattle.rules.specs.Chain.{Stretch, stretches, cut_out}
-use Rattle.rules.specs.Sound.{link_ok, SoundTables}
+use Rattle.rules.specs.Sound.{link_ok}
 use Rattle.rules.specs.Room.{is_free, free_pieces}
 use Rattle.rules.specs.Build.{fresh, taken, built}
 use Rattle.rules.proofs.Logic.{if_F}
 use Rattle.layout.specs.declared.Shape.{Shape}
-use Rattle.tables.specs.Shape.{Holds}
+use Rattle.tables.specs.Shape.{Shaped}
+use Rattle.tables.proofs.Laws.{totals}
 use Rattle.chain.specs.Opened.{Opened}
 use Rattle.chain.specs.Length.{stretches_from}
 use Rattle.chain.proofs.Links.{InUse, link_leads, walk_none, walk_on}
-use Rattle.room.specs.Free.{first_from}
+use Rattle.room.specs.Free.{lowest_for}
+use Rattle.room.proofs.Free.{lowest_some}
 use Rattle.build.specs.declared.Cloning.{Cloning}
-use Rattle.build.specs.declared.InLine.{InLine}
-use Rattle.build.specs.Line.{link_in_line, in_line}
+use Rattle.build.specs.Line.{link_in_line}
 use Rattle.build.specs.Clone.{stretch_at, next_part, cloned, Clonable}
 use Rattle.build.proofs.Forward.{piece_other}
 use Rattle.build.proofs.Line.{Line, line_opened, line_step}
-
--- ---- one piece
-
--- what copying a piece leaves, from the numbers that the code has
-pub clone_done : (T : Tables) (c : Cloning) (k tail : ℕ) {h : Shape} {q : List ℕ} {len n b o next : ℕ} {l : InLine} → l ≡ in_line T c.free.0 k tail → len ≡ (piece T (c.at - 1)).len
-    → n ≡ min c.left (len - c.skip) → b ≡ (piece T (c.at - 1)).buffer → o ≡ (piece T (c.at - 1)).offset → next ≡ (piece T (c.at - 1)).next
-    → Holds q h (taken T c.free.0 (fresh (record { buffer = b; offset = o + c.skip; len = n }) l.link))
-    → Holds q h (taken T c.free.0 (fresh (next_part (stretch_at T c.at) c) (link_in_line T c.free.0 k tail)))
-    × (◌≡◌ {A = Cloning} (record { free = l.free; at = next; skip = 0; left = c.left - n }) (cloned T c k))
-clone_done T c k tail es el en eb eo ex w =
-    (record { shaped = w.shaped; is = w.is ∙ rw (es, en, el, eb, eo) }, rw (es, ex, en, el))
 
 -- ---- the range
 
@@ -69,12 +59,20 @@ pub record Copies (O goal : Tables) (tail : ℕ) (T : Tables) (c : Cloning) (k :
 -- before the first piece
 pub copies_start : {p : List ℕ} {h : Shape} → Opened p h → (link into n k tail : ℕ) {f : ℕ} → Is (link_ok (decode p) link)
     → k ≡ length (cut_out (stretches_from (decode p) link) into n) → k ≤ length (free_pieces (decode p)) → ((link ≡ 0 → ⊥) → into < (piece (decode p) (link - 1)).len)
-    → let T = decode p in f ≡ first_from (is_free T) 0 (piece_total T)
+    → (k ≡ 0 → ⊥) → let T = decode p in f ≡ lowest_for (is_free T) k (piece_total T)
     → Copies T (built T (free_pieces T) (cut_out (stretches_from T link) into n) tail) tail T (record { free = record { 0 = f }; at = link; skip = into; left = n }) k
-copies_start o link into n k tail good e h inside ef =
-    record { more = e; good = good; inside = inside; used = λ d _. refl; line = rw ef (line_opened o _ tail (omega arith)) }
+copies_start {p} o link into n k tail good e h inside some ef =
+    let first = ef ∙ lowest_some (is_free (decode p)) k (piece_total (decode p)) some in
+    record { more = e; good = good; inside = inside; used = λ d _. refl; line = rw first (line_opened o _ tail (omega arith)) }
 
-module _ {O goal : Tables} {tail : ℕ} {T : Tables} {c : Cloning} {k : ℕ} (sound : SoundTables O) (w : Copies O goal tail T c k) (h : 0 < k) where
+module _ {p q : List ℕ} {h : Shape} {goal : Tables} {tail : ℕ} {c : Cloning} {k : ℕ} (o : Opened p h) (is : Shaped q h)
+    (w : Copies (decode p) goal tail (decode q) c k) (some : 0 < k) where
+  abbrev O : Tables
+  O = decode p
+
+  abbrev T : Tables
+  T = decode q
+
   -- the link leads to a piece, and some bytes are to come
   at_some : c.at ≡ 0 → ⊥
   unfolding stretches cut_out
@@ -85,7 +83,7 @@ module _ {O goal : Tables} {tail : ℕ} {T : Tables} {c : Cloning} {k : ℕ} (so
 
   -- the piece to copy is in use at entry, and is as it was
   piece_used : InUse O (c.at - 1)
-  piece_used = link_leads O c.at sound w.good at_some
+  piece_used = link_leads O c.at o.sound w.good at_some
 
   as_was : piece T (c.at - 1) ≡ piece O (c.at - 1)
   as_was = w.used (c.at - 1) piece_used.used
@@ -97,39 +95,38 @@ module _ {O goal : Tables} {tail : ℕ} {T : Tables} {c : Cloning} {k : ℕ} (so
       let x = stretch_at O c.at in
       let xs = stretches_from O (piece O (c.at - 1)).next in
       let e : c.left - (x.len - c.skip) ≡ c.left - (next_part x c).len = omega arith in
-      ap (λ (l : List ℕ). cut_out (stretches O l) c.skip c.left) (walk_on O c.at sound w.good at_some)
-      ∙ cut_first x xs c.skip c.left left_some (w.inside at_some)
-      ∙ ap (λ (n : ℕ). next_part x c ∷ cut_out xs 0 n) e
+      rw (walk_on O c.at o.sound w.good at_some, cut_first x xs c.skip c.left left_some (w.inside at_some), e)
 
-  module _ (pieces : piece_total T ≡ piece_total O) (buffers : buffer_total T ≡ buffer_total O) where
-    -- so it can be copied
-    pub copies_ask : Clonable T c
-    copies_ask =
-        let u = piece_used in
-        let some : 0 < length (to_come O c) = omega (arith, w.more) in
-        record {
-          free_below = (w.line.first some).0;
-          some = omega (arith, at_some);
-          place = record {
-            below = omega (arith, u.below);
-            inside = rw as_was (w.inside at_some);
-            small = rw as_was u.most;
-            in_store = rw as_was (omega (arith, u.in_store));
-            room = omega (arith, w.line.few (piece T (c.at - 1)).buffer);
-          };
-        }
+  buffer_below : (piece O (c.at - 1)).buffer < buffer_total T
+  buffer_below = grind (arith, totals, piece_used.in_store)
 
-    -- and copying goes on
-    pub copies_on : Copies O goal tail (taken T c.free.0 (fresh (next_part (stretch_at T c.at) c) (link_in_line T c.free.0 (k - 1) tail))) (cloned T c (k - 1)) (k - 1)
-    copies_on =
-        let u = piece_used in
-        let x = next_part (stretch_at O c.at) c in
-        let e : k - 1 ≡ length (cut_out (stretches_from O (piece O (c.at - 1)).next) 0 (c.left - x.len)) = omega (arith, w.more, ap length split) in
-        let free = (w.line.first (omega (arith, w.more))).1 in
-        rw as_was (record {
-          more = e;
-          good = u.onward;
-          inside = λ z. (link_leads O (piece O (c.at - 1)).next sound u.onward z).some_bytes;
-          used = λ d s. piece_other T c.free.0 _ d (λ z. omega (arith, eqb→eq (piece T c.free.0).count 0 free, ap (λ (i : ℕ). (piece T i).count) z, ap (λ (q : Piece). q.count) (w.used d s))) ∙ w.used d s;
-          line = line_step x (omega (arith, u.in_store)) _ e (subst (Line goal tail T c.free.0) split w.line);
-        })
+  -- so it can be copied
+  pub copies_ask : Clonable T c
+  copies_ask =
+      let u = piece_used in
+      record {
+        free_below = (w.line.first (omega (arith, w.more))).0;
+        some = omega (arith, at_some);
+        place = record {
+          below = grind (arith, totals, u.below);
+          inside = rw as_was (w.inside at_some);
+          small = rw as_was u.most;
+          in_store = rw as_was buffer_below;
+          room = omega (arith, w.line.few (piece T (c.at - 1)).buffer);
+        };
+      }
+
+  -- and copying goes on
+  pub copies_on : Copies O goal tail (taken T c.free.0 (fresh (next_part (stretch_at T c.at) c) (link_in_line T c.free.0 (k - 1) tail))) (cloned T c (k - 1)) (k - 1)
+  copies_on =
+      let u = piece_used in
+      let x = next_part (stretch_at O c.at) c in
+      let e : k - 1 ≡ length (cut_out (stretches_from O (piece O (c.at - 1)).next) 0 (c.left - x.len)) = omega (arith, w.more, ap length split) in
+      let free = (w.line.first (omega (arith, w.more))).1 in
+      rw as_was (record {
+        more = e;
+        good = u.onward;
+        inside = λ z. (link_leads O (piece O (c.at - 1)).next o.sound u.onward z).some_bytes;
+        used = λ d s. piece_other T c.free.0 _ d (λ z. omega (arith, eqb→eq (piece T c.free.0).count 0 free, ap (λ (i : ℕ). (piece T i).count) z, ap (λ (q : Piece). q.count) (w.used d s))) ∙ w.used d s;
+        line = line_step x buffer_below _ e (subst (Line goal tail T c.free.0) split w.line);
+      })

@@ -1,16 +1,15 @@
 -- New pieces may be taken front first, and the free numbers after one taken stay: what a loop in chain order goes by. Assumes nothing.
-use mathlib.Core.Path.{◌≡◌, refl, sym, ap, ap₂, subst, ◌∙◌}
+use mathlib.Core.Path.{◌≡◌, refl, ap, ◌∙◌}
 use mathlib.Core.Logic.{◌≢◌}
 use mathlib.Core.Bool.{Bool}
 use mathlib.Core.List.{List, [], ◌∷◌, Memᴰ}
 use Prim.Native.Nat.{ℕ, zero, suc, ◌≤◌, ◌<◌}
-use native.Mathlib.Decide.{ℕ_discrete}
 use native.Mathlib.Omega.{arith}
 use lib.ListN.{get_or, set}
 use lib.Seq.{set_comm, get_or-set_other}
 use lib.Dec.{eqb}
-use Rattle.rules.specs.Basics.{whether◌then◌else◌, places}
-use Rattle.rules.specs.Tables.{Piece, Tables, blank, piece, set_slip, with_both}
+use Rattle.rules.specs.Basics.{places}
+use Rattle.rules.specs.Tables.{Piece, Tables, blank, piece, set_slip}
 use Rattle.rules.specs.Chain.{Stretch}
 use Rattle.rules.specs.Room.{is_free, is_unheld}
 use Rattle.rules.specs.Build.{fresh, taken, built, built_link}
@@ -22,19 +21,11 @@ abbrev bump : List ℕ → ℕ → List ℕ
 bump l b = set l b (suc (get_or l b 0))
 
 bump_comm : (l : List ℕ) (a b : ℕ) → bump (bump l a) b ≡ bump (bump l b) a
-bump_comm l a b =
-    elim (ℕ_discrete a b) [
-      | yes e ↦ subst (λ x. bump (bump l a) x ≡ bump (bump l x) a) e refl
-      | no e ↦
-          ap (λ n. set (bump l a) b (suc n)) (get_or-set_other l a b (suc (get_or l a 0)) 0 (λ x. e (sym x)))
-          ∙ set_comm l a b (suc (get_or l a 0)) (suc (get_or l b 0)) e
-          ∙ ap (λ n. set (bump l b) a (suc n)) (sym (get_or-set_other l b a (suc (get_or l b 0)) 0 e))
-    ]
+bump_comm l a b = grind (arith, set_comm, get_or-set_other)
 
 -- two pieces may be taken in either order
 taken_comm : (T : Tables) (f g : ℕ) (p q : Piece) → f ≢ g → taken (taken T g q) f p ≡ taken (taken T f p) g q
-taken_comm T f g p q h =
-    ap₂ (with_both T) (set_comm T.pieces g f q p (λ e. h (sym e))) (bump_comm T.counts q.buffer p.buffer)
+taken_comm T f g p q h = grind (arith, set_comm, bump_comm)
 
 -- the front piece may be taken before the pieces behind it
 pub taken_first : (T : Tables) (f : ℕ) (p : Piece) (fs : List ℕ) (xs : List Stretch) (tail : ℕ) → (Memᴰ f fs → ⊥)
@@ -60,7 +51,7 @@ pub places_same : (f g : ℕ → Bool) (i k : ℕ) → ((j : ℕ) → i ≤ j �
 unfolding places
 places_same f g i zero h = refl
 places_same f g i (suc k) h =
-    ap₂ (λ (b : Bool) (l : List ℕ). whether b then i ∷ l else l) (h i (omega arith)) (places_same f g (suc i) k (λ j l. h j (omega arith)))
+    rw (h i (omega arith), places_same f g (suc i) k (λ j l. h j (omega arith)))
 
 module _ (T : Tables) (f : ℕ) (p : Piece) where
   -- no other piece changes

@@ -1,46 +1,29 @@
 -- Laying new pieces on the lowest free buffers, one after another. Assumes nothing.
 use mathlib.Core.Path.{◌≡◌, sym, ap, subst, ◌∙◌}
 use mathlib.Core.List.{List, ◌∷◌}
-use Prim.Native.Nat.{ℕ, zero, suc, ◌+◌, ◌-◌, ◌≤◌, ◌<◌, min}
+use Prim.Native.Nat.{ℕ, zero, suc, ◌+◌, ◌-◌, ◌≤◌, ◌<◌}
 use native.Mathlib.Numerals.{add-one}
 use native.Mathlib.Omega.{arith}
 use lib.ListN.{length, take, length-set}
 use lib.Seq.{length-take-le}
-use lib.Dec.{eqb→eq}
 use Rattle.kinds.specs.Limits.{buffer_size}
 use Rattle.kinds.proofs.Sizes.{size_one}
 use Rattle.rules.specs.Basics.{places}
-use Rattle.rules.specs.Tables.{Tables, buffer_count, piece_total, buffer_total}
+use Rattle.rules.specs.Tables.{Tables, piece_total, buffer_total}
 use Rattle.rules.specs.Bytes.{decode}
 use Rattle.rules.specs.Chain.{Stretch}
 use Rattle.rules.specs.Room.{is_free, is_unheld, free_pieces, free_buffers, new_buffers}
 use Rattle.rules.specs.Build.{fresh, taken, built, laid}
 use Rattle.rules.proofs.Contents.{laid_count}
 use Rattle.layout.specs.declared.Shape.{Shape}
-use Rattle.tables.specs.Shape.{Holds}
 use Rattle.chain.specs.Opened.{Opened}
-use Rattle.room.specs.Free.{first_from, lowest_for}
-use Rattle.room.proofs.Free.{first_lies, lowest_all}
+use Rattle.room.specs.Free.{lowest_for}
+use Rattle.room.proofs.Free.{lowest_some, lowest_all}
 use Rattle.build.specs.declared.Laying.{Laying}
-use Rattle.build.specs.declared.InLine.{InLine}
-use Rattle.build.specs.Line.{link_in_line, in_line}
+use Rattle.build.specs.Line.{link_in_line}
 use Rattle.build.specs.Laid.{buffer_at, laid_at, laid_on, Layable}
 use Rattle.build.proofs.Forward.{unheld_after}
 use Rattle.build.proofs.Line.{Line, First, from_first, line_opened, line_step, line_done}
-
--- ---- one piece
-
--- the count of the free buffer can rise
-pub laid_room : (T : Tables) (c : Laying) → Layable T c → buffer_count T (buffer_at T c) < 65535
-laid_room T c l =
-    let b = buffer_at T c in
-    omega (arith, eqb→eq (buffer_count T b) 0 ((first_lies (is_unheld T) c.from.0 (buffer_total T)).1 l.in_store).1)
-
--- what laying a piece leaves, from the numbers that the code has
-pub lay_done : (T : Tables) (c : Laying) (k : ℕ) {h : Shape} {q : List ℕ} {b n : ℕ} {l : InLine} → b ≡ buffer_at T c → n ≡ min buffer_size c.left → l ≡ in_line T c.free.0 k 0
-    → Holds q h (taken T c.free.0 (fresh (record { buffer = b; offset = 0; len = n }) l.link))
-    → Holds q h (taken T c.free.0 (fresh (laid_at T c) (link_in_line T c.free.0 k 0))) × (◌≡◌ {A = Laying} (record { free = l.free; from = record { 0 = b + 1 }; left = c.left - n }) (laid_on T c k))
-lay_done T c k eb en el w = (record { shaped = w.shaped; is = w.is ∙ rw (el, en, eb) }, rw (el, en, eb))
 
 -- ---- the free buffers
 
@@ -68,12 +51,13 @@ laid_all T n k h = laid_count T.stock (new_buffers T k) n ∙ length-take-le k (
 
 -- before the first piece
 pub lays_start : {p : List ℕ} {h : Shape} → Opened p h → (n k : ℕ) {f b : ℕ} → k ≤ length (free_pieces (decode p)) → k ≤ length (free_buffers (decode p))
-    → let T = decode p in f ≡ first_from (is_free T) 0 (piece_total T) → b ≡ lowest_for (is_unheld T) k (buffer_total T)
+    → (k ≡ 0 → ⊥) → let T = decode p in (f ≡ lowest_for (is_free T) k (piece_total T)) × (b ≡ lowest_for (is_unheld T) k (buffer_total T))
     → Lays (built T (free_pieces T) (laid T.stock (new_buffers T k) n) 0) T (record { free = record { 0 = f }; from = record { 0 = b }; left = n }) k
-lays_start {p} o n k {b = b} hp hb ef eb =
+lays_start {p} o n k {b = b} hp hb some e =
     let T = decode p in
-    let all : unheld_from T b ≡ free_buffers T = lowest_all (is_unheld T) k (buffer_total T) eb in
-    rw ef (record { enough = rw all hb; line = rw all (line_opened o (laid T.stock (new_buffers T k) n) 0 (omega (arith, laid_all T n k hb))) })
+    let all : unheld_from T b ≡ free_buffers T = lowest_all (is_unheld T) k (buffer_total T) e.1 in
+    let first = e.0 ∙ lowest_some (is_free T) k (piece_total T) some in
+    rw first (record { enough = rw all hb; line = rw all (line_opened o (laid T.stock (new_buffers T k) n) 0 (omega (arith, laid_all T n k hb))) })
 
 -- after the last
 pub lays_done : {goal T : Tables} {c : Laying} {k : ℕ} → Lays goal T c k → k ≤ 0 → T ≡ goal
@@ -95,14 +79,8 @@ module _ {goal T : Tables} {c : Laying} {k : ℕ} (w : Lays goal T c k) (h : 0 <
   split : to_come T c k ≡ laid_at T c ∷ after
   unfolding laid after
   split =
-      let b = buffer_at T c in
-      let bs = unheld_from T (suc b) in
-      let z = size_one T.stock b in
       let e : c.left - buffer_size ≡ c.left - (laid_at T c).len = omega arith in
-      ap (λ (l : List ℕ). laid T.stock (take k l) c.left) some_buffer.split
-      ∙ ap (λ (l : List ℕ). laid T.stock l c.left) (take_some k b bs h)
-      ∙ ap {B = List Stretch} (λ (s : ℕ). record { buffer = b; offset = 0; len = min s c.left } ∷ laid T.stock (take (k - 1) bs) (c.left - s)) z
-      ∙ ap {B = List Stretch} (λ (n : ℕ). laid_at T c ∷ laid T.stock (take (k - 1) bs) n) e
+      rw (some_buffer.split, take_some k _ _ h, size_one T.stock (buffer_at T c), e)
 
   after_count : k - 1 ≡ length after
   unfolding after

@@ -1,5 +1,5 @@
 -- A new piece and a further reference, store by store. Assumes nothing.
-use mathlib.Core.Path.{◌≡◌, refl, ap, subst, ◌∙◌}
+use mathlib.Core.Path.{◌≡◌, refl, subst}
 use mathlib.Core.Bool.{◌&&◌}
 use mathlib.Core.List.{List, [], ◌∷◌}
 use Prim.Native.Nat.{ℕ, zero, suc, ◌+◌, ◌-◌, ◌≤◌, ◌<◌}
@@ -7,53 +7,19 @@ use native.Mathlib.Omega.{arith}
 use lib.ListN.{length}
 use lib.Dec.{eqb}
 use Rattle.rules.specs.Basics.{Is}
-use Rattle.rules.specs.Tables.{Piece, Tables, piece, buffer_count, head_of, slip_total, piece_total, set_piece, set_piece_count, with_count, set_count}
+use Rattle.rules.specs.Tables.{Tables, piece, buffer_count, head_of, slip_total, piece_total}
 use Rattle.rules.specs.Bytes.{decode}
 use Rattle.rules.specs.Sound.{in_use, leads, heads, lying, link_ok}
-use Rattle.rules.specs.Release.{shared}
-use Rattle.rules.specs.Build.{taken}
 use Rattle.rules.proofs.Logic.{bit_one}
 use Rattle.rules.proofs.Sums.{sum_to_ones}
 use Rattle.rules.proofs.Moves.{SoundWith, hit, lies, links, occ, used_in_range_lem}
 use Rattle.rules.proofs.Audit.{tables_now}
 use Rattle.layout.specs.declared.Shape.{Shape}
-use Rattle.tables.specs.Shape.{Shaped, Holds}
-use Rattle.tables.proofs.Laws.{whole, total_slips, total_pieces, onward}
+use Rattle.tables.proofs.Laws.{whole, total_slips, total_pieces}
 use Rattle.chain.specs.Opened.{Opened}
 use Rattle.chain.proofs.Links.{InUse, link_leads}
 use Rattle.build.specs.Share.{Sharable}
 use Rattle.build.specs.Clone.{Copyable}
-
--- the buffer's count, then the piece
-pub take_done : (T : Tables) (f : ℕ) (x : Piece) {h : Shape} {p q : List ℕ} {m : ℕ} → m ≡ buffer_count T x.buffer
-    → Holds p h (set_count T x.buffer (m + 1)) → Holds q h (set_piece (decode p) f x) → Holds q h (taken T f x)
-take_done T f x {m = m} e was is =
-    let now = onward was (λ (U : Tables). set_piece U f x) is in
-    let n : m + 1 ≡ suc (buffer_count T x.buffer) = omega arith in
-    record { shaped = now.shaped; is = now.is ∙ ap (λ (k : ℕ). set_piece_count T f x x.buffer k) n }
-
--- a link that leads nowhere
-pub share_none : {p : List ℕ} {h : Shape} (n : ℕ) → Shaped p h → n ≡ 0 → Holds p h (shared (decode p) n)
-share_none zero is z = record { shaped = is; is = refl }
-share_none (suc d) is z = absurd (omega arith)
-
--- the piece that a link leads to is below P, and its count can rise
-pub share_inside : {T : Tables} (n : ℕ) → Sharable T n → (n ≡ 0 → ⊥) → n - 1 < piece_total T
-share_inside n s z = omega (arith, s.inside)
-
-pub share_room : {T : Tables} (n : ℕ) → Sharable T n → (n ≡ 0 → ⊥) → (piece T (n - 1)).count < 65535
-share_room n s z = s.room (n - 1) (omega arith)
-
-pub share_some : (T : Tables) (n : ℕ) {h : Shape} {q : List ℕ} {m : ℕ} → (n ≡ 0 → ⊥) → m ≡ (piece T (n - 1)).count
-    → Holds q h (set_piece T (n - 1) (with_count (piece T (n - 1)) (m + 1))) → Holds q h (shared T n)
-share_some T zero z e is = absurd (z refl)
-share_some T (suc d) {m = m} z e is =
-    let k : suc d - 1 ≡ d = omega arith in
-    let s : m + 1 ≡ suc (piece T d).count = omega (arith, ap (λ (x : ℕ). (piece T x).count) k) in
-    record {
-      shaped = is.shaped;
-      is = is.is ∙ ap (λ (x : ℕ). set_piece T x (with_count (piece T x) (m + 1))) k ∙ ap (λ (x : ℕ). set_piece T d (with_count (piece T d) x)) s;
-    }
 
 -- ---- counts below 65535: at most P pieces lie on a buffer, and at most S + P references lead to a piece besides those held
 
@@ -90,9 +56,6 @@ module _ {p : List ℕ} {h : Shape} (o : Opened p h) where
 
   opened_sums : slip_total (decode p) + piece_total (decode p) + 0 < 65535
   opened_sums = omega (arith, total_pieces (whole o.shaped), total_slips (whole o.shaped), o.few_pieces_lem, o.few_slips)
-
-  pub opened_piece : (d : ℕ) → (piece (decode p) d).count < 65535
-  opened_piece d = piece_room (decode p) (tables_now (decode p) o.sound) opened_sums d
 
   -- so there can be a reference more to where a good link leads
   pub opened_sharable : (n : ℕ) → Is (link_ok (decode p) n) → Sharable (decode p) n

@@ -2,7 +2,7 @@
 use mathlib.Core.Path.{◌≡◌, refl, sym, ap, subst, ◌∙◌}
 use mathlib.Core.Bool.{Bool}
 use mathlib.Core.List.{List, [], ◌∷◌, Memᴰ}
-use Prim.Native.Nat.{ℕ, zero, suc, ◌+◌, ◌-◌, ◌≤◌, ◌<◌}
+use Prim.Native.Nat.{ℕ, suc, ◌+◌, ◌-◌, ◌≤◌, ◌<◌}
 use native.Mathlib.Numerals.{add-one}
 use native.Mathlib.Decide.{dec_lt}
 use native.Mathlib.Omega.{arith}
@@ -19,12 +19,12 @@ use Rattle.rules.proofs.Moves.{by_place}
 use Rattle.rules.proofs.Room.{places_in, above_not}
 use Rattle.rules.proofs.Audit.{tables_now}
 use Rattle.layout.specs.declared.Shape.{Shape}
+use Rattle.tables.specs.Shape.{Shaped, Holds}
 use Rattle.tables.proofs.Laws.{whole, total_pieces}
 use Rattle.chain.specs.Opened.{Opened}
-use Rattle.room.specs.Free.{first_from}
-use Rattle.room.proofs.Free.{places_first, first_lies, count_most}
-use Rattle.build.specs.declared.InLine.{InLine}
-use Rattle.build.specs.Line.{next_in_line, link_in_line, in_line}
+use Rattle.room.specs.Free.{first_from, lowest_for}
+use Rattle.room.proofs.Free.{places_first, first_lies, lowest_some, count_most}
+use Rattle.build.specs.Line.{next_in_line, link_in_line}
 use Rattle.build.proofs.Laws.{buffer_most}
 use Rattle.build.proofs.Forward.{taken_first, free_other, free_after_lem}
 
@@ -76,10 +76,11 @@ line_done [] l z = l.rest
 line_done (x ∷ xs) l z = absurd (omega arith)
 
 -- none is wanted
-pub built_none : (T : Tables) (fs : List ℕ) (xs : List Stretch) (tail : ℕ) → length xs ≡ 0 → (built T fs xs tail ≡ T) × (built_link fs xs tail ≡ tail)
+pub built_none : {p : List ℕ} {h : Shape} → Shaped p h → (fs : List ℕ) (xs : List Stretch) (tail : ℕ) → length xs ≡ 0
+    → Holds p h (built (decode p) fs xs tail) × (tail ≡ built_link fs xs tail)
 unfolding built built_link
-built_none T fs [] tail z = (refl, refl)
-built_none T fs (x ∷ xs) tail z = absurd (omega arith)
+built_none is fs [] tail z = (whole is, refl)
+built_none is fs (x ∷ xs) tail z = absurd (omega arith)
 
 module _ (T : Tables) where
   -- the lowest free piece
@@ -103,11 +104,13 @@ module _ (T : Tables) where
       let e : free_from T lowest ≡ free_pieces T = from_here (is_free T) (piece_total T) lowest r.below r.passes ∙ sym (free_split some) in
       record { few = few; enough = rw e h; first = λ _. (r.below, r.passes); rest = ap (λ (l : List ℕ). built T l (x ∷ xs) tail) e }
 
-  -- the link to the first of them
-  pub line_link : (xs : List Stretch) (tail : ℕ) → 0 < length xs → length xs ≤ length (free_pieces T) → lowest + 1 ≡ built_link (free_pieces T) xs tail
+  -- the link to the first of them, f, where k of them are wanted
+  pub line_link : (xs : List Stretch) (k tail : ℕ) {f : ℕ} → k ≡ length xs → (k ≡ 0 → ⊥) → k ≤ length (free_pieces T) → f ≡ lowest_for (is_free T) k (piece_total T)
+      → f + 1 ≡ built_link (free_pieces T) xs tail
   unfolding built_link
-  line_link [] tail s h = absurd (omega arith)
-  line_link (x ∷ xs) tail s h = add-one lowest ∙ ap (λ (l : List ℕ). built_link l (x ∷ xs) tail) (sym (free_split (omega arith)))
+  line_link [] k tail e s h ef = absurd (s e)
+  line_link (x ∷ xs) k tail {f} e s h ef =
+      add-one f ∙ ap suc (ef ∙ lowest_some (is_free T) k (piece_total T) s) ∙ ap (λ (l : List ℕ). built_link l (x ∷ xs) tail) (sym (free_split (omega arith)))
 
 module _ {p : List ℕ} {h : Shape} (o : Opened p h) where
   -- all are to come, in an opened pool: its buffers' counts leave room for them
@@ -116,10 +119,6 @@ module _ {p : List ℕ} {h : Shape} (o : Opened p h) where
       let T = decode p in
       line_start T xs tail l
       (λ b. omega (arith, buffer_most T (tables_now T o.sound) b, count_most (is_free T) (piece_total T), total_pieces (whole o.shaped), o.few_pieces_lem))
-
-  -- the link to a free piece fits 16 bits
-  pub link_fits : (i : ℕ) {f : ℕ} → f ≡ first_from (is_free (decode p)) i (piece_total (decode p)) → f + 1 < 65536
-  link_fits i e = let T = decode p in omega (arith, (first_lies (is_free T) i (piece_total T)).0, total_pieces (whole o.shaped), o.few_pieces_lem)
 
 module _ {goal : Tables} {tail : ℕ} {T : Tables} {f : ℕ} (x : Stretch) (inside : x.buffer < buffer_total T) where
   -- the counts, once the first is taken
@@ -158,18 +157,3 @@ module _ {goal : Tables} {tail : ℕ} {T : Tables} {f : ℕ} (x : Stretch) (insi
         rest = ap (λ (fs : List ℕ). built T' fs (y ∷ ys) tail) same ∙ sym (taken_first T f p (free_from T (suc f)) (y ∷ ys) tail out)
             ∙ ap (λ (n : ℕ). taken (built T (free_from T (suc f)) (y ∷ ys) tail) f (fresh x n)) (sym link) ∙ ap (λ (fs : List ℕ). built T fs (x ∷ y ∷ ys) tail) (sym here) ∙ l.rest;
       })
-
--- ---- what comes after a piece, from what the code has
-
-module _ (T : Tables) (f tail : ℕ) where
-  -- after the last in line
-  pub last_in_line : (k : ℕ) → k ≡ 0 → ◌≡◌ {A = InLine} (record { free = record { 0 = f }; link = tail }) (in_line T f k tail)
-  last_in_line zero e = refl
-  last_in_line (suc k) e = absurd (omega arith)
-
-  -- after one with more to come
-  pub next_in_line_lem : (k : ℕ) {g : ℕ} → (k ≡ 0 → ⊥) → g ≡ first_from (is_free T) (f + 1) (piece_total T) → ◌≡◌ {A = InLine} (record { free = record { 0 = g }; link = g + 1 }) (in_line T f k tail)
-  next_in_line_lem zero e n = absurd (e refl)
-  next_in_line_lem (suc k) {g} e n =
-      let m : g ≡ next_in_line T f (suc k) = n ∙ ap (λ (i : ℕ). first_from (is_free T) i (piece_total T)) (add-one f) in
-      rw (add-one g, m)

@@ -1,5 +1,5 @@
 // The making of chains: a new piece, one reference more, new pieces for a range or on free buffers.
-#![tactic(auto)]
+#![tactic(auto, using(tables::proofs::Laws::totals, room::proofs::Free::first_lies, room::proofs::Free::lowest_some))]
 
 ghost use Rattle.std.specs.Prelude.{◌≡◌, ◌-◌, ◌≤◌, ◌<◌, length};
 ghost use Rattle.kinds.specs.SlipState.{state_of};
@@ -12,6 +12,7 @@ ghost use Rattle.rules.specs.Room.{is_free, is_unheld, free_pieces, free_buffers
 ghost use Rattle.rules.specs.Release.{shared};
 ghost use Rattle.rules.specs.Build.{taken, fresh, built, built_link, laid};
 ghost use Rattle.tables.specs.Shape.{Shaped, Becomes};
+ghost use Rattle.tables.specs.Window.{window_of};
 ghost use Rattle.chain.specs.Opened.{Opened};
 ghost use Rattle.chain.specs.Length.{stretches_from};
 ghost use Rattle.room.specs.Free.{lowest_for};
@@ -20,8 +21,9 @@ ghost use Rattle.build.specs.Line.{link_in_line, in_line};
 ghost use Rattle.build.specs.Clone.{stretch_at, next_part, cloned, Clonable};
 ghost use Rattle.build.specs.Laid.{laid_at, laid_on, Layable};
 
-use kinds::{BufferNumber, Outcome, PieceNumber, SlipNumber};
+use kinds::{BufferNumber, PieceNumber, SlipNumber, Step};
 use layout::Shape;
+use tables::{Entry, Window};
 
 // How far copying is: the free piece to take, the link to the piece to copy, the bytes of it to skip, and the bytes still to come (a cursor).
 #[derive(Clone, Copy)]
@@ -48,22 +50,21 @@ struct InLine {
 }
 
 // The free piece `f` becomes a new piece of count 1, and its buffer's count rises by 1: a descriptor taken.
-pub fn take_piece(
-    pool: &mut [u8],
-    shape: Shape,
-    f: PieceNumber,
-    buffer: BufferNumber,
-    offset: u16,
-    length: u16,
-    next: u16,
-)
-    requires { Shaped pool.old shape × (f.0 < shape.pieces) × (buffer.0 < shape.buffers) × (buffer_count (decode pool.old) buffer.0 < 65535) }
-    ensures { Becomes pool.old pool.new shape
-        (λ T. taken T f.0 (fresh (record { buffer = buffer.0; offset = offset; len = length }) next)) }
+pub fn take_piece(pool: &mut [u8], shape: Shape, f: PieceNumber, window: Window, next: u16)
+    requires { Shaped pool.old shape × (f.0 < shape.pieces) × (window.buffer.0 < shape.buffers)
+        × (buffer_count (decode pool.old) window.buffer.0 < 65535) }
+    ensures { Becomes pool.old pool.new shape (λ T. taken T f.0 (fresh (window_of window) next)) }
 {
-    let m = tables::buffer_count(pool, shape, buffer);
-    tables::set_buffer_count(pool, shape, buffer, m + 1);
-    tables::set_piece(pool, shape, f, 1, buffer, offset, length, next);
+    let m = tables::buffer_count(pool, shape, window.buffer);
+    tables::set_buffer_count(pool, shape, window.buffer, m + 1);
+    let entry = Entry {
+        count: 1,
+        buffer: window.buffer,
+        offset: window.offset,
+        len: window.len,
+        next,
+    };
+    tables::set_piece(pool, shape, f, entry);
 }
 
 // One reference more to where `link` leads, 0 none and 1 + d piece d: a reference count raised.
@@ -90,7 +91,7 @@ fn in_line(pool: &[u8], shape: Shape, f: PieceNumber, more: u16, tail: u16) -> I
             link: tail,
         };
     }
-    let g = room::next_free_piece(pool, shape, PieceNumber(f.0 + 1));
+    let g = room::next_free(pool, shape, PieceNumber(f.0 + 1));
     InLine {
         free: g,
         link: g.0 + 1,
@@ -104,17 +105,19 @@ fn clone_piece(pool: &mut [u8], shape: Shape, c: Cloning, more: u16, tail: u16) 
         (λ T. taken T c.free.0 (fresh (next_part (stretch_at T c.at) c) (link_in_line T c.free.0 more tail)))
         × (result ≡ cloned (decode pool.old) c more) }
 {
+    let line = in_line(pool, shape, c.free, more, tail);
     let d = PieceNumber(c.at - 1);
-    let f = c.free;
-    let line = in_line(pool, shape, f, more, tail);
-    let length = kinds::lesser(c.left, tables::piece_length(pool, shape, d) as u32 - c.skip);
-    let buffer = tables::piece_buffer(pool, shape, d);
-    let offset = tables::piece_offset(pool, shape, d) + c.skip as u16;
+    let w = tables::piece_window(pool, shape, d);
     let next = tables::piece_next(pool, shape, d);
-    take_piece(pool, shape, f, buffer, offset, length as u16, line.link);
-    let free = line.free;
+    let length = c.left.min(w.len as u32 - c.skip);
+    let part = Window {
+        buffer: w.buffer,
+        offset: w.offset + c.skip as u16,
+        len: length as u16,
+    };
+    take_piece(pool, shape, c.free, part, line.link);
     Cloning {
-        free: free,
+        free: line.free,
         at: next,
         skip: 0,
         left: c.left - length,
@@ -149,9 +152,7 @@ pub fn copy_pieces(
         skip: into,
         left: n,
     };
-    let mut more = pieces;
-    while 0 < more {
-        more -= 1;
+    for more in (0..pieces).rev() {
         c = clone_piece(pool, shape, c, more, tail);
     }
     first.0 + 1
@@ -163,19 +164,20 @@ fn lay_piece(pool: &mut [u8], shape: Shape, c: Laying, more: u16) -> Laying
     ensures { Becomes pool.old pool.new shape (λ T. taken T c.free.0 (fresh (laid_at T c) (link_in_line T c.free.0 more 0)))
         × (result ≡ laid_on (decode pool.old) c more) }
 {
-    let f = c.free;
-    let from = c.from;
-    let b = room::next_free_buffer(pool, shape, from);
-    let length = kinds::lesser(BufferNumber::SIZE as u32, c.left);
-    let line = in_line(pool, shape, f, more, 0);
-    take_piece(pool, shape, f, b, 0, length as u16, line.link);
-    let free = line.free;
-    let after = BufferNumber(b.0 + 1);
+    let buffer = room::next_free(pool, shape, c.from);
+    let length = (BufferNumber::SIZE as u32).min(c.left);
+    let line = in_line(pool, shape, c.free, more, 0);
+    let window = Window {
+        buffer,
+        offset: 0,
+        len: length as u16,
+    };
+    take_piece(pool, shape, c.free, window, line.link);
     let left = c.left - length;
     Laying {
-        free: free,
-        from: after,
-        left: left,
+        free: line.free,
+        from: BufferNumber(buffer.0 + 1),
+        left,
     }
 }
 
@@ -206,20 +208,17 @@ pub fn lay(
         from: buffer,
         left: n,
     };
-    let mut more = count;
-    while 0 < more {
-        more -= 1;
+    for more in (0..count).rev() {
         c = lay_piece(pool, shape, c, more);
     }
     first.0 + 1
 }
 
 // The vacant slip `t` takes the chain that starts at `link`, and its number with its serial is the answer: a new handle.
-pub fn under_new(pool: &mut [u8], shape: Shape, t: SlipNumber, link: u16) -> Outcome
+pub fn under_new(pool: &mut [u8], shape: Shape, t: SlipNumber, link: u16) -> Step
     requires { Shaped pool.old shape × (t.0 < shape.slips) × (link < 65535) }
     ensures becomes { Becomes pool.old pool.new shape (λ T. set_slip T t.0 (holding link)) }
-    ensures value { result ≡ Outcome.Done
-        (record { state = state_of (slip (decode pool.new) t.0); number = name_of (decode pool.old) t.0 }) }
+    ensures value { result ≡ record { state = state_of (slip (decode pool.new) t.0); number = name_of (decode pool.old) t.0 } }
 {
     tables::set_slip(pool, shape, t, link + 1);
     let serial = tables::serial(pool, shape, t);

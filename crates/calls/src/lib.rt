@@ -1,14 +1,2 @@
-// What the bodies of the calls share: the answer of a call that is refused.
+// What the bodies of the calls share has no code: what a call answers to C is in specs/, the laws from the audit to the call in proofs/.
 #![tactic(auto)]
-
-ghost use Rattle.std.specs.Prelude.{◌≡◌};
-ghost use Rattle.kinds.specs.Refusal.{refusal_code};
-
-use kinds::{Answer, Outcome, Refusal};
-
-// The answer of a call that is refused.
-pub fn refused(why: Refusal) -> Answer
-    ensures { result ≡ record { code = refusal_code why; number = 0 } }
-{
-    kinds::answer_of(Outcome::Refused(why))
-}

@@ -1,16 +1,17 @@
 // The bodies of length, read, show and list, and what stretches begins with: each audits and then does its operation.
-#![tactic(auto)]
+#![tactic(auto, using(calls::proofs::Laws::torn))]
 
 ghost use Rattle.std.specs.Prelude.{◌≡◌, List, [], ℕ, ◌<◌, ◌^◌};
 ghost use Rattle.rules.specs.Sound.{lent};
 ghost use Rattle.rules.specs.Rule.{Name, name, no_view};
 ghost use Rattle.rules.specs.Step.{Length, Read, Show, WireList, Do, step};
 ghost use Rattle.look.specs.Place.{view_at, place_of};
-ghost use Rattle.calls.specs.Result.{result_of};
+ghost use Rattle.look.specs.Show.{place_shown};
+ghost use Rattle.answer.specs.Result.{result_of};
 ghost use Rattle.calls_look.specs.Shown.{shown_as, view_in, shown_of, bytes_shown};
 ghost use Rattle.calls_look.specs.Begin.{Begins};
 
-use kinds::{Answer, Refusal, Serial, SlipNumber};
+use kinds::{Outcome, Refusal, SlipName, Step};
 use layout::Shape;
 use look::Place;
 
@@ -24,32 +25,33 @@ pub struct Shown {
     pub start: u32,
 }
 
-// What slp_stretches answers, the pool's shape, and the link to its first record, 0 where there is none.
+// What slp_stretches begins with, its step, the pool's shape, and the link to its first record, 0 where there is none.
 #[derive(Clone, Copy)]
 pub struct Begun {
-    pub answer: Answer,
+    pub step: Step,
     pub shape: Shape,
     pub link: u16,
 }
 
 // What show answers, as C receives it.
-fn shown_of(r: look::Shown) -> Shown
-    requires { (view_at r.place).start < 2 ^ 32 }
+fn shown_of(r: Result<look::Shown, Refusal>) -> Shown
+    requires { (view_at (place_shown r)).start < 2 ^ 32 }
     ensures { result ≡ shown_as r }
 {
-    let outcome = r.outcome;
-    let place = r.place;
-    let a = kinds::answer_of(outcome);
+    let (code, number, place) = match r {
+        Ok(x) => (0, x.step.number, x.place),
+        Err(why) => (why.into(), 0, Place::Storage(0)),
+    };
     match place {
         Place::Storage(start) => Shown {
-            code: a.code,
-            number: a.number,
+            code,
+            number,
             in_scratch: 0,
             start: start as u32,
         },
         Place::Scratch => Shown {
-            code: a.code,
-            number: a.number,
+            code,
+            number,
             in_scratch: 1,
             start: 0,
         },
@@ -81,98 +83,55 @@ pub fn part<'a>(storage: &'a [u8], scratch: &'a [u8], shown: Shown) -> &'a [u8]
 }
 
 // length: the byte count of a chain.
-pub fn length(pool: &[u8], storage: &[u8], slip: SlipNumber, serial: Serial) -> Answer
+pub fn length(pool: &[u8], storage: &[u8], s: SlipName) -> Outcome
     ensures { result_of result pool.now storage.now [] no_view
-        ≡ step (Do (Length (name slip.0 serial.0))) (lent pool.now storage.now) }
+        ≡ step (Do (Length (name s.slip.0 s.serial.0))) (lent pool.now storage.now) }
 {
-    let audited = audit::audit(pool, storage.len());
-    if !audited.sound {
-        return calls::refused(Refusal::Torn);
-    }
-    let shape = audited.shape;
-    kinds::answer_of(look::length(pool, shape, slip, serial))
+    let shape = audit::audit(pool, storage.len())?;
+    look::length(pool, shape, s)
 }
 
 // read: copies bytes of a chain to the front of a lent output.
 pub fn read(
     pool: &[u8],
     storage: &[u8],
-    slip: SlipNumber,
-    serial: Serial,
+    s: SlipName,
     offset: u32,
     length: u32,
     output: &mut [u8],
-) -> Answer
+) -> Outcome
     ensures { result_of result pool.now storage.now output.new no_view
-        ≡ step (Do (Read (name slip.0 serial.0) offset length output.old)) (lent pool.now storage.now) }
+        ≡ step (Do (Read (name s.slip.0 s.serial.0) offset length output.old)) (lent pool.now storage.now) }
 {
-    let audited = audit::audit(pool, storage.len());
-    if !audited.sound {
-        return calls::refused(Refusal::Torn);
-    }
-    let shape = audited.shape;
-    let o = look::read(pool, shape, storage, slip, serial, offset, length, output);
-    kinds::answer_of(o)
+    let shape = audit::audit(pool, storage.len())?;
+    look::read(pool, shape, storage, s, offset, length, output)
 }
 
-// show: the first bytes of a chain in one stretch, of storage or of a lent scratch.
-pub fn show(
-    pool: &[u8],
-    storage: &[u8],
-    slip: SlipNumber,
-    serial: Serial,
-    n: u32,
-    scratch: &mut [u8],
-) -> Shown
+// show: the first bytes of a chain in one stretch, of storage or of a lent scratch. Its answer is C's, whose start the audit keeps small.
+pub fn show(pool: &[u8], storage: &[u8], s: SlipName, n: u32, scratch: &mut [u8]) -> Shown
     ensures { shown_of result pool.now storage.now scratch.new
-        ≡ step (Do (Show (name slip.0 serial.0) n scratch.old)) (lent pool.now storage.now) }
+        ≡ step (Do (Show (name s.slip.0 s.serial.0) n scratch.old)) (lent pool.now storage.now) }
 {
-    let audited = audit::audit(pool, storage.len());
-    if !audited.sound {
-        return shown_of(look::unseen(Refusal::Torn));
+    match audit::audit(pool, storage.len()) {
+        Ok(shape) => shown_of(look::show(pool, shape, storage, s, n, scratch)),
+        Err(why) => shown_of(Err(why)),
     }
-    let shape = audited.shape;
-    shown_of(look::show(pool, shape, storage, slip, serial, n, scratch))
 }
 
 // list: where the pieces of a chain lie in storage, two numbers each, to the front of a lent list.
-pub fn list(
-    pool: &[u8],
-    storage: &[u8],
-    slip: SlipNumber,
-    serial: Serial,
-    list: &mut [u32],
-) -> Answer
+pub fn list(pool: &[u8], storage: &[u8], s: SlipName, list: &mut [u32]) -> Outcome
     ensures { result_of result pool.now storage.now list.new no_view
-        ≡ step (Do (WireList (name slip.0 serial.0) list.old)) (lent pool.now storage.now) }
+        ≡ step (Do (WireList (name s.slip.0 s.serial.0) list.old)) (lent pool.now storage.now) }
 {
-    let audited = audit::audit(pool, storage.len());
-    if !audited.sound {
-        return calls::refused(Refusal::Torn);
-    }
-    let shape = audited.shape;
-    kinds::answer_of(list::list(pool, shape, slip, serial, list))
+    let shape = audit::audit(pool, storage.len())?;
+    list::list(pool, shape, s, list)
 }
 
-// What slp_stretches answers, and where its records start: audited and judged before any is written.
-pub fn begin(pool: &[u8], storage: &[u8], slip: SlipNumber, serial: Serial, room: usize) -> Begun
-    ensures { Begins pool.now storage.now (name slip.0 serial.0) room result }
+// What slp_stretches begins with where there is room for `room` records: audited and judged before any is written.
+pub fn begin(pool: &[u8], storage: &[u8], s: SlipName, room: usize) -> Result<Begun, Refusal>
+    ensures { Begins pool.now storage.now (name s.slip.0 s.serial.0) room result }
 {
-    let audited = audit::audit(pool, storage.len());
-    let shape = audited.shape;
-    if !audited.sound {
-        return Begun {
-            answer: calls::refused(Refusal::Torn),
-            shape: shape,
-            link: 0,
-        };
-    }
-    let b = list::begin(pool, shape, slip, serial, room);
-    let outcome = b.outcome;
-    let link = b.link;
-    Begun {
-        answer: kinds::answer_of(outcome),
-        shape: shape,
-        link: link,
-    }
+    let shape = audit::audit(pool, storage.len())?;
+    let list::Begun { step, link, .. } = list::begin(pool, shape, s, room)?;
+    Ok(Begun { step, shape, link })
 }

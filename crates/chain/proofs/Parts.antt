@@ -1,21 +1,23 @@
 -- What the first bytes of a chain take: piece by piece, from a place found, and where they are all. Assumes nothing.
 use mathlib.Core.Path.{◌≡◌, refl, sym, ap, ◌∙◌}
-use mathlib.Core.Bool.{true, false}
+use mathlib.Core.Bool.{Bool, true, false}
 use mathlib.Core.List.{List, [], ◌∷◌}
 use Prim.Native.Nat.{ℕ, zero, suc, ◌+◌, ◌-◌, ◌*◌, ◌≤◌, ◌<◌}
 use native.Mathlib.Omega.{arith}
-use borrow.Author.Tests.{le-leb, lt-leb, leb-true, leb-false}
+use borrow.Author.Tests.{leb-true, leb-false}
 use lib.ListN.{length}
 use lib.Dec.{leb, leb→le, le→leb}
+use Rattle.std.specs.Prelude.{Result, Ok, Err}
+use Rattle.kinds.specs.declared.Refusal.{Refusal}
+use Rattle.kinds.specs.declared.Refusal.TheVariants.{Range}
 use Rattle.kinds.specs.Limits.{buffer_size}
-use Rattle.rules.specs.Basics.{Is}
+use Rattle.rules.specs.Basics.{Is, whether◌then◌else◌}
 use Rattle.rules.specs.Tables.{Tables, piece, piece_total, buffer_total}
 use Rattle.rules.specs.Chain.{Stretch, walk, stretch, stretches, total, cut_out}
 use Rattle.rules.specs.Sound.{link_ok, SoundTables}
-use Rattle.rules.proofs.Logic.{if_F, same_test}
+use Rattle.rules.proofs.Logic.{if_T, if_F, same_test}
 use Rattle.rules.proofs.Contents.{cut_out_all}
 use Rattle.chain.specs.declared.Spot.{Spot}
-use Rattle.chain.specs.declared.Part.{Part}
 use Rattle.chain.specs.Length.{stretches_from}
 use Rattle.chain.specs.Part.{part_of}
 use Rattle.chain.proofs.Links.{link_leads, stretches_none, stretches_on, stretches_in, stretches_small}
@@ -50,8 +52,8 @@ pub part_total : (T : Tables) (n : ℕ) → SoundTables T → Is (link_ok T n) �
 part_total T n S t i = ap total (stretches_on T n S t i) ∙ total_first (stretch (piece T (n - 1))) (stretches_from T (piece T (n - 1)).next)
 
 -- c pieces, and then what the first m bytes from the link n take
-abbrev pub part_from : ℕ → Tables → ℕ → ℕ → Part
-part_from c T n m = record { pieces = c + length (cut_out (stretches_from T n) 0 m); enough = leb m (total (stretches_from T n)) }
+abbrev pub part_from : ℕ → Tables → ℕ → ℕ → Result ℕ Refusal
+part_from c T n m = whether leb m (total (stretches_from T n)) then Ok (c + length (cut_out (stretches_from T n) 0 m)) else Err Range
 
 -- before any piece is passed
 pub part_start : (T : Tables) (n m : ℕ) → part_from 0 T n m ≡ part_of T n m
@@ -59,25 +61,24 @@ unfolding part_of
 part_start T n m =
     let k = length (cut_out (stretches_from T n) 0 m) in
     let e : 0 + k ≡ k = omega arith in
-    λ i. record { pieces = e i; enough = leb m (total (stretches_from T n)) }
+    ap (λ (j : ℕ). whether leb m (total (stretches_from T n)) then Ok j else Err Range) e
 
 module _ (c : ℕ) (T : Tables) (n m : ℕ) where
   -- no more bytes are asked for
-  pub part_done : m ≡ 0 → record { pieces = c; enough = true } ≡ part_from c T n m
+  pub part_done : m ≡ 0 → Ok c ≡ part_from c T n m
   part_done z =
       let xs = stretches_from T n in
       let none = ap length (ap (cut_out xs 0) z ∙ cut_out_none xs 0) in
       let e : c ≡ c + length (cut_out xs 0 m) = omega (arith, none) in
-      λ i. record { pieces = e i; enough = sym (le-leb m (total xs) (omega arith)) i }
+      ap Ok e ∙ sym (if_T (leb m (total xs)) _ _ (le→leb m (total xs) (omega arith)))
 
   -- bytes are asked for, and no piece is left
-  pub part_short : 0 < m → n ≡ 0 → record { pieces = c; enough = false } ≡ part_from c T n m
-  unfolding cut_out total
+  pub part_short : 0 < m → n ≡ 0 → Err Range ≡ part_from c T n m
+  unfolding total
   part_short h z =
       let xs = stretches_from T n in
       let none : xs ≡ [] = ap (stretches_from T) z ∙ stretches_none T in
-      let e : c ≡ c + length (cut_out xs 0 m) = omega (arith, ap (λ (l : List Stretch). length (cut_out l 0 m)) none) in
-      λ i. record { pieces = e i; enough = sym (lt-leb m (total xs) (omega (arith, ap total none))) i }
+      sym (if_F (leb m (total xs)) _ _ (λ t. omega (arith, leb→le m (total xs) t, ap total none)))
 
   -- a piece of k bytes before the link d is passed, and r are left
   pub part_turn : {d k r : ℕ} → SoundTables T → Is (link_ok T n) → (n ≡ 0 → ⊥) → 0 < m → d ≡ (piece T (n - 1)).next → k ≡ (piece T (n - 1)).len → r ≡ m - k
@@ -90,7 +91,31 @@ module _ (c : ℕ) (T : Tables) (n m : ℕ) where
       let e : c + 1 + length (cut_out xs 0 (m - x.len)) ≡ c + length (cut_out (stretches_from T n) 0 m) = omega (arith, cut) in
       let b = same_most (m - x.len) (total xs) m (total (stretches_from T n)) (λ f. omega (arith, sum)) (λ f. omega (arith, sum)) in
       let less : _ ≡ m - x.len = r ∙ ap (λ (y : ℕ). m - y) k in
-      (λ j. part_from (c + 1) T (d j) (less j)) ∙ (λ j. record { pieces = e j; enough = b j })
+      (λ j. part_from (c + 1) T (d j) (less j)) ∙ (λ j. whether b j then Ok (e j) else Err Range)
+
+-- ---- what was answered
+
+-- a test that answered what it tests for, or refused
+tested_ok : (b : Bool) (n : ℕ) {k : ℕ} → Ok k ≡ (whether b then Ok n else Err Range) → (k ≡ n) × (b ≡ true)
+unfolding whether◌then◌else◌
+tested_ok true n e = (cc, refl)
+tested_ok false n e = cc
+
+tested_err : (b : Bool) (n : ℕ) {x : Refusal} → Err x ≡ (whether b then Ok n else Err Range) → (x ≡ Range) × (b ≡ false)
+unfolding whether◌then◌else◌
+tested_err true n e = cc
+tested_err false n e = (cc, refl)
+
+module _ (T : Tables) (n m : ℕ) where
+  -- the first m bytes from a link are there, and overlap k pieces
+  pub part_ok : {k : ℕ} → Ok k ≡ part_of T n m → (k ≡ length (cut_out (stretches_from T n) 0 m)) × (m ≤ total (stretches_from T n))
+  unfolding part_of
+  part_ok e = let (k, b) = tested_ok _ _ e in (k, leb-true m (total (stretches_from T n)) b)
+
+  -- or they are not
+  pub part_err : {x : Refusal} → Err x ≡ part_of T n m → (x ≡ Range) × (total (stretches_from T n) < m)
+  unfolding part_of
+  part_err e = let (x, b) = tested_err _ _ e in (x, leb-false m (total (stretches_from T n)) b)
 
 -- ---- from a place found
 
@@ -113,31 +138,13 @@ pub part_from_lem : (T : Tables) (h off : ℕ) (s : Spot) → Found T h off s �
     → length (cut_out (stretches_from T h) off n) ≡ length (cut_out (stretches_from T s.link) 0 (s.into + n))
 part_from_lem T h off s f n i = ap length (f.cut n) ∙ from_inside (piece_total T) T s.link s.into n f.inside i
 
--- and they are there where the range is
-pub part_range : (T : Tables) (h off : ℕ) (s : Spot) → Found T h off s → (n : ℕ)
-    → leb (s.into + n) (total (stretches_from T s.link)) ≡ leb (off + n) (total (stretches_from T h))
-part_range T h off s f n =
-    same_most (s.into + n) (total (stretches_from T s.link)) (off + n) (total (stretches_from T h)) (λ l. omega (arith, f.lengths)) (λ l. omega (arith, f.lengths))
-
-module _ (T : Tables) (h off n : ℕ) {at : Spot} {part : Part} (f : Found T h off at) (e : part ≡ part_of T at.link (at.into + n)) where
+module _ (T : Tables) (h off n : ℕ) {at : Spot} (f : Found T h off at) where
   -- so what the bytes from the place found take tells whether the range goes past the end of the chain
-  pub range_short : part.enough ≡ false → total (stretches_from T h) < off + n
-  unfolding part_of
-  range_short z = leb-false (off + n) (total (stretches_from T h)) (sym (part_range T h off at f n) ∙ sym (ap (λ (x : Part). x.enough) e) ∙ z)
+  pub range_short : {x : Refusal} → Err x ≡ part_of T at.link (at.into + n) → (x ≡ Range) × (total (stretches_from T h) < off + n)
+  range_short e = let (x, l) = part_err T at.link (at.into + n) e in (x, omega (arith, f.lengths, l))
 
-  pub range_there : part.enough ≡ true → off + n ≤ total (stretches_from T h)
-  unfolding part_of
-  range_there z = leb-true (off + n) (total (stretches_from T h)) (sym (part_range T h off at f n) ∙ sym (ap (λ (x : Part). x.enough) e) ∙ z)
-
--- and the same of the first m bytes from a link
-module _ (T : Tables) (n m : ℕ) {part : Part} (e : part ≡ part_of T n m) where
-  pub first_short : part.enough ≡ false → total (stretches_from T n) < m
-  unfolding part_of
-  first_short z = leb-false m (total (stretches_from T n)) (sym (ap (λ (x : Part). x.enough) e) ∙ z)
-
-  pub first_there : part.enough ≡ true → m ≤ total (stretches_from T n)
-  unfolding part_of
-  first_there z = leb-true m (total (stretches_from T n)) (sym (ap (λ (x : Part). x.enough) e) ∙ z)
+  pub range_there : {k : ℕ} → Ok k ≡ part_of T at.link (at.into + n) → off + n ≤ total (stretches_from T h)
+  range_there e = omega (arith, f.lengths, (part_ok T at.link (at.into + n) e).1)
 
 -- ---- all bytes
 

@@ -7,6 +7,9 @@ use native.Mathlib.Decide.{ℕ_discrete, dec_le}
 use native.Mathlib.Omega.{arith}
 use lib.ListN.{length, drop}
 use lib.Dec.{eqb, eqb→eq, ltb, ltb→lt, lt→ltb, leb, leb→le, le→leb}
+use Rattle.std.specs.Prelude.{Ok, Err}
+use Rattle.kinds.specs.declared.Refusal.{Refusal}
+use Rattle.kinds.specs.declared.Refusal.TheVariants.{Range}
 use Rattle.rules.specs.Basics.{Is, whether◌then◌else◌}
 use Rattle.rules.specs.Tables.{Tables, piece, head_of, slip_total, piece_total, buffer_total}
 use Rattle.rules.specs.Chain.{Stretch, walk, own_at, stretch, total, length_of, cut_out, contents}
@@ -15,7 +18,7 @@ use Rattle.rules.proofs.Logic.{if_T, if_F, not_less, same_test, and_intro, and_p
 use Rattle.rules.proofs.Contents.{Fit, drop_out, drop_out_contents}
 use Rattle.chain.specs.declared.Spot.{Spot}
 use Rattle.chain.specs.Length.{stretches_from}
-use Rattle.chain.specs.Find.{spot_of, past_end}
+use Rattle.chain.specs.Find.{spot_of, past_end, found}
 use Rattle.chain.proofs.Links.{link_leads, walk_none, walk_on, walk_less, stretches_on, stretches_in, length_empty}
 
 -- ---- whether one piece is own
@@ -175,8 +178,8 @@ module _ (T : Tables) (S : SoundTables T) where
   ]
 
   -- the place lies inside a piece in use, or past the end; what is cut out from there is the same
-  pub found : (own : Bool) (n off : ℕ) → Is (link_ok T n) → Found T n off (spot_of (piece_total T) T own n off)
-  found own n off t = found_by (length (walk (piece_total T) T n)) own n off t (omega arith)
+  pub found_from : (own : Bool) (n off : ℕ) → Is (link_ok T n) → Found T n off (spot_of (piece_total T) T own n off)
+  found_from own n off t = found_by (length (walk (piece_total T) T n)) own n off t (omega arith)
 
 -- the bytes of a chain from off on are those from the place found, whatever the storage holds
 pub found_bytes : (T : Tables) (S : SoundTables T) (n off : ℕ) (s : Spot) → Is (link_ok T n) → Found T n off s → (st : List ℕ) → Fit T.stock (buffer_total T) st
@@ -194,7 +197,7 @@ module _ (T : Tables) (s off : ℕ) {head : ℕ} {at : Spot} (from : head ≡ he
     pub found_at : Found T (head_of T s) off at
     found_at =
         subst (Found T (head_of T s) off) (ap (λ (n : ℕ). spot_of (piece_total T) T true n off) (sym from) ∙ sym is)
-        (found T S true (head_of T s) off (S.slips_ok s l))
+        (found_from T S true (head_of T s) off (S.slips_ok s l))
 
     -- where a piece is left it comes before the end
     pub before_end : (at.link ≡ 0 → ⊥) → off < length_of T s
@@ -226,3 +229,33 @@ module _ (T : Tables) (s off : ℕ) {head : ℕ} {at : Spot} (from : head ≡ he
         let none = length_empty (piece_total T) at.link T z in
         let here = not_less 0 at.into (λ t. h (and_intro (eqb at.link 0) (ltb 0 at.into) (eq→eqb at.link 0 z) t)) in
         omega (arith, f.lengths, none, here)
+
+-- ---- what was answered
+
+-- a place at a piece does not lie past the end
+pub at_piece : (n off : ℕ) (own : Bool) → (n ≡ 0 → ⊥) → Is (past_end (record { link = n; into = off; own = own })) → ⊥
+at_piece n off own h t = h (eqb→eq n 0 (and_parts (eqb n 0) (ltb 0 off) t).0)
+
+-- a place that does not is found, and one that does is refused
+pub found_is : {x s : Spot} → s ≡ x → (Is (past_end s) → ⊥) → Ok s ≡ found x
+found_is {x} e n = ap Ok e ∙ sym (if_F (past_end x) (Err Range) (Ok x) (λ t. n (subst (λ (y : Spot). Is (past_end y)) (sym e) t)))
+
+pub found_no : {x s : Spot} → s ≡ x → Is (past_end s) → Err Range ≡ found x
+found_no {x} e t = sym (if_T (past_end x) (Err Range) (Ok x) (subst (λ (y : Spot). Is (past_end y)) e t))
+
+tested_ok : (b : Bool) (x : Spot) {s : Spot} → Ok s ≡ (whether b then Err Range else Ok x) → (s ≡ x) × (Is b → ⊥)
+unfolding whether◌then◌else◌
+tested_ok true x e = cc
+tested_ok false x e = (cc, λ t. t)
+
+tested_err : (b : Bool) (x : Spot) {r : Refusal} → Err r ≡ (whether b then Err Range else Ok x) → (r ≡ Range) × Is b
+unfolding whether◌then◌else◌
+tested_err true x e = (cc, tt)
+tested_err false x e = cc
+
+-- so a place that was found does not lie past the end, and one that was refused does
+pub found_ok : (x : Spot) {s : Spot} → Ok s ≡ found x → (s ≡ x) × (Is (past_end x) → ⊥)
+found_ok x e = tested_ok (past_end x) x e
+
+pub found_err : (x : Spot) {r : Refusal} → Err r ≡ found x → (r ≡ Range) × Is (past_end x)
+found_err x e = tested_err (past_end x) x e

@@ -1,5 +1,7 @@
 -- Where in a chain a byte lies, and whether its piece is own.
-use Rattle.std.specs.Prelude.{Bool, ◌&&◌, ℕ, zero, suc, ◌-◌, eqb, leb, ltb}
+use Rattle.std.specs.Prelude.{Bool, ◌&&◌, ℕ, zero, suc, ◌-◌, eqb, leb, ltb, Result, Ok, Err}
+use Rattle.kinds.specs.declared.Refusal.{Refusal}
+use Rattle.kinds.specs.declared.Refusal.TheVariants.{Range}
 use Rattle.rules.specs.Basics.{whether◌then◌else◌}
 use Rattle.rules.specs.Tables.{Tables, piece}
 use Rattle.rules.specs.Chain.{own_at}
@@ -18,3 +20,7 @@ spot_of (suc k) T own (suc d) off =
 -- the place lies past the end: no piece has it, and bytes are left
 abbrev pub past_end : Spot → Bool
 past_end s = eqb s.link 0 && ltb 0 s.into
+
+-- a place that is found, or the refusal of one past the end
+abbrev pub found : Spot → Result Spot Refusal
+found s = whether past_end s then Err Range else Ok s

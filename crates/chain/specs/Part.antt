@@ -1,10 +1,12 @@
 -- What the first bytes of a chain take.
-use Rattle.std.specs.Prelude.{ℕ, length, leb}
+use Rattle.std.specs.Prelude.{ℕ, length, leb, Result, Ok, Err}
+use Rattle.kinds.specs.declared.Refusal.{Refusal}
+use Rattle.kinds.specs.declared.Refusal.TheVariants.{Range}
+use Rattle.rules.specs.Basics.{whether◌then◌else◌}
 use Rattle.rules.specs.Tables.{Tables}
 use Rattle.rules.specs.Chain.{total, cut_out}
-use Rattle.chain.specs.declared.Part.{Part}
 use Rattle.chain.specs.Length.{stretches_from}
 
--- what the first m bytes from the link n take: the pieces that they overlap, and whether they are there
-unfoldable pub part_of : Tables → ℕ → ℕ → Part
-part_of T n m = record { pieces = length (cut_out (stretches_from T n) 0 m); enough = leb m (total (stretches_from T n)) }
+-- the pieces that the first m bytes from the link n overlap, or the refusal where they are not there
+unfoldable pub part_of : Tables → ℕ → ℕ → Result ℕ Refusal
+part_of T n m = whether leb m (total (stretches_from T n)) then Ok (length (cut_out (stretches_from T n) 0 m)) else Err Range

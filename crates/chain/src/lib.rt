@@ -12,10 +12,10 @@ ghost use Rattle.tables.specs.Shape.{Shaped};
 ghost use Rattle.chain.specs.Opened.{Opened};
 ghost use Rattle.chain.specs.Enter.{Enters};
 ghost use Rattle.chain.specs.Length.{stretches_from, LegIs, LengthIs};
-ghost use Rattle.chain.specs.Find.{spot_of, past_end};
+ghost use Rattle.chain.specs.Find.{spot_of, found};
 ghost use Rattle.chain.specs.Part.{part_of};
 
-use kinds::{PieceNumber, Serial, SlipNumber};
+use kinds::{Number, PieceNumber, Refusal, SlipName, SlipNumber, SlipState};
 use layout::Shape;
 
 // A place in a chain, the link to a piece, the bytes of it before the place, and whether that piece is own: a cursor.
@@ -36,38 +36,31 @@ pub struct Leg {
 // The most pieces of a leg: the longest chain takes 64 legs.
 const LEG: u16 = 32;
 
-// What the first bytes of a chain take: how many pieces, and whether it has them (an extent).
-#[derive(Clone, Copy)]
-pub struct Part {
-    pub pieces: u16,
-    pub enough: bool,
-}
-
 // The link that slip `s` holds, 0 none and 1 + d piece d: a chain's head.
 pub fn head_link(pool: &[u8], shape: Shape, s: SlipNumber) -> u16
     requires { Shaped pool.now shape × (s.0 < shape.slips) }
     ensures { result ≡ head_of (decode pool.now) s.0 }
 {
-    let v = tables::slip(pool, shape, s);
-    if v == 0 {
-        return 0;
-    }
-    v - 1
+    tables::link_of(tables::slip(pool, shape, s))
 }
 
-// The entry of slip `s`, 0 where the slip is vacant, is not one of the pool's or has another serial: a handle looked up, and its generation compared.
-// The link that a held slip holds is 1 less.
-pub fn enter(pool: &[u8], shape: Shape, s: SlipNumber, serial: Serial) -> u16
+// The link that the slip of a name holds, refused where the slip is vacant, is not one of the pool's or has another serial:
+// a handle looked up, and its generation compared.
+pub fn enter(pool: &[u8], shape: Shape, s: SlipName) -> Result<u16, Refusal>
     requires { Opened pool.now shape }
-    ensures { Enters (decode pool.now) shape (name s.0 serial.0) result }
+    ensures { Enters (decode pool.now) shape (name s.slip.0 s.serial.0) result }
 {
-    if shape.slips <= s.0 {
-        return 0;
+    if !s.slip.below(shape.slips) {
+        return Err(Refusal::Slip);
     }
-    if tables::serial(pool, shape, s).0 != serial.0 {
-        return 0;
+    if tables::serial(pool, shape, s.slip) != s.serial {
+        return Err(Refusal::Slip);
     }
-    tables::slip(pool, shape, s)
+    let entry = tables::slip(pool, shape, s.slip);
+    if !SlipState::from(entry).held() {
+        return Err(Refusal::Slip);
+    }
+    Ok(entry - 1)
 }
 
 // The length of piece `d` in 32 bits, for sums: its data length.
@@ -85,23 +78,15 @@ fn leg_from(pool: &[u8], shape: Shape, link: u16, most: u16) -> Leg
 {
     let mut bytes = 0;
     let mut at = link;
-    let mut allowed = most;
-    while 0 < allowed {
+    for _ in 0..most {
         if at == 0 {
-            return Leg {
-                bytes: bytes,
-                link: 0,
-            };
+            return Leg { bytes, link: 0 };
         }
         let d = PieceNumber(at - 1);
         bytes += piece_bytes(pool, shape, d);
         at = tables::piece_next(pool, shape, d);
-        allowed -= 1;
     }
-    Leg {
-        bytes: bytes,
-        link: at,
-    }
+    Leg { bytes, link: at }
 }
 
 // The length of the first pieces and the length of the rest, or zero; at most `allowed` pieces. Each level takes a leg, so that the stack stays small.
@@ -175,16 +160,13 @@ fn own_at(pool: &[u8], shape: Shape, own: bool, d: PieceNumber) -> bool
     requires { Shaped pool.now shape × (d.0 < shape.pieces) }
     ensures { result ≡ own_at (decode pool.now) own d.0 }
 {
-    if !own {
-        return false;
-    }
-    tables::piece_count(pool, shape, d) == 1
+    own && tables::piece_count(pool, shape, d) == 1
 }
 
-// The place `off` bytes into the chain that starts at `link`, and whether its piece is own; its link is 0 past the end: a seek.
-pub fn find(pool: &[u8], shape: Shape, link: u16, off: u32) -> Spot
+// The place `off` bytes into the chain that starts at `link`, and whether its piece is own; its link is 0 at the end, past which a place is refused: a seek.
+pub fn find(pool: &[u8], shape: Shape, link: u16, off: u32) -> Result<Spot, Refusal>
     requires { Opened pool.now shape × Is (link_ok (decode pool.now) link) }
-    ensures { result ≡ spot_of (piece_total (decode pool.now)) (decode pool.now) true link off }
+    ensures { result ≡ found (spot_of (piece_total (decode pool.now)) (decode pool.now) true link off) }
 {
     let mut at = link;
     let mut left = off;
@@ -194,41 +176,27 @@ pub fn find(pool: &[u8], shape: Shape, link: u16, off: u32) -> Spot
         let n = piece_bytes(pool, shape, d);
         own = own_at(pool, shape, own, d);
         if left < n {
-            return Spot {
+            return Ok(Spot {
                 link: at,
                 into: left,
-                own: own,
-            };
+                own,
+            });
         }
-        left = left - n;
+        left -= n;
         at = tables::piece_next(pool, shape, d);
     }
-    Spot {
+    if left != 0 {
+        return Err(Refusal::Range);
+    }
+    Ok(Spot {
         link: 0,
-        into: left,
-        own: own,
-    }
+        into: 0,
+        own,
+    })
 }
 
-// Whether a place found lies past the end of its chain, which then has fewer bytes: a seek past the end.
-pub fn past_end(at: Spot) -> bool
-    ensures { result ≡ past_end at }
-{
-    at.link == 0 && 0 < at.into
-}
-
-// The bytes of `n` past the first `k`, or none: a difference that stops at 0.
-fn past(n: u64, k: u64) -> u64
-    ensures { result ≡ n - k }
-{
-    if n < k {
-        return 0;
-    }
-    n - k
-}
-
-// The pieces that the first `n` bytes from `link` overlap, and whether there are so many bytes: a bounded walk.
-pub fn part_of(pool: &[u8], shape: Shape, link: u16, n: u64) -> Part
+// The pieces that the first `n` bytes from `link` overlap, refused where the chain has fewer bytes: a bounded walk.
+pub fn part_of(pool: &[u8], shape: Shape, link: u16, n: u64) -> Result<u16, Refusal>
     requires { Opened pool.now shape × Is (link_ok (decode pool.now) link) }
     ensures { result ≡ part_of (decode pool.now) link n }
 {
@@ -237,19 +205,12 @@ pub fn part_of(pool: &[u8], shape: Shape, link: u16, n: u64) -> Part
     let mut pieces = 0;
     while 0 < left {
         if at == 0 {
-            return Part {
-                pieces: pieces,
-                enough: false,
-            };
+            return Err(Refusal::Range);
         }
         let d = PieceNumber(at - 1);
-        let k = piece_bytes(pool, shape, d) as u64;
-        left = past(left, k);
+        left = left.saturating_sub(piece_bytes(pool, shape, d) as u64);
         pieces += 1;
         at = tables::piece_next(pool, shape, d);
     }
-    Part {
-        pieces: pieces,
-        enough: true,
-    }
+    Ok(pieces)
 }

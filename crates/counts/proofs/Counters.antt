@@ -3,26 +3,28 @@ use mathlib.Core.Path.{◌≡◌, refl, sym, ap, ◌∙◌}
 use mathlib.Core.Logic.{◌≢◌}
 use mathlib.Core.Bool.{Bool, true, false, ◌&&◌, false≢true}
 use mathlib.Core.List.{List}
-use Prim.Native.Nat.{ℕ, zero, suc, ◌+◌, ◌-◌, ◌≤◌, ◌<◌}
+use Prim.Native.Nat.{ℕ, zero, suc, ◌+◌, ◌≤◌, ◌<◌}
 use native.Mathlib.Decide.{ℕ_discrete, dec_lt}
 use native.Mathlib.Numerals.{add-one}
 use native.Mathlib.Omega.{arith}
-use lib.ListN.{length, get_or, set, length-set, length-replicate, get_or-replicate, get_or-eq_default}
+use borrow.Author.Count.{below_more}
+use lib.ListN.{length, get_or, length-set, length-replicate, get_or-replicate, get_or-eq_default}
 use lib.Seq.{get_or-set_same, get_or-set_other}
 use lib.Dec.{lt→ltb, eqb, eqb→eq, leb→le, le→leb}
+use Rattle.std.specs.List.{list_all, range_with_len}
 use Rattle.kinds.specs.Limits.{most_pieces, most_buffers, most_slips}
 use Rattle.rules.specs.Basics.{Is, bit, all_to}
 use Rattle.rules.specs.Tables.{Piece, Tables, piece, head_of, slip_total, piece_total, buffer_total}
 use Rattle.rules.specs.Bytes.{decode}
 use Rattle.rules.specs.Sound.{in_use, leads, heads, nexts, lying}
-use Rattle.rules.proofs.Logic.{if_T, if_F, if_either, and_intro, bit_one, is_true, is_false, eq→eqb, all_at}
+use Rattle.rules.proofs.Logic.{if_T, if_F, if_either, and_intro, and_0, and_1, bit_one, is_true, is_false, same_test, eq→eqb, all_intro, all_at}
 use Rattle.rules.proofs.Sums.{sum_to_ones}
 use Rattle.rules.proofs.Moves.{hit, hit_same, hit_other, lies_used}
 use Rattle.rules.proofs.Bytes.{decode_slips, decode_pieces, decode_counts}
 use Rattle.layout.specs.declared.Shape.{Shape}
-use Rattle.counts.specs.Ranges.{link_in_range, piece_in_range, slips_in_range, pieces_in_range, references_ok}
+use Rattle.counts.specs.Ranges.{piece_in_range, slips_in_range, pieces_in_range}
 use Rattle.counts.specs.Counters.{Limited, zeros, tallied, lie_of, Countable, Hold, Cleared, references, heads_to, nexts_to, lying_to}
-use Rattle.counts.specs.Counters.{SlipsCounted, PiecesCounted, ReferencesCounted}
+use Rattle.counts.specs.Counters.{SlipsCounted, PiecesCounted}
 use Rattle.counts.proofs.Ranges.{free_next, next_in_range, buffer_in_range}
 
 -- ---- the tables of a pool within the limits
@@ -44,11 +46,6 @@ totals {p} {h} k =
     omega arith
 
 -- ---- one counter goes up
-
--- the store that the code makes
-pub store_tallied : (c : List ℕ) (n : ℕ) → n ≢ 0 → set c (n - 1) (get_or c (n - 1) 0 + 1) ≡ tallied c n
-store_tallied c zero h = absurd (h refl)
-store_tallied c (suc d) h = let e : suc d - 1 ≡ d = omega arith in rw e
 
 tallied_long : (c : List ℕ) (n : ℕ) → length (tallied c n) ≡ length c
 tallied_long c zero = refl
@@ -89,57 +86,60 @@ cleared_zeros n m l =
     let e = length-replicate {A = ℕ} m 0 in
     record { long = omega arith; each = λ d i. get_or-replicate m d 0 0 (omega arith) }
 
--- one more passes
-all_more : (f : ℕ → Bool) (n : ℕ) → Is (all_to n f) → Is (f n) → Is (all_to (n + 1) f)
-unfolding all_to
-all_more f n t u = rw add-one (and_intro (f n) (all_to n f) u t)
-
 -- ---- the slips
 
 -- the first n slips are in range and counted
 pub record SlipsTo (T : Tables) (n : ℕ) (refs : List ℕ) : Type 0 where
-  pub ranged : Is (all_to n (λ s. link_in_range (piece_total T) (head_of T s)))
+  pub ranged : (s : ℕ) → s < n → head_of T s ≤ piece_total T
   pub held : Hold (piece_total T) refs (heads_to T n)
 
-module _ (T : Tables) where
-  heads_to_most : (n d : ℕ) → heads_to T n d ≤ n
+heads_to_most : (T : Tables) (n d : ℕ) → heads_to T n d ≤ n
+unfolding heads_to
+heads_to_most T n d = sum_to_ones n (λ s. hit (head_of T s) d) (λ s. bit_one (leads (head_of T s) d))
+
+heads_to_more : (T : Tables) (n d : ℕ) → heads_to T (n + 1) d ≡ heads_to T n d + hit (head_of T n) d
+unfolding heads_to
+heads_to_more T n d = rw add-one (omega arith)
+
+module _ {p : List ℕ} {h : Shape} (k : Limited p h) where
+  pub slips_start : {refs : List ℕ} → Cleared h.pieces refs → SlipsTo (decode p) 0 refs
   unfolding heads_to
-  heads_to_most n d = sum_to_ones n (λ s. hit (head_of T s) d) (λ s. bit_one (leads (head_of T s) d))
+  slips_start z =
+      let t = totals k in
+      record { ranged = λ s l. absurd (omega arith); held = hold_same (hold_fewer z (omega arith)) (heads_to (decode p) 0) (λ d. refl) }
 
-  heads_to_more : (n d : ℕ) → heads_to T (n + 1) d ≡ heads_to T n d + hit (head_of T n) d
-  unfolding heads_to
-  heads_to_more n d = rw add-one (omega arith)
-
-  pub slips_start : {h : Shape} → Totals T h → {refs : List ℕ} → Cleared h.pieces refs → SlipsTo T 0 refs
-  unfolding heads_to all_to
-  slips_start k z = record { ranged = tt; held = hold_same (hold_fewer z (omega arith)) (heads_to T 0) (λ d. refl) }
-
-  module _ {n : ℕ} {refs : List ℕ} (v : SlipsTo T n refs) where
-    pub slips_room : n ≤ most_slips → Countable refs
-    slips_room l = hold_below v.held (omega arith) (λ d. omega (arith, heads_to_most n d))
-
-    pub slips_on : {m : ℕ} {refs' : List ℕ} → m ≡ head_of T n → m ≤ piece_total T → refs' ≡ tallied refs m → SlipsTo T (n + 1) refs'
-    slips_on {m} {refs'} q l e = rw (e, q) (record {
-      ranged = all_more (λ s. link_in_range (piece_total T) (head_of T s)) n v.ranged (le→leb (head_of T n) (piece_total T) (omega arith));
-      held = hold_tallied v.held (head_of T n) (heads_to T (n + 1)) (omega arith) (heads_to_more n);
-    })
-
-    pub slips_end : n ≡ slip_total T → SlipsCounted T true refs
-    unfolding slips_in_range heads heads_to
-    slips_end e = record { exact = sym (is_true _ (rw e at v.ranged)); held = λ _. rw e at v.held }
-
-  pub slips_torn : {m : ℕ} {refs : List ℕ} (n : ℕ) → n < slip_total T → m ≡ head_of T n → piece_total T < m → SlipsCounted T false refs
+  pub slips_torn : {m n : ℕ} {refs : List ℕ} → n < h.slips → m ≡ head_of (decode p) n → h.pieces < m → SlipsCounted (decode p) false refs
   unfolding slips_in_range
-  slips_torn n l q k = record {
-    exact = sym (is_false _ (λ t. omega (arith, leb→le (head_of T n) (piece_total T) (all_at (slip_total T) (λ s. link_in_range (piece_total T) (head_of T s)) t n l))));
-    held = λ e. absurd (false≢true e);
-  }
+  slips_torn {m} {n} l q x =
+      let t = totals k in
+      let T = decode p in
+      record {
+        exact = sym (is_false _ (λ y. omega (arith, leb→le _ _ (all_at (slip_total T) _ y n (omega arith)))));
+        held = λ y. absurd (false≢true y);
+      }
+
+  module _ {n : ℕ} {refs : List ℕ} (v : SlipsTo (decode p) n refs) where
+    pub slips_room : n ≤ h.slips → Countable refs
+    slips_room l = let t = totals k in hold_below v.held (omega arith) (λ d. omega (arith, heads_to_most (decode p) n d))
+
+    pub slips_on : {m : ℕ} {refs' : List ℕ} → m ≡ head_of (decode p) n → m ≤ h.pieces → refs' ≡ tallied refs m → SlipsTo (decode p) (n + 1) refs'
+    slips_on {m} {refs'} q l e =
+        let t = totals k in
+        let x : head_of (decode p) n ≤ piece_total (decode p) = omega arith in
+        rw (e, q) (record { ranged = below_more _ n v.ranged x; held = hold_tallied v.held _ _ x (heads_to_more (decode p) n) })
+
+    pub slips_end : h.slips ≤ n → n ≤ h.slips → SlipsCounted (decode p) true refs
+    unfolding slips_in_range heads heads_to
+    slips_end l m =
+        let t = totals k in
+        let e : n ≡ slip_total (decode p) = omega arith in
+        record { exact = sym (is_true _ (all_intro (slip_total (decode p)) _ (λ s x. le→leb _ _ (v.ranged s (omega arith))))); held = λ _. rw e at v.held }
 
 -- ---- the pieces
 
 -- the first n pieces are in range, and their nexts and buffers counted
 pub record PiecesTo (T : Tables) (n : ℕ) (refs lies : List ℕ) : Type 0 where
-  pub ranged : Is (all_to n (λ d. piece_in_range (buffer_total T) (piece_total T) (piece T d)))
+  pub ranged : (d : ℕ) → d < n → Is (piece_in_range (buffer_total T) (piece_total T) (piece T d))
   pub references : Hold (piece_total T) refs (λ d. heads T d + nexts_to T n d)
   pub laid : Hold (buffer_total T) lies (lying_to T n)
 
@@ -151,10 +151,10 @@ next_hit B P p t d =
       | no z ↦ ap (λ (x : Bool). bit (x && leads p.next d)) (is_true (in_use p) (lt→ltb 0 p.count (omega arith)))
     ]
 
-pub lie_free : (p : Piece) → p.count ≡ 0 → lie_of p ≡ 0
+lie_free : (p : Piece) → p.count ≡ 0 → lie_of p ≡ 0
 lie_free p z = if_T (eqb p.count 0) 0 (suc p.buffer) (eq→eqb p.count 0 z)
 
-pub lie_used : (p : Piece) → p.count ≢ 0 → lie_of p ≡ suc p.buffer
+lie_used : (p : Piece) → p.count ≢ 0 → lie_of p ≡ suc p.buffer
 lie_used p u = if_F (eqb p.count 0) 0 (suc p.buffer) (λ t. u (eqb→eq p.count 0 t))
 
 -- a piece in use counts on its buffer, a free one nowhere
@@ -198,78 +198,86 @@ module _ (T : Tables) where
   unfolding nexts nexts_to
   references_most d = omega (arith, heads_most d, nexts_to_most (piece_total T) d)
 
-  pub pieces_start : {h : Shape} → Totals T h → {refs lies : List ℕ} → Hold h.pieces refs (heads T) → Cleared h.buffers lies → PiecesTo T 0 refs lies
-  unfolding nexts_to lying_to all_to
-  pieces_start k r z = record {
-    ranged = tt;
-    references = hold_same (hold_fewer r (omega arith)) _ (λ d. omega arith);
-    laid = hold_same (hold_fewer z (omega arith)) (lying_to T 0) (λ d. refl);
-  }
+module _ {p : List ℕ} {h : Shape} (k : Limited p h) where
+  pub pieces_start : {refs lies : List ℕ} → Hold h.pieces refs (heads (decode p)) → Cleared h.buffers lies → PiecesTo (decode p) 0 refs lies
+  unfolding nexts_to lying_to
+  pieces_start r z =
+      let t = totals k in
+      record {
+        ranged = λ d l. absurd (omega arith);
+        references = hold_same (hold_fewer r (omega arith)) _ (λ d. omega arith);
+        laid = hold_same (hold_fewer z (omega arith)) (lying_to (decode p) 0) (λ d. refl);
+      }
 
-  module _ {h : Shape} (k : Totals T h) {n : ℕ} (l : n < h.pieces) {p : Piece} (e : p ≡ piece T n) {r : Bool} (q : r ≡ piece_in_range h.buffers h.pieces p) where
-    ranged : {b : Bool} → r ≡ b → piece_in_range (buffer_total T) (piece_total T) (piece T n) ≡ b
-    ranged x = rw (← k.buffers, ← k.pieces, ← e) (sym q ∙ x)
+  module _ {n : ℕ} (l : n < h.pieces) {e : Piece} (q : e ≡ piece (decode p) n) where
+    same : piece_in_range h.buffers h.pieces e ≡ piece_in_range (buffer_total (decode p)) (piece_total (decode p)) (piece (decode p) n)
+    same = let t = totals k in rw (← t.buffers, ← t.pieces, ← q)
 
-    pub pieces_torn : {refs lies : List ℕ} → r ≡ false → PiecesCounted T false refs lies
+    pub pieces_torn : {refs lies : List ℕ} → piece_in_range h.buffers h.pieces e ≡ false → PiecesCounted (decode p) false refs lies
     unfolding pieces_in_range
     pieces_torn x =
+        let t = totals k in
+        let T = decode p in
         let m : n < piece_total T = omega arith in
         record {
-          exact = sym (is_false _ (λ t. rw (ranged x) at (all_at (piece_total T) (λ d. piece_in_range (buffer_total T) (piece_total T) (piece T d)) t n m)));
+          exact = sym (is_false _ (λ y. false≢true (sym x ∙ same ∙ is_true _ (all_at (piece_total T) _ y n m))));
           references = λ y. absurd (false≢true y);
           laid = λ y. absurd (false≢true y);
         }
 
-    module _ (x : r ≡ true) {refs lies : List ℕ} (v : PiecesTo T n refs lies) where
-      fits : ((piece T n).next ≤ piece_total T) × (lie_of (piece T n) ≤ buffer_total T)
-      fits = entry_fits (buffer_total T) (piece_total T) (piece T n) (rw (ranged x) tt)
+    module _ (x : piece_in_range h.buffers h.pieces e ≡ true) {refs lies : List ℕ} (v : PiecesTo (decode p) n refs lies) where
+      in_range : Is (piece_in_range (buffer_total (decode p)) (piece_total (decode p)) (piece (decode p) n))
+      in_range = rw (← same, x) tt
+
+      fits : ((piece (decode p) n).next ≤ piece_total (decode p)) × (lie_of (piece (decode p) n) ≤ buffer_total (decode p))
+      fits = entry_fits _ _ (piece (decode p) n) in_range
 
       -- there are counters for what it refers to, and room in them
-      pub pieces_fit : (p.next ≤ length refs) × (lie_of p ≤ length lies) × Countable refs × Countable lies
-      pieces_fit = (
-        rw e (omega (arith, fits.0, v.references.long)),
-        rw e (omega (arith, fits.1, v.laid.long)),
-        hold_below v.references (omega arith) (λ d. omega (arith, heads_most d, nexts_to_most n d)),
-        hold_below v.laid (omega arith) (λ b. omega (arith, lying_to_most n b)),
-      )
+      pub pieces_fit : (e.next ≤ length refs) × (lie_of e ≤ length lies) × Countable refs × Countable lies
+      pieces_fit =
+          let t = totals k in (
+            rw q (omega (arith, fits.0, v.references.long)),
+            rw q (omega (arith, fits.1, v.laid.long)),
+            hold_below v.references (omega arith) (λ d. omega (arith, heads_most (decode p) d, nexts_to_most (decode p) n d)),
+            hold_below v.laid (omega arith) (λ b. omega (arith, lying_to_most (decode p) n b)),
+          )
 
-      pub pieces_on : {refs' lies' : List ℕ} → refs' ≡ tallied refs p.next → lies' ≡ tallied lies (lie_of p) → PiecesTo T (n + 1) refs' lies'
-      pieces_on f g =
-          let u : Is (piece_in_range (buffer_total T) (piece_total T) (piece T n)) = rw (ranged x) tt in
-          rw (f, g, e) (record {
-            ranged = all_more (λ d. piece_in_range (buffer_total T) (piece_total T) (piece T d)) n v.ranged u;
-            references = hold_tallied v.references (piece T n).next _ fits.0 (λ d. omega (arith, nexts_to_more n d u));
-            laid = hold_tallied v.laid (lie_of (piece T n)) (lying_to T (n + 1)) fits.1 (lying_to_more n);
+      pub pieces_on : {refs' lies' : List ℕ} → (refs' ≡ tallied refs e.next) × (lies' ≡ tallied lies (lie_of e)) → PiecesTo (decode p) (n + 1) refs' lies'
+      pieces_on (f, g) =
+          rw (f, g, q) (record {
+            ranged = below_more _ n v.ranged in_range;
+            references = hold_tallied v.references _ _ fits.0 (λ d. omega (arith, nexts_to_more (decode p) n d in_range));
+            laid = hold_tallied v.laid _ _ fits.1 (lying_to_more (decode p) n);
           })
 
-  pub pieces_end : {n : ℕ} {refs lies : List ℕ} → PiecesTo T n refs lies → n ≡ piece_total T → PiecesCounted T true refs lies
+  pub pieces_end : {n : ℕ} {refs lies : List ℕ} → PiecesTo (decode p) n refs lies → h.pieces ≤ n → n ≤ h.pieces → PiecesCounted (decode p) true refs lies
   unfolding pieces_in_range nexts nexts_to lying lying_to
-  pieces_end v e = record { exact = sym (is_true _ (rw e at v.ranged)); references = λ _. rw e at v.references; laid = λ _. rw e at v.laid }
-
--- ---- the test that fails first decides
-
-pub references_fail : {T : Tables} {refs : List ℕ} → references_ok T ≡ false → ReferencesCounted T false refs
-references_fail q = record { exact = sym q; held = λ e. absurd (false≢true e) }
+  pieces_end {n} v l m =
+      let t = totals k in
+      let e : n ≡ piece_total (decode p) = omega arith in
+      record {
+        exact = sym (is_true _ (all_intro (piece_total (decode p)) _ (λ d x. v.ranged d (omega arith))));
+        references = λ _. rw e at v.references;
+        laid = λ _. rw e at v.laid;
+      }
 
 -- ---- stored counts g against counters that hold f
 
-module _ (g f : ℕ → ℕ) where
-  abbrev pub Agree : ℕ → Type 0
-  Agree n = Is (all_to n (λ d. eqb (g d) (f d)))
+-- what `all` asks of the n numbers from a on
+module _ (f : ℕ → Bool) where
+  all_from : (a n : ℕ) → Is (list_all f (range_with_len a n)) → (i : ℕ) → a ≤ i → i < a + n → Is (f i)
+  all_from a zero t i l m = absurd (omega arith)
+  all_from a (suc n) t i l m =
+      elim (ℕ_discrete i a) [ yes e ↦ rw e (and_0 (f a) _ t) | no e ↦ all_from (a + 1) n (and_1 (f a) _ t) i (omega arith) (omega arith) ]
 
-  pub agree_start : Agree 0
-  unfolding all_to
-  agree_start = tt
+  all_on : (a n : ℕ) → ((i : ℕ) → a ≤ i → i < a + n → Is (f i)) → Is (list_all f (range_with_len a n))
+  all_on a zero h = tt
+  all_on a (suc n) h = and_intro (f a) _ (h a (omega arith) (omega arith)) (all_on (a + 1) n (λ i l m. h i (omega arith) (omega arith)))
 
-  module _ {N n x : ℕ} {c : List ℕ} (h : Hold N c f) (l : n < N) (e : x ≡ g n) where
-    counter : get_or c n 0 ≡ f n
-    counter = h.each n (omega (arith, h.long))
-
-    pub agree_on : Agree n → x ≡ get_or c n 0 → Agree (n + 1)
-    agree_on t q = all_more (λ d. eqb (g d) (f d)) n t (eq→eqb (g n) (f n) (omega (arith, counter)))
-
-    pub agree_torn : (M : ℕ) → n < M → x ≢ get_or c n 0 → false ≡ all_to M (λ d. eqb (g d) (f d))
-    agree_torn M m q = sym (is_false _ (λ t. q (omega (arith, counter, eqb→eq (g n) (f n) (all_at M (λ d. eqb (g d) (f d)) t n m)))))
-
-  pub agree_end : {n : ℕ} (N : ℕ) → n ≡ N → Agree n → true ≡ all_to N (λ d. eqb (g d) (f d))
-  agree_end N e t = sym (is_true _ (rw e at t))
+pub agree : {n N : ℕ} {c : List ℕ} {f : ℕ → ℕ} (g : ℕ → ℕ) → Hold n c f → n ≡ N
+    → list_all (λ d. eqb (g d) (get_or c d 0)) (range_with_len 0 n) ≡ all_to N (λ d. eqb (g d) (f d))
+agree {n} {N} {c} {f} g h e =
+    let held : (d : ℕ) → d < N → get_or c d 0 ≡ f d = λ d l. h.each d (omega (arith, h.long)) in
+    same_test _ _
+    (λ t. all_intro N _ (λ d l. rw (held d l) at (all_from _ 0 n t d (omega arith) (omega arith))))
+    (λ t. all_on _ 0 n (λ d _ l. let m : d < N = omega arith in rw (held d m) (all_at N _ t d m)))

@@ -13,7 +13,8 @@ ghost use Rattle.rules.specs.Step.{Cut, perform};
 ghost use Rattle.chain.specs.Opened.{Opened};
 ghost use Rattle.answer.specs.Result.{result_of, Leaves};
 
-use kinds::{Outcome, Refusal, Serial, SlipNumber};
+use chain::Spot;
+use kinds::{Outcome, Refusal, SlipName, SlipNumber};
 use layout::Shape;
 
 // How many pieces a range of `n` bytes overlaps, from those that its bytes and the bytes before it overlap: none where it is empty.
@@ -24,41 +25,18 @@ fn overlapped(n: u32, pieces: u16) -> u16
 }
 
 // Gives a new slip the `n` bytes from `off` on of the chain of slip `s`: a handle on a range, with no bytes copied.
-pub fn cut(
-    pool: &mut [u8],
-    shape: Shape,
-    s: SlipNumber,
-    serial: Serial,
-    off: u32,
-    n: u32,
-) -> Outcome
+pub fn cut(pool: &mut [u8], shape: Shape, s: SlipName, off: u32, n: u32) -> Outcome
     requires { Opened pool.old shape }
     ensures by_index { (st : List ℕ) → result_of result pool.new st [] no_view
-        ≡ perform (Cut (name s.0 serial.0) off n) (lent pool.old st) }
+        ≡ perform (Cut (name s.slip.0 s.serial.0) off n) (lent pool.old st) }
     ensures leaves { Leaves result (state_of (slip (decode pool.new) (slip_in (number_of result)))) }
 {
-    let entry = chain::enter(pool, shape, s, serial);
-    if !kinds::state_of(entry).held() {
-        return Outcome::Refused(Refusal::Slip);
-    }
-    let head = entry - 1;
-    let at = chain::find(pool, shape, head, off);
-    let link = at.link;
-    let into = at.into;
-    let part = chain::part_of(pool, shape, link, into as u64 + n as u64);
-    if !part.enough {
-        return Outcome::Refused(Refusal::Range);
-    }
-    let t = room::next_ready(pool, shape, SlipNumber(0));
-    if t.0 == shape.slips {
-        return Outcome::Refused(Refusal::Slips);
-    }
-    let pieces = overlapped(n, part.pieces);
-    let room = room::piece_room(pool, shape, pieces as usize);
-    if !room.enough {
-        return Outcome::Refused(Refusal::Pieces);
-    }
-    let lowest = room.lowest;
+    let head = chain::enter(pool, shape, s)?;
+    let Spot { link, into, .. } = chain::find(pool, shape, head, off)?;
+    let part = chain::part_of(pool, shape, link, into as u64 + n as u64)?;
+    let t: SlipNumber = room::lowest(pool, shape).ok_or(Refusal::Slips)?;
+    let pieces = overlapped(n, part);
+    let lowest = room::room_for(pool, shape, pieces as usize).ok_or(Refusal::Pieces)?;
     let first = build::copy_pieces(pool, shape, link, into, n, pieces, lowest, 0);
-    build::under_new(pool, shape, t, first)
+    Ok(build::under_new(pool, shape, t, first))
 }

@@ -7,8 +7,8 @@ use Rattle.rules.specs.Chain.{walk, stretches, total}
 use Rattle.rules.specs.Morning.{p, state}
 use Rattle.page.specs.Page.{ascii}
 use Rattle.page.specs.Digits.{digits_in}
-use Rattle.draw_chain.specs.Text.{rest_text, chain_text}
-use Rattle.draw_slips.specs.Text.{up_to, most_to, state_text}
+use Rattle.draw_chain.specs.Text.{piece_text, joined_text, rest_text, chain_text}
+use Rattle.draw_slips.specs.Text.{up_to, most_to, state_text, slip_text}
 use Rattle.draw.specs.Text.{tables_text}
 
 -- two chains share piece 1, three pieces lie on buffer 0, and two slips were given before
@@ -23,5 +23,5 @@ pub drawn : tables_text row3 ≡
     ++ ascii "  slip 3.1  vacant\n"
     ++ ascii "  buffers  b0 x3  b1 x2  b2 free  b3 free\n"
     ++ ascii "  pieces   5 in use, 1 free\n"
-unfolding whether◌then◌else◌ places walk stretches total digits_in up_to most_to rest_text chain_text state_text tables_text
+unfolding whether◌then◌else◌ places walk stretches total digits_in up_to most_to piece_text joined_text rest_text chain_text state_text slip_text tables_text
 drawn = refl

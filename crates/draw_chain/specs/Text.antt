@@ -9,11 +9,11 @@ use Rattle.page.specs.Digits.{tagged}
 abbrev pub times_text : ℕ → List ℕ
 times_text n = whether leb n 1 then [] else tagged "x" n
 
-abbrev pub piece_text : ℕ → Piece → List ℕ
+unfoldable pub piece_text : ℕ → Piece → List ℕ
 piece_text d x = tagged "p" d ++ tagged "[b" x.buffer ++ tagged " " x.offset ++ tagged "+" x.len ++ ascii "]" ++ times_text x.count
 
 -- a piece behind another, and all that follow the first
-abbrev pub joined_text : ℕ → Piece → List ℕ
+unfoldable pub joined_text : ℕ → Piece → List ℕ
 joined_text d x = ascii " > " ++ piece_text d x
 
 unfoldable pub rest_text : Tables → List ℕ → List ℕ

@@ -35,7 +35,7 @@ state_text T w s =
     then (length_text w 0 ++ ascii "empty")
     else (length_text w (length_of T s) ++ chain_text T (chain T s))
 
-abbrev pub slip_text : Tables → ℕ → ℕ → List ℕ
+unfoldable pub slip_text : Tables → ℕ → ℕ → List ℕ
 slip_text T w s = tagged "  slip " s ++ serial_text (serial T s) ++ state_text T w s ++ ascii "\n"
 
 -- the digits of the longest length

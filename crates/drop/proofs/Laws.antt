@@ -6,10 +6,10 @@ use Prim.Native.Nat.{ℕ, ◌+◌, ◌≤◌, ◌<◌}
 use native.Mathlib.Omega.{arith}
 use lib.ListN.{length}
 use lib.Dec.{eqb, eqb→eq, ltb}
+use Rattle.std.specs.Prelude.{Ok, Err}
 use Rattle.kinds.specs.declared.SlipState.{SlipState}
+use Rattle.kinds.specs.declared.Step.{Step}
 use Rattle.kinds.specs.declared.Refusal.TheVariants.{Slip, Range, Pieces}
-use Rattle.kinds.specs.declared.Outcome.{Outcome}
-use Rattle.kinds.specs.declared.Outcome.TheVariants.{Done, Refused}
 use Rattle.rules.specs.Basics.{Is}
 use Rattle.rules.specs.Tables.{Tables}
 use Rattle.rules.specs.Bytes.{decode}
@@ -60,13 +60,13 @@ module _ (p st : List ℕ) (x : Name) (n : ℕ) where
   s = x.slip
 
   -- a slip past the last, or vacant, or of another serial
-  pub drop_slip : Is (unnamed (decode p) x) → result_of (Refused Slip) p st [] no_view ≡ perform (Drop x n) (lent p st)
+  pub drop_slip : Is (unnamed (decode p) x) → result_of (Err Slip) p st [] no_view ≡ perform (Drop x n) (lent p st)
   unfolding rule
   drop_slip u = perform_first (Drop x n) (lent p st) Slip (first_yes (Slip ⇐ unnamed (decode p) x) _ u)
 
   module _ (u : Is (unnamed (decode p) x) → ⊥) where
     -- more bytes than the chain has
-    pub drop_range : Is (ltb (length_of (decode p) s) n) → result_of (Refused Range) p st [] no_view ≡ perform (Drop x n) (lent p st)
+    pub drop_range : Is (ltb (length_of (decode p) s) n) → result_of (Err Range) p st [] no_view ≡ perform (Drop x n) (lent p st)
     unfolding rule
     drop_range t = perform_first (Drop x n) (lent p st) Range (first_no (Slip ⇐ unnamed (decode p) x) _ u ∙ first_yes (Range ⇐ ltb (length_of (decode p) s) n) _ t)
 
@@ -77,36 +77,36 @@ module _ (p st : List ℕ) (x : Name) (n : ℕ) where
       early = first_no (Slip ⇐ unnamed (decode p) x) _ u ∙ first_no (Range ⇐ ltb (length_of (decode p) s) n) _ enough ∙ first_none
 
       -- no piece for what stays, with those given back
-      pub drop_pieces_lem : length (drop_back (decode p) s n) + length (free_pieces (decode p)) < length (dropped (decode p) s n).more → result_of (Refused Pieces) p st [] no_view ≡ perform (Drop x n) (lent p st)
+      pub drop_pieces_lem : length (drop_back (decode p) s n) + length (free_pieces (decode p)) < length (dropped (decode p) s n).more → result_of (Err Pieces) p st [] no_view ≡ perform (Drop x n) (lent p st)
       unfolding rule
       drop_pieces_lem l = perform_pieces (Drop x n) (lent p st) early (omega arith) l
 
       -- no byte goes: nothing changes
-      pub drop_nothing : {o : Outcome} {v : SlipState} {h : Shape} → n ≡ 0 → o ≡ Done (record { state = v; number = 0 }) → AllBytes p → Shaped p h
-          → result_of o p st [] no_view ≡ perform (Drop x n) (lent p st)
+      pub drop_nothing : {o : Step} {v : SlipState} {h : Shape} → n ≡ 0 → o ≡ record { state = v; number = 0 } → AllBytes p → Shaped p h
+          → result_of (Ok o) p st [] no_view ≡ perform (Drop x n) (lent p st)
       unfolding rule drop_after
       drop_nothing z a b is =
           let T = decode p in
           let S = state_in (lent p st) in
           let e : drop_after s n S ≡ S = if_T (eqb n 0) _ _ (eq→eqb n 0 z) in
-          changed _ (giving (drop_back T s n) (length (dropped T s n).more) 0) 0 (drop_after s n S) a refl b
+          changed _ (giving (drop_back T s n) (length (dropped T s n).more) 0) 0 (drop_after s n S) (ap Ok a) refl b
           (record { shaped = is; is = sym (ap (λ (X : State). X.tables) e) }) (sym (ap (λ (X : State). X.storage) e))
           ∙ perform_all (Drop x n) (lent p st) early (omega arith) (omega (arith, ap length (drop_none T true (chain T s) n z))) (omega arith)
 
       -- what stays is under the slip
-      pub drop_done : {o : Outcome} {v : SlipState} {q sq : List ℕ} {h : Shape} → (n ≡ 0 → ⊥)
+      pub drop_done : {o : Step} {v : SlipState} {q sq : List ℕ} {h : Shape} → (n ≡ 0 → ⊥)
           → length (dropped (decode p) s n).more ≤ length (drop_back (decode p) s n) + length (free_pieces (decode p))
-          → o ≡ Done (record { state = v; number = 0 }) → AllBytes q
+          → o ≡ record { state = v; number = 0 } → AllBytes q
           → Holds q h (under_freed (state_in (lent p st)) (dropped (decode p) s n) s).tables
           → sq ≡ (under_freed (state_in (lent p st)) (dropped (decode p) s n) s).storage
-          → result_of o q sq [] no_view ≡ perform (Drop x n) (lent p st)
+          → result_of (Ok o) q sq [] no_view ≡ perform (Drop x n) (lent p st)
       unfolding rule drop_after
       drop_done i l a b now cleans =
           let T = decode p in
           let S = state_in (lent p st) in
           let r = under_freed S (dropped T s n) s in
           let e : drop_after s n S ≡ r = if_F (eqb n 0) _ _ (λ t. i (eqb→eq n 0 t)) in
-          changed _ (giving (drop_back T s n) (length (dropped T s n).more) 0) 0 (drop_after s n S) a refl b
+          changed _ (giving (drop_back T s n) (length (dropped T s n).more) 0) 0 (drop_after s n S) (ap Ok a) refl b
           (record { shaped = now.shaped; is = now.is ∙ sym (ap (λ (X : State). X.tables) e) })
           (cleans ∙ sym (ap (λ (X : State). X.storage) e))
           ∙ perform_all (Drop x n) (lent p st) early (omega arith) l (omega arith)

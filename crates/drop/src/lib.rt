@@ -12,47 +12,29 @@ ghost use Rattle.tables.specs.Shape.{Backs};
 ghost use Rattle.chain.specs.Opened.{Opened};
 ghost use Rattle.answer.specs.Result.{result_of, Leaves};
 
-use kinds::{Outcome, Refusal, Serial, SlipNumber};
+use kinds::{Outcome, Refusal, SlipName};
 use layout::Shape;
 
 // Takes the first `n` bytes from the chain of slip `s`: a chain trimmed at its front.
-pub fn drop_first(
-    pool: &mut [u8],
-    shape: Shape,
-    storage: &mut [u8],
-    s: SlipNumber,
-    serial: Serial,
-    n: u32,
-) -> Outcome
+pub fn drop_first(pool: &mut [u8], shape: Shape, storage: &mut [u8], s: SlipName, n: u32) -> Outcome
     requires { Opened pool.old shape × Backs storage.old shape }
     ensures no_view_after { result_of result pool.new storage.new [] no_view
-        ≡ perform (Drop (name s.0 serial.0) n) (lent pool.old storage.old) }
-    ensures leaves { Leaves result (state_of (slip (decode pool.new) s.0)) }
+        ≡ perform (Drop (name s.slip.0 s.serial.0) n) (lent pool.old storage.old) }
+    ensures leaves { Leaves result (state_of (slip (decode pool.new) s.slip.0)) }
 {
-    let entry = chain::enter(pool, shape, s, serial);
-    if !kinds::state_of(entry).held() {
-        return Outcome::Refused(Refusal::Slip);
-    }
-    let head = entry - 1;
-    let at = chain::find(pool, shape, head, n);
-    if chain::past_end(at) {
-        return Outcome::Refused(Refusal::Range);
-    }
+    let head = chain::enter(pool, shape, s)?;
+    let at = chain::find(pool, shape, head, n)?;
     if n == 0 {
-        return answer::done(pool, shape, s, 0);
+        return Ok(answer::done(pool, shape, s.slip, 0));
     }
-    let wanted = rest::wanted(at.link, at.into, at.own);
+    let wanted = rest::wanted(at);
     if wanted == 0 {
-        rest::move_to(pool, shape, storage, s, at.link, at.into, at.own);
-        return answer::done(pool, shape, s, 0);
+        rest::move_to(pool, shape, storage, s.slip, at);
+        return Ok(answer::done(pool, shape, s.slip, 0));
     }
-    let room = front::room_in_front(pool, shape, head, wanted);
-    if !room.enough {
-        return Outcome::Refused(Refusal::Pieces);
-    }
-    let from = room.from;
-    let tail = rest::give_back(pool, shape, storage, s, at.link, at.into, at.own);
-    let link = rest::make(pool, shape, tail, from);
-    tables::set_slip(pool, shape, s, link + 1);
-    answer::done(pool, shape, s, 0)
+    let room = front::room_in_front(pool, shape, head, wanted).ok_or(Refusal::Pieces)?;
+    let tail = rest::give_back(pool, shape, storage, s.slip, at);
+    let link = rest::make(pool, shape, tail, room.from);
+    tables::set_slip(pool, shape, s.slip, link + 1);
+    Ok(answer::done(pool, shape, s.slip, 0))
 }

@@ -6,19 +6,16 @@ use Prim.Native.Nat.{ℕ, zero, suc, ◌+◌, ◌-◌, ◌≤◌, ◌<◌}
 use native.Mathlib.Numerals.{add-one}
 use native.Mathlib.Omega.{arith}
 use lib.ListN.{length}
-use Rattle.kinds.specs.declared.PieceNumber.{PieceNumber}
+use Rattle.std.specs.Prelude.{Ok, Err}
 use Rattle.kinds.specs.declared.SlipState.{SlipState}
-use Rattle.kinds.specs.declared.SlipState.TheVariants.{Heads}
+use Rattle.kinds.specs.declared.Step.{Step}
 use Rattle.kinds.specs.declared.Refusal.TheVariants.{Slip, Slips, Pieces}
-use Rattle.kinds.specs.declared.Outcome.{Outcome}
-use Rattle.kinds.specs.declared.Outcome.TheVariants.{Done, Refused}
-use Rattle.kinds.specs.SlipState.{state_of}
 use Rattle.rules.specs.Basics.{Is}
-use Rattle.rules.specs.Tables.{Tables, piece, head_of, name_of, holding, set_slip}
+use Rattle.rules.specs.Tables.{Tables, piece, piece_total, head_of, name_of, holding, set_slip}
 use Rattle.rules.specs.Bytes.{decode}
 use Rattle.rules.specs.Chain.{stretch}
 use Rattle.rules.specs.Sound.{lent}
-use Rattle.rules.specs.Room.{ready_slips, free_pieces, new_slip}
+use Rattle.rules.specs.Room.{is_free, ready_slips, free_pieces, new_slip}
 use Rattle.rules.specs.Release.{shared}
 use Rattle.rules.specs.Build.{fresh, taken, built, built_link, made, under_new}
 use Rattle.rules.specs.Rule.{◌⇐◌, first_code, Name, unnamed, want, no_view}
@@ -29,16 +26,14 @@ use Rattle.rules.proofs.Codes.{first_yes, first_no, first_none}
 use Rattle.rules.proofs.Bytes.{AllBytes}
 use Rattle.layout.specs.declared.Shape.{Shape}
 use Rattle.tables.specs.Shape.{Holds}
+use Rattle.room.specs.Free.{first_from}
+use Rattle.room.proofs.Free.{no_piece}
 use Rattle.answer.specs.Result.{result_of}
 use Rattle.answer.proofs.Perform.{perform_first, perform_slips, perform_pieces, perform_all, changed}
 
--- ---- the state
-
--- a held slip that no piece heads is empty: its entry is 1
-pub no_heads : (n : ℕ) {x : SlipState} → x ≡ state_of n → n ≢ 0 → ((p : PieceNumber) → x ≡ Heads p → ⊥) → n ≡ 1
-no_heads zero e h k = absurd (h refl)
-no_heads (suc zero) e h k = refl
-no_heads (suc (suc d)) e h k = absurd (k _ e)
+-- where the scan for a piece comes to the end, none is free
+pub lacking : (T : Tables) {f : ℕ} → f ≡ first_from (is_free T) 0 (piece_total T) → f ≡ piece_total T → length (free_pieces T) ≡ 0
+lacking T e z = ap length (no_piece T e z)
 
 -- ---- the plan
 
@@ -79,7 +74,7 @@ clone_under T (suc d) t f {fs} {l} z e =
 
 module _ (p st : List ℕ) (y : Name) where
   -- a slip past the last, or vacant, or with another serial
-  pub dup_slip : Is (unnamed (decode p) y) → result_of (Refused Slip) p st [] no_view ≡ perform (Dup y) (lent p st)
+  pub dup_slip : Is (unnamed (decode p) y) → result_of (Err Slip) p st [] no_view ≡ perform (Dup y) (lent p st)
   unfolding rule
   dup_slip u = perform_first (Dup y) (lent p st) Slip (first_yes (Slip ⇐ unnamed (decode p) y) [] u)
 
@@ -89,23 +84,23 @@ module _ (p st : List ℕ) (y : Name) where
     early = first_no (Slip ⇐ unnamed (decode p) y) [] u ∙ first_none
 
     -- no slip that may be given
-    pub dup_slips : length (ready_slips (decode p)) ≡ 0 → result_of (Refused Slips) p st [] no_view ≡ perform (Dup y) (lent p st)
+    pub dup_slips : length (ready_slips (decode p)) ≡ 0 → result_of (Err Slips) p st [] no_view ≡ perform (Dup y) (lent p st)
     unfolding rule
     dup_slips z = perform_slips (Dup y) (lent p st) early (omega (arith, z))
 
     module _ (some : 1 ≤ length (ready_slips (decode p))) where
       -- no free piece for a chain that needs one
-      pub dup_pieces : length (free_pieces (decode p)) < length (dup_plan (decode p) (head_of (decode p) y.slip)).more → result_of (Refused Pieces) p st [] no_view ≡ perform (Dup y) (lent p st)
+      pub dup_pieces : length (free_pieces (decode p)) < length (dup_plan (decode p) (head_of (decode p) y.slip)).more → result_of (Err Pieces) p st [] no_view ≡ perform (Dup y) (lent p st)
       unfolding rule
       dup_pieces l = perform_pieces (Dup y) (lent p st) early some (omega (arith, l))
 
       -- the plan under the new slip
-      pub dup_done : {o : Outcome} {x : SlipState} {q : List ℕ} {h : Shape} {t n : ℕ} → length (dup_plan (decode p) (head_of (decode p) y.slip)).more ≤ length (free_pieces (decode p))
-          → new_slip (decode p) ≡ t → o ≡ Done (record { state = x; number = n }) → n ≡ name_of (decode p) t → AllBytes q
-          → Holds q h (under_new (dup_plan (decode p) (head_of (decode p) y.slip)) (free_pieces (decode p)) t) → result_of o q st [] no_view ≡ perform (Dup y) (lent p st)
+      pub dup_done : {o : Step} {x : SlipState} {q : List ℕ} {h : Shape} {t n : ℕ} → length (dup_plan (decode p) (head_of (decode p) y.slip)).more ≤ length (free_pieces (decode p))
+          → new_slip (decode p) ≡ t → o ≡ record { state = x; number = n } → n ≡ name_of (decode p) t → AllBytes q
+          → Holds q h (under_new (dup_plan (decode p) (head_of (decode p) y.slip)) (free_pieces (decode p)) t) → result_of (Ok o) q st [] no_view ≡ perform (Dup y) (lent p st)
       unfolding rule dup_after
       dup_done {t = t} l e a m b is =
           let T = decode p in
-          changed _ (want 1 (length (dup_plan T (head_of T y.slip)).more) 0) (name_of T (new_slip T)) (dup_after y.slip (state_in (lent p st))) a (m ∙ ap (name_of T) (sym e)) b
+          changed _ (want 1 (length (dup_plan T (head_of T y.slip)).more) 0) (name_of T (new_slip T)) (dup_after y.slip (state_in (lent p st))) (ap Ok a) (m ∙ ap (name_of T) (sym e)) b
           (record { shaped = is.shaped; is = is.is ∙ ap (under_new (dup_plan T (head_of T y.slip)) (free_pieces T)) (sym e) }) refl
           ∙ perform_all (Dup y) (lent p st) early some (omega (arith, l)) (omega arith)

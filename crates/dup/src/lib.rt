@@ -13,30 +13,21 @@ ghost use Rattle.rules.specs.Step.{Dup, perform};
 ghost use Rattle.chain.specs.Opened.{Opened};
 ghost use Rattle.answer.specs.Result.{result_of, Leaves};
 
-use kinds::{Outcome, PieceNumber, Refusal, Serial, SlipNumber, SlipState};
+use kinds::{Outcome, PieceNumber, Refusal, SlipName, SlipNumber};
 use layout::Shape;
 
 // Gives a new slip the chain of slip `s`; an empty chain needs no piece: a handle duplicated.
-pub fn dup(pool: &mut [u8], shape: Shape, s: SlipNumber, serial: Serial) -> Outcome
+pub fn dup(pool: &mut [u8], shape: Shape, s: SlipName) -> Outcome
     requires { Opened pool.old shape }
-    ensures by_index { (st : List ℕ) → result_of result pool.new st [] no_view ≡ perform (Dup (name s.0 serial.0)) (lent pool.old st) }
+    ensures by_index { (st : List ℕ) → result_of result pool.new st [] no_view ≡ perform (Dup (name s.slip.0 s.serial.0)) (lent pool.old st) }
     ensures leaves { Leaves result (state_of (slip (decode pool.new) (slip_in (number_of result)))) }
 {
-    let state = kinds::state_of(chain::enter(pool, shape, s, serial));
-    if !state.held() {
-        return Outcome::Refused(Refusal::Slip);
+    let head = chain::enter(pool, shape, s)?;
+    let t: SlipNumber = room::lowest(pool, shape).ok_or(Refusal::Slips)?;
+    if head == 0 {
+        return Ok(build::under_new(pool, shape, t, 0));
     }
-    let t = room::next_ready(pool, shape, SlipNumber(0));
-    if t.0 == shape.slips {
-        return Outcome::Refused(Refusal::Slips);
-    }
-    let SlipState::Heads(head) = state else {
-        return build::under_new(pool, shape, t, 0);
-    };
-    let f = room::next_free_piece(pool, shape, PieceNumber(0));
-    if f.0 == shape.pieces {
-        return Outcome::Refused(Refusal::Pieces);
-    }
-    rest::clone_rest(pool, shape, head, 0, f);
-    build::under_new(pool, shape, t, f.0 + 1)
+    let f: PieceNumber = room::lowest(pool, shape).ok_or(Refusal::Pieces)?;
+    rest::clone_rest(pool, shape, PieceNumber(head - 1), 0, f);
+    Ok(build::under_new(pool, shape, t, f.0 + 1))
 }

@@ -7,8 +7,6 @@ ghost use Rattle.rules.specs.Sound.{lent};
 ghost use Rattle.rules.specs.Step.{Audit, Do, step};
 ghost use Rattle.audit.specs.Follows.{audit_follows};
 
-use kinds::Refusal;
-
 // An audit's code, and how often it followed next: also where the pool is torn.
 #[repr(C)]
 #[derive(Clone, Copy)]
@@ -23,13 +21,13 @@ pub extern "C" fn slp_test_follows(pool: &[u8], storage: &[u8]) -> Counted
     ensures { (result.code ≡ (step (Do Audit) (lent pool.now storage.now)).code)
         × (result.follows ≡ audit_follows (lent pool.now storage.now)) × (result.follows ≤ pieces_in pool.now) }
 {
-    let audited = audit::audit(pool, storage.len());
-    let follows = audited.follows as u32;
-    if audited.sound {
-        return Counted { code: 0, follows };
-    }
+    let audited = audit::counted(pool, storage.len());
+    let code = match audited.shape {
+        Ok(_) => 0,
+        Err(why) => why.into(),
+    };
     Counted {
-        code: kinds::refusal_code(Refusal::Torn),
-        follows,
+        code,
+        follows: audited.follows as u32,
     }
 }

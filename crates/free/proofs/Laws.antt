@@ -2,10 +2,10 @@
 use mathlib.Core.Path.{◌≡◌, refl, sym, ap, ◌∙◌}
 use mathlib.Core.List.{List, []}
 use Prim.Native.Nat.{ℕ}
+use Rattle.std.specs.Prelude.{Ok, Err}
 use Rattle.kinds.specs.declared.SlipState.{SlipState}
 use Rattle.kinds.specs.declared.Refusal.TheVariants.{Slip}
-use Rattle.kinds.specs.declared.Outcome.{Outcome}
-use Rattle.kinds.specs.declared.Outcome.TheVariants.{Done, Refused}
+use Rattle.kinds.specs.Outcome.{Outcome}
 use Rattle.rules.specs.Basics.{Is}
 use Rattle.rules.specs.Tables.{Tables, vacant, aged}
 use Rattle.rules.specs.Bytes.{decode}
@@ -24,13 +24,13 @@ use Rattle.release.proofs.Laws.{turned_tables}
 
 module _ (p st : List ℕ) (x : Name) where
   -- a slip past the last, or vacant, or with another serial
-  pub free_slip : Is (unnamed (decode p) x) → result_of (Refused Slip) p st [] no_view ≡ perform (Free x) (lent p st)
+  pub free_slip : Is (unnamed (decode p) x) → result_of (Err Slip) p st [] no_view ≡ perform (Free x) (lent p st)
   unfolding rule
   free_slip u = perform_first (Free x) (lent p st) Slip (first_yes (Slip ⇐ unnamed (decode p) x) [] u)
 
   -- the slip is turned to vacant, and its serial goes up
   pub free_done : {o : Outcome} {y : SlipState} {q sq : List ℕ} {h : Shape} → (Is (unnamed (decode p) x) → ⊥)
-      → o ≡ Done (record { state = y; number = 0 }) → AllBytes q
+      → o ≡ Ok (record { state = y; number = 0 }) → AllBytes q
       → Holds q h (aged (turned_to (decode p) x.slip vacant) x.slip) → sq ≡ turned_storage (decode p) st x.slip vacant
       → result_of o q sq [] no_view ≡ perform (Free x) (lent p st)
   unfolding rule turned_storage

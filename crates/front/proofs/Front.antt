@@ -4,11 +4,11 @@ use mathlib.Core.Logic.{⊎_elim}
 use mathlib.Core.Bool.{Bool, true, false}
 use mathlib.Core.List.{List, [], ◌∷◌}
 use Prim.Native.Nat.{ℕ, zero, suc, ◌+◌, ◌-◌, ◌≤◌, ◌<◌}
-use native.Mathlib.Decide.{ℕ_discrete, dec_lt}
+use native.Mathlib.Decide.{ℕ_discrete}
 use native.Mathlib.Omega.{arith}
 use lib.ListN.{length}
-use lib.Dec.{eqb, eqb→eq, leb, ltb}
-use borrow.Author.Tests.{lt-ltb, le-ltb, le-leb, lt-leb}
+use lib.Dec.{eqb, eqb→eq, leb}
+use borrow.Author.Tests.{le-leb, lt-leb}
 use Rattle.rules.specs.Basics.{Is, whether◌then◌else◌, places, member}
 use Rattle.rules.specs.Tables.{Tables, piece, piece_total}
 use Rattle.rules.specs.Chain.{own_pieces}
@@ -16,11 +16,13 @@ use Rattle.rules.specs.Sound.{link_ok, SoundTables}
 use Rattle.rules.specs.Room.{is_free, is_free_with, free_pieces}
 use Rattle.rules.proofs.Logic.{if_either, or_cases}
 use Rattle.room.specs.Free.{first_or, first_from, lowest_for, RoomFor}
-use Rattle.room.proofs.Free.{first_lies, piece_first, no_piece}
+use Rattle.room.proofs.Free.{piece_first, no_piece}
 use Rattle.own.specs.Own.{single}
 use Rattle.own.proofs.Own.{none_own, single_link}
 use Rattle.chain.proofs.Links.{link_leads, walk_less, walk_most}
-use Rattle.front.specs.Front.{RoomWith, RoomInFront}
+use Rattle.std.specs.Prelude.{Option, min}
+use Rattle.front.specs.declared.FrontRoom.{FrontRoom}
+use Rattle.front.specs.Front.{RoomWith, RoomInFront, RoomBeside, RoomThere}
 
 -- ---- below the lowest
 
@@ -66,20 +68,22 @@ with_one T d x e h t =
     ⊎_elim (λ m. ⊎_elim (λ q. sym (eqb→eq d x q)) (λ q. absurd q) (or_cases (eqb d x) false m))
     (λ q. absurd (none_under (is_free T) (piece_total T) x (omega (arith, e)) q)) (or_cases (member x (d ∷ [])) (is_free T x) t)
 
--- piece d is given back, and two are wanted: another has to be free
-pub given_one : (T : Tables) (d : ℕ) {from beyond r p : ℕ} → piece_total T ≡ p → r ≡ first_from (is_free T) 0 (piece_total T) → from ≤ r → from ≤ d
-    → beyond ≤ r → (from < beyond → d ≤ from) → RoomWith T (d ∷ []) 2 from beyond (ltb r p)
-given_one T d {from} {beyond} {r} {p} total e below_free below-d up_to_lem apart =
-    record {
-      there = elim (dec_lt r p) [
-        | yes h ↦ lt-ltb r p h ∙ sym (le-leb 2 (1 + length (free_pieces T)) (omega (arith, ap length (piece_first T e (omega arith)))))
-        | no h ↦ (
-            let all : r ≡ piece_total T = omega (arith, e, (first_lies (is_free T) 0 (piece_total T)).0) in
-            le-ltb r p (omega arith) ∙ sym (lt-leb 2 (1 + length (free_pieces T)) (omega (arith, ap length (no_piece T e all)))))
-      ];
-      none_below = λ x h t. omega (arith, with_one T d x e (omega arith) t);
-      none_between = λ x l m t. omega (arith, with_one T d x e (omega arith) t, apart (omega arith));
-    }
+-- piece d is given back, and two are wanted: r is the lowest of the others
+module _ (T : Tables) (d : ℕ) {r : ℕ} (e : r ≡ first_from (is_free T) 0 (piece_total T)) where
+  pub given_one : r < piece_total T → RoomWith T (d ∷ []) 2 (min r d) r true
+  given_one h = record {
+    there = sym (le-leb 2 (1 + length (free_pieces T)) (omega (arith, ap length (piece_first T e h))));
+    none_below = λ x l t. omega (arith, with_one T d x e (omega arith) t);
+    none_between = λ x l m t. omega (arith, with_one T d x e m t);
+  }
+
+  -- none is free
+  pub given_alone : r ≡ piece_total T → RoomWith T (d ∷ []) 2 0 0 false
+  given_alone z = record {
+    there = sym (lt-leb 2 (1 + length (free_pieces T)) (omega (arith, ap length (no_piece T e z))));
+    none_below = λ x l t. omega arith;
+    none_between = λ x l m t. omega arith;
+  }
 
 -- ---- the own pieces in front
 
@@ -122,5 +126,5 @@ module _ (T : Tables) (n : ℕ) (S : SoundTables T) (t : Is (link_ok T n)) (one 
         given_enough T (own_pieces P T n) wanted (omega (arith, ap length after, ap length (own_first (P - 1) m T two e)))
 
     -- it is not: the head's piece alone is given back
-    pub front_alone : (wanted : ℕ) {from beyond : ℕ} {b : Bool} → wanted ≡ 2 → single T m ≡ false → RoomWith T ((n - 1) ∷ []) 2 from beyond b → RoomInFront T n wanted from beyond b
-    front_alone wanted h e is = rw (h, after, none_own (piece_total T - 1) m T e) is
+    pub front_alone : (wanted : ℕ) (o : Option FrontRoom) → wanted ≡ 2 → single T m ≡ false → RoomThere (RoomBeside T (n - 1)) o → RoomThere (RoomInFront T n wanted) o
+    front_alone wanted o h e is = rw (h, after, none_own (piece_total T - 1) m T e) is

@@ -1,9 +1,10 @@
 -- Room for pieces, where own pieces are given back first.
-use Rattle.std.specs.Prelude.{◌≡◌, Bool, List, [], ◌∷◌, ℕ, ◌+◌, ◌<◌, length, leb}
+use Rattle.std.specs.Prelude.{◌≡◌, Bool, true, false, List, [], ◌∷◌, Option, MatchOption, ℕ, ◌+◌, ◌<◌, length, leb}
 use Rattle.rules.specs.Basics.{Is}
 use Rattle.rules.specs.Tables.{Tables, piece_total}
 use Rattle.rules.specs.Chain.{own_pieces}
 use Rattle.rules.specs.Room.{is_free_with, free_pieces}
+use Rattle.front.specs.declared.FrontRoom.{FrontRoom}
 
 -- `enough` says whether `wanted` pieces are there with the pieces ds, and below `from`, and between it and `beyond`, none is one of ds or free
 pub record RoomWith (T : Tables) (ds : List ℕ) (wanted from beyond : ℕ) (enough : Bool) : Type 0 where
@@ -18,3 +19,7 @@ RoomInFront T n wanted from beyond enough = RoomWith T (own_pieces (piece_total 
 -- of piece d, where two are wanted
 abbrev pub RoomBeside : Tables → ℕ → ℕ → ℕ → Bool → Type 0
 RoomBeside T d from beyond enough = RoomWith T (d ∷ []) 2 from beyond enough
+
+-- o says from where and beyond what there is room R, where it is enough, and is nothing where it is not
+abbrev pub RoomThere : (ℕ → ℕ → Bool → Type 0) → Option FrontRoom → Type 0
+RoomThere R o = MatchOption o ((from beyond : ℕ) × R from beyond false) (λ r. R r.from.0 r.beyond.0 true)

@@ -7,63 +7,48 @@ ghost use Rattle.rules.specs.Bytes.{decode};
 ghost use Rattle.rules.specs.Sound.{link_ok};
 ghost use Rattle.tables.specs.Shape.{Shaped};
 ghost use Rattle.chain.specs.Opened.{Opened};
-ghost use Rattle.front.specs.Front.{RoomBeside, RoomInFront};
+ghost use Rattle.front.specs.Front.{RoomBeside, RoomInFront, RoomThere};
 
 use kinds::PieceNumber;
 use layout::Shape;
 
-// Once the front is given back, none is free below `from` or between it and `beyond`, and as many as wanted are there or not: what a free-list probe finds.
+// Once the front is given back, none is free below `from` or between it and `beyond`: where a free-list probe starts, and where it goes on.
 #[derive(Clone, Copy)]
 pub struct FrontRoom {
     pub from: PieceNumber,
     pub beyond: PieceNumber,
-    pub enough: bool,
 }
 
-// Whether a piece is free beside `d`, which is given back: a room test for two.
-fn beside(pool: &[u8], shape: Shape, d: PieceNumber) -> FrontRoom
+// Where two pieces are there with `d`, which is given back, or nothing: a room test for two.
+fn beside(pool: &[u8], shape: Shape, d: PieceNumber) -> Option<FrontRoom>
     requires { Shaped pool.now shape }
-    ensures { RoomBeside (decode pool.now) d.0 result.from.0 result.beyond.0 result.enough }
+    ensures { RoomThere (RoomBeside (decode pool.now) d.0) result }
 {
-    let free = room::next_free_piece(pool, shape, PieceNumber(0));
-    let enough = free.0 < shape.pieces;
-    if free.0 < d.0 {
-        return FrontRoom {
-            from: free,
-            beyond: free,
-            enough: enough,
-        };
-    }
-    FrontRoom {
-        from: d,
+    let free: PieceNumber = room::lowest(pool, shape)?;
+    Some(FrontRoom {
+        from: PieceNumber(free.0.min(d.0)),
         beyond: free,
-        enough: enough,
-    }
+    })
 }
 
-// Whether `wanted` pieces, 2 at most, are there once the own pieces from `head` on are given back: a room test that counts what the call frees.
-pub fn room_in_front(pool: &[u8], shape: Shape, head: u16, wanted: u16) -> FrontRoom
+// Where `wanted` pieces, 2 at most, are there once the own ones from `head` on are given back, or nothing: a room test that counts what the call frees.
+pub fn room_in_front(pool: &[u8], shape: Shape, head: u16, wanted: u16) -> Option<FrontRoom>
     requires { Opened pool.now shape × Is (link_ok (decode pool.now) head) × (wanted ≤ 2) }
-    ensures { RoomInFront (decode pool.now) head wanted result.from.0 result.beyond.0 result.enough }
+    ensures { RoomThere (RoomInFront (decode pool.now) head wanted) result }
 {
     if !own::single(pool, shape, head) {
-        let room = room::piece_room(pool, shape, wanted as usize);
-        let lowest = room.lowest;
-        return FrontRoom {
+        let lowest = room::room_for(pool, shape, wanted as usize)?;
+        return Some(FrontRoom {
             from: lowest,
             beyond: lowest,
-            enough: room.enough,
-        };
+        });
     }
     let first = PieceNumber(head - 1);
-    if wanted == 2 {
-        if !own::single(pool, shape, tables::piece_next(pool, shape, first)) {
-            return beside(pool, shape, first);
-        }
+    if wanted == 2 && !own::single(pool, shape, tables::piece_next(pool, shape, first)) {
+        return beside(pool, shape, first);
     }
-    FrontRoom {
+    Some(FrontRoom {
         from: PieceNumber(0),
         beyond: PieceNumber(0),
-        enough: true,
-    }
+    })
 }

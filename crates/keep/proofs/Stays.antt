@@ -7,15 +7,11 @@ use native.Mathlib.Omega.{arith}
 use lib.ListN.{length, take, drop}
 use Rattle.rules.specs.Basics.{last_of}
 use Rattle.rules.specs.Tables.{Tables, piece, set_piece, with_place}
-use Rattle.rules.specs.Bytes.{decode}
 use Rattle.rules.specs.Chain.{Stretch, stretch, stretches, total, cut_out}
 use Rattle.rules.specs.Keep.{shortened}
 use Rattle.rules.proofs.Build.{Good}
 use Rattle.rules.proofs.Contents.{total_cut_out}
 use Rattle.rules.proofs.Keep.{cut_cons, cut_some}
-use Rattle.layout.specs.declared.Shape.{Shape}
-use Rattle.tables.specs.Shape.{Shaped, Holds}
-use Rattle.tables.proofs.Laws.{whole}
 use Rattle.own.specs.Own.{last_link}
 use Rattle.keep.specs.Shorten.{shortened_by}
 
@@ -102,25 +98,3 @@ own_reach T Z B (d ∷ ds) (x ∷ xs) ys n g e c l t =
     let k = last_stays T Z B d ds x xs ys n g e c (omega arith) t in
     let q : suc (last_of d ds) - 1 ≡ last_of d ds = omega arith in
     (k.2, λ _. omega (arith, k.1, ap (λ (i : ℕ). (piece T i).len) q))
-
--- ---- a piece that ends earlier
-
--- nothing changes where the link leads nowhere
-pub short_none : {p : List ℕ} {h : Shape} (last n : ℕ) → Shaped p h → last ≡ 0 → Holds p h (shortened_by (decode p) last n)
-short_none zero n is z = whole is
-short_none (suc l) n is z = absurd (omega arith)
-
--- the piece that it leads to is shortened at its end
-pub short_some : {q : List ℕ} {h : Shape} (T : Tables) (last n : ℕ) → (last ≡ 0 → ⊥)
-    → Holds q h (set_piece T (last - 1) (with_place (piece T (last - 1)) ((piece T (last - 1)).offset + 0) ((piece T (last - 1)).len - 0 - n)))
-    → Holds q h (shortened_by T last n)
-short_some T zero n z is = absurd (z refl)
-short_some T (suc l) n z is =
-    let e : suc l - 1 ≡ l = omega arith in
-    let o : (piece T l).offset + 0 ≡ (piece T l).offset = omega arith in
-    let m : (piece T l).len - 0 - n ≡ (piece T l).len - n = omega arith in
-    record {
-      shaped = is.shaped;
-      is = is.is ∙ ap (λ (x : ℕ). set_piece T x (with_place (piece T x) ((piece T x).offset + 0) ((piece T x).len - 0 - n))) e
-          ∙ (λ i. set_piece T l (with_place (piece T l) (o i) (m i)));
-    }

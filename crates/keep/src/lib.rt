@@ -13,7 +13,7 @@ ghost use Rattle.chain.specs.Opened.{Opened};
 ghost use Rattle.answer.specs.Result.{result_of, Leaves};
 ghost use Rattle.keep.specs.Shorten.{shortened_by};
 
-use kinds::{Outcome, PieceNumber, Refusal, Serial, SlipNumber};
+use kinds::{Outcome, PieceNumber, Refusal, SlipName};
 use layout::Shape;
 
 // The piece that `last` leads to loses its last `over` bytes, and nothing changes where `last` is 0: a data window shortened in place.
@@ -29,45 +29,27 @@ fn trim_end(pool: &mut [u8], shape: Shape, last: u16, over: u32)
 }
 
 // Keeps the first `n` bytes of the chain of slip `s`, in its own pieces and in new ones for those that others hold: a chain trimmed at its end.
-pub fn keep(
-    pool: &mut [u8],
-    shape: Shape,
-    storage: &mut [u8],
-    s: SlipNumber,
-    serial: Serial,
-    n: u32,
-) -> Outcome
+pub fn keep(pool: &mut [u8], shape: Shape, storage: &mut [u8], s: SlipName, n: u32) -> Outcome
     requires { Opened pool.old shape × Backs storage.old shape }
     ensures no_view_after { result_of result pool.new storage.new [] no_view
-        ≡ perform (Keep (name s.0 serial.0) n) (lent pool.old storage.old) }
-    ensures leaves { Leaves result (state_of (slip (decode pool.new) s.0)) }
+        ≡ perform (Keep (name s.slip.0 s.serial.0) n) (lent pool.old storage.old) }
+    ensures leaves { Leaves result (state_of (slip (decode pool.new) s.slip.0)) }
 {
-    let entry = chain::enter(pool, shape, s, serial);
-    if entry == 0 {
-        return Outcome::Refused(Refusal::Slip);
-    }
-    let head = entry - 1;
-    let end = chain::find(pool, shape, head, n);
-    if chain::past_end(end) {
-        return Outcome::Refused(Refusal::Range);
-    }
+    let head = chain::enter(pool, shape, s)?;
+    let end = chain::find(pool, shape, head, n)?;
     if end.link == 0 {
-        return answer::done(pool, shape, s, 0);
+        return Ok(answer::done(pool, shape, s.slip, 0));
     }
     let own = own::own_part(pool, shape, head, n);
     if n <= own.bytes {
         trim_end(pool, shape, own.last, own.bytes - n);
-        release::hang(pool, shape, storage, s, own.last, 0);
-        return answer::done(pool, shape, s, 0);
+        release::hang(pool, shape, storage, s.slip, own.last, 0);
+        return Ok(answer::done(pool, shape, s.slip, 0));
     }
     let left = n - own.bytes;
-    let others = chain::part_of(pool, shape, own.next, left as u64).pieces;
-    let room = room::piece_room(pool, shape, others as usize);
-    if !room.enough {
-        return Outcome::Refused(Refusal::Pieces);
-    }
-    let lowest = room.lowest;
+    let others = chain::part_of(pool, shape, own.next, left as u64).unwrap();
+    let lowest = room::room_for(pool, shape, others as usize).ok_or(Refusal::Pieces)?;
     let first = build::copy_pieces(pool, shape, own.next, 0, left, others, lowest, 0);
-    release::hang(pool, shape, storage, s, own.last, first);
-    answer::done(pool, shape, s, 0)
+    release::hang(pool, shape, storage, s.slip, own.last, first);
+    Ok(answer::done(pool, shape, s.slip, 0))
 }

@@ -1,27 +1,34 @@
 // The numbers of slips, pieces and buffers, a slip's state, the refusals and the answers.
 #![tactic(auto)]
 
-ghost use Rattle.std.specs.Prelude.{◌≡◌, ◌+◌, ◌*◌, min, ltb, leb, eqb};
+ghost use Rattle.std.specs.Prelude.{◌≡◌, ◌+◌, ◌*◌, ℕ, ltb, leb, eqb};
 ghost use Rattle.kinds.specs.Limits.{most_buffers, most_pieces, most_slips, buffer_size, counted};
 ghost use Rattle.kinds.specs.Serial.{last_serial, older, name_with};
 ghost use Rattle.kinds.specs.SlipState.{state_of, is_held};
 ghost use Rattle.kinds.specs.Refusal.{refusal_code};
-ghost use Rattle.kinds.specs.Outcome.{answer_of};
+ghost use Rattle.kinds.specs.Outcome.{answer_of, answer_of_unit};
 
 // The number of a slip: a handle that a caller holds.
-#[derive(Clone, Copy)]
+#[derive(Clone, Copy, Default, PartialEq, Eq)]
 pub struct SlipNumber(pub u16);
 
 // The serial of a slip, which a caller gives beside its number: a handle's generation.
-#[derive(Clone, Copy)]
+#[derive(Clone, Copy, Default, PartialEq, Eq)]
 pub struct Serial(pub u16);
 
+// A slip as a caller names it, by its number and its serial: a handle with its generation.
+#[derive(Clone, Copy, PartialEq, Eq)]
+pub struct SlipName {
+    pub slip: SlipNumber,
+    pub serial: Serial,
+}
+
 // The number of a piece: a segment descriptor, as an mbuf or an accessor.
-#[derive(Clone, Copy)]
+#[derive(Clone, Copy, Default, PartialEq, Eq)]
 pub struct PieceNumber(pub u16);
 
 // The number of a buffer: a 512-byte fixed-size cluster with a reference count.
-#[derive(Clone, Copy)]
+#[derive(Clone, Copy, Default, PartialEq, Eq)]
 pub struct BufferNumber(pub u16);
 
 // What a slip holds: nothing, an empty chain, or the chain that a piece heads (a tagged handle entry).
@@ -32,10 +39,10 @@ pub enum SlipState {
     Heads(PieceNumber),
 }
 
-// Why a call is refused: the error kinds, in the order of their codes.
-#[derive(Clone, Copy)]
+// Why a call is refused: the error kinds, each with its code.
+#[derive(Clone, Copy, Debug, PartialEq, Eq)]
 pub enum Refusal {
-    Counts,
+    Counts = 1,
     Torn,
     Slip,
     Same,
@@ -55,12 +62,8 @@ pub struct Step {
     pub number: u32,
 }
 
-// What a call comes to: done or refused (a result type).
-#[derive(Clone, Copy)]
-pub enum Outcome {
-    Done(Step),
-    Refused(Refusal),
-}
+// What a call comes to: done or refused.
+pub type Outcome = Result<Step, Refusal>;
 
 // The answer as C receives it: a status code and a return value.
 #[repr(C)]
@@ -73,38 +76,87 @@ pub struct Answer {
 // No count is higher, one reference for each piece and each slip: the limit on reference counts.
 pub const MOST_COUNT: u16 = PieceNumber::MOST + SlipNumber::MOST;
 
-// The lesser of two numbers: a minimum.
-pub fn lesser(a: u32, b: u32) -> u32
-    ensures { result ≡ min a b }
-{
-    if a < b { a } else { b }
+// A number of a kind, which counts the entries of a table from 0: an index type.
+pub trait Number: Copy {
+    ghost number: { Self → ℕ };
+
+    ghost MOST: { ℕ };
+
+    // The most entries of a pool: the table's limit.
+    const MOST: u16;
+
+    // The number itself.
+    fn number(self) -> u16
+        ensures { result ≡ number self };
+
+    // The entry of number `n`: an index with its kind.
+    fn at(n: u16) -> Self
+        ensures { number result ≡ n };
+
+    // Whether a pool may have `n` entries: a range test.
+    final fn counted(n: u16) -> bool
+        ensures { result ≡ counted MOST n }
+    {
+        1 <= n && n <= Self::MOST
+    }
+
+    // Whether it is one of `count`: an index test.
+    final fn below(self, count: u16) -> bool
+        ensures { result ≡ ltb (number self) count }
+    {
+        self.number() < count
+    }
 }
 
-// Whether `n` is a count from 1 to `most`: a range test.
-fn within(n: u16, most: u16) -> bool
-    ensures { result ≡ counted most n }
-{
-    1 <= n && n <= most
+impl Number for SlipNumber {
+    ghost number = { λ s. s.0 };
+
+    ghost MOST = { most_slips };
+
+    const MOST: u16 = 256;
+
+    fn number(self) -> u16 {
+        self.0
+    }
+
+    fn at(n: u16) -> SlipNumber {
+        SlipNumber(n)
+    }
+}
+
+impl Number for PieceNumber {
+    ghost number = { λ s. s.0 };
+
+    ghost MOST = { most_pieces };
+
+    const MOST: u16 = 2048;
+
+    fn number(self) -> u16 {
+        self.0
+    }
+
+    fn at(n: u16) -> PieceNumber {
+        PieceNumber(n)
+    }
+}
+
+impl Number for BufferNumber {
+    ghost number = { λ s. s.0 };
+
+    ghost MOST = { most_buffers };
+
+    const MOST: u16 = 1024;
+
+    fn number(self) -> u16 {
+        self.0
+    }
+
+    fn at(n: u16) -> BufferNumber {
+        BufferNumber(n)
+    }
 }
 
 impl SlipNumber {
-    // The most slips of a pool: the limit on handles.
-    pub const MOST: u16 = 256;
-
-    // Whether a pool may have `n` slips: a range test.
-    pub fn counted(n: u16) -> bool
-        ensures { result ≡ counted most_slips n }
-    {
-        within(n, SlipNumber::MOST)
-    }
-
-    // Whether the slip is one of `count`: an index test.
-    pub fn below(self, count: u16) -> bool
-        ensures { result ≡ ltb self.0 count }
-    {
-        self.0 < count
-    }
-
     // The number that is answered for the slip, with its serial: a handle and its generation in one.
     pub fn named(self, serial: Serial) -> u32
         ensures { result ≡ name_with self.0 serial.0 }
@@ -128,52 +180,25 @@ impl Serial {
     pub fn older(self) -> Serial
         ensures { result.0 ≡ older self.0 }
     {
-        if self.0 < Serial::LAST {
-            return Serial(self.0 + 1);
-        }
-        Serial(Serial::LAST)
+        Serial(self.0.saturating_add(1))
     }
 }
 
-impl PieceNumber {
-    // The most pieces of a pool: the limit on segment descriptors.
-    pub const MOST: u16 = 2048;
-
-    // Whether a pool may have `n` pieces: a range test.
-    pub fn counted(n: u16) -> bool
-        ensures { result ≡ counted most_pieces n }
+impl SlipName {
+    // The slip of a number and a serial as C lends them: a handle put together.
+    pub fn new(slip: u16, serial: u16) -> SlipName
+        ensures { (result.slip.0 ≡ slip) × (result.serial.0 ≡ serial) }
     {
-        within(n, PieceNumber::MOST)
-    }
-
-    // Whether the piece is one of `count`: an index test.
-    pub fn below(self, count: u16) -> bool
-        ensures { result ≡ ltb self.0 count }
-    {
-        self.0 < count
+        SlipName {
+            slip: SlipNumber(slip),
+            serial: Serial(serial),
+        }
     }
 }
 
 impl BufferNumber {
-    // The most buffers of a pool: the limit on clusters.
-    pub const MOST: u16 = 1024;
-
     // The bytes of a buffer: the cluster size.
     pub const SIZE: u16 = 512;
-
-    // Whether a pool may have `n` buffers: a range test.
-    pub fn counted(n: u16) -> bool
-        ensures { result ≡ counted most_buffers n }
-    {
-        within(n, BufferNumber::MOST)
-    }
-
-    // Whether the buffer is one of `count`: an index test.
-    pub fn below(self, count: u16) -> bool
-        ensures { result ≡ ltb self.0 count }
-    {
-        self.0 < count
-    }
 
     // The byte of storage at which the buffer starts: the cluster's base offset.
     pub fn start(self) -> usize
@@ -204,56 +229,60 @@ impl SlipState {
     {
         match self {
             SlipState::Vacant => false,
-            SlipState::Empty => true,
-            SlipState::Heads(_) => true,
+            SlipState::Empty | SlipState::Heads(_) => true,
         }
     }
 }
 
 // The state that a slip's number stands for: the decoding of a tagged handle entry.
-pub fn state_of(raw: u16) -> SlipState
-    ensures { result ≡ state_of raw }
-{
-    if raw == 0 {
-        return SlipState::Vacant;
+impl From<u16> for SlipState {
+    ghost from_gives = { λ raw state. state ≡ state_of raw };
+
+    fn from(raw: u16) -> SlipState {
+        match raw {
+            0 => SlipState::Vacant,
+            1 => SlipState::Empty,
+            _ => SlipState::Heads(PieceNumber(raw - 2)),
+        }
     }
-    if raw == 1 {
-        return SlipState::Empty;
-    }
-    SlipState::Heads(PieceNumber(raw - 2))
 }
 
 // The code of a refusal: an error number.
-pub fn refusal_code(r: Refusal) -> u16
-    ensures { result ≡ refusal_code r }
-{
-    match r {
-        Refusal::Counts => 1,
-        Refusal::Torn => 2,
-        Refusal::Slip => 3,
-        Refusal::Same => 4,
-        Refusal::Long => 5,
-        Refusal::Range => 6,
-        Refusal::Narrow => 7,
-        Refusal::Slips => 8,
-        Refusal::Pieces => 9,
-        Refusal::Buffers => 10,
-        Refusal::WireList => 11,
+impl From<Refusal> for u16 {
+    ghost from_gives = { λ why code. code ≡ refusal_code why };
+
+    fn from(why: Refusal) -> u16 {
+        why as u16
     }
 }
 
 // The answer of an outcome: its status code and its return value.
-pub fn answer_of(o: Outcome) -> Answer
-    ensures { result ≡ answer_of o }
-{
-    match o {
-        Outcome::Done(s) => Answer {
-            code: 0,
-            number: s.number,
-        },
-        Outcome::Refused(r) => Answer {
-            code: refusal_code(r),
-            number: 0,
-        },
+impl From<Outcome> for Answer {
+    ghost from_gives = { λ outcome answer. answer ≡ answer_of outcome };
+
+    fn from(outcome: Outcome) -> Answer {
+        match outcome {
+            Ok(step) => Answer {
+                code: 0,
+                number: step.number,
+            },
+            Err(why) => Answer {
+                code: why.into(),
+                number: 0,
+            },
+        }
+    }
+}
+
+// The answer of a call with no step, done or refused: its status code, and no return value.
+impl From<Result<(), Refusal>> for Answer {
+    ghost from_gives = { λ outcome answer. answer ≡ answer_of_unit outcome };
+
+    fn from(outcome: Result<(), Refusal>) -> Answer {
+        let code = match outcome {
+            Ok(()) => 0,
+            Err(why) => why.into(),
+        };
+        Answer { code, number: 0 }
     }
 }

@@ -8,7 +8,7 @@ ghost use Rattle.rules.specs.Tables.{fresh_tables};
 ghost use Rattle.rules.specs.Bytes.{encode, buffers_in, pieces_in, slips_in};
 ghost use Rattle.rules.specs.Sound.{marked, counts_ok, lengths_ok};
 
-use kinds::{BufferNumber, PieceNumber, SlipNumber};
+use kinds::{BufferNumber, Number, PieceNumber, SlipNumber};
 
 // The version that a pool's header states: a format version.
 const VERSION: u16 = 2;
@@ -77,16 +77,10 @@ pub fn marked(pool: &[u8]) -> bool
     requires { header_length ≤ length pool.now }
     ensures { result ≡ marked pool.now }
 {
-    if pool[0] != b'S' {
-        return false;
-    }
-    if pool[1] != b'L' {
-        return false;
-    }
-    if pool[2] != b'P' {
-        return false;
-    }
-    word::get16(pool, VERSION_AT) == VERSION
+    pool[0] == b'S'
+        && pool[1] == b'L'
+        && pool[2] == b'P'
+        && word::get16(pool, VERSION_AT) == VERSION
 }
 
 // The exact length of a pool of this shape.
@@ -101,19 +95,11 @@ pub fn sized(shape: Shape, pool: usize, storage: usize) -> bool
     ensures { result
         ≡ (counts_ok shape.buffers shape.pieces shape.slips && lengths_ok shape.buffers shape.pieces shape.slips pool storage) }
 {
-    if !BufferNumber::counted(shape.buffers) {
-        return false;
-    }
-    if !PieceNumber::counted(shape.pieces) {
-        return false;
-    }
-    if !SlipNumber::counted(shape.slips) {
-        return false;
-    }
-    if pool != pool_length(shape) {
-        return false;
-    }
-    storage == BufferNumber(shape.buffers).start()
+    BufferNumber::counted(shape.buffers)
+        && PieceNumber::counted(shape.pieces)
+        && SlipNumber::counted(shape.slips)
+        && pool == pool_length(shape)
+        && storage == BufferNumber(shape.buffers).start()
 }
 
 // Writes the mark and the version: a magic number and a format version.

@@ -18,13 +18,13 @@ ghost use Rattle.answer.specs.Result.{result_of, Leaves};
 ghost use Rattle.list.specs.Begin.{begun};
 ghost use Rattle.list.specs.Record.{record_of};
 
-use kinds::{Outcome, PieceNumber, Refusal, Serial, SlipNumber};
+use kinds::{Outcome, PieceNumber, Refusal, SlipName, Step};
 use layout::Shape;
 
-// What list answers, and where its records start and how many they are, none where it refuses.
+// What a list begins with: its step, and where its records start and how many they are.
 #[derive(Clone, Copy)]
 pub struct Begun {
-    pub outcome: Outcome,
+    pub step: Step,
     pub link: u16,
     pub pieces: u16,
 }
@@ -44,36 +44,31 @@ pub struct Record {
     pub next: u16,
 }
 
-// What list answers to a refusal, with no records.
-fn none(why: Refusal) -> Begun
-    ensures { result ≡ record { outcome = Outcome.Refused why; link = 0; pieces = 0 } }
+// What a list of the slip of a name begins with where there is room for `room` records, judged before any is written: a handle test and a segment count.
+pub fn begin(pool: &[u8], shape: Shape, s: SlipName, room: usize) -> Result<Begun, Refusal>
+    requires { Opened pool.now shape }
+    ensures { result ≡ begun (decode pool.now) (name s.slip.0 s.serial.0) room }
 {
-    Begun {
-        outcome: Outcome::Refused(why),
-        link: 0,
-        pieces: 0,
+    let link = chain::enter(pool, shape, s)?;
+    let pieces = chain::pieces_from(pool, shape, link);
+    if room < pieces as usize {
+        return Err(Refusal::Narrow);
     }
+    let step = answer::done(pool, shape, s.slip, pieces as u32);
+    Ok(Begun { step, link, pieces })
 }
 
-// What list answers of slip `s` where there is room for `room` records, judged before any is written: a handle test and a segment count.
-pub fn begin(pool: &[u8], shape: Shape, s: SlipNumber, serial: Serial, room: usize) -> Begun
-    requires { Opened pool.now shape }
-    ensures { result ≡ begun (decode pool.now) (name s.0 serial.0) room }
+// The record of the piece that `link` leads to, and the link behind it: a scatter list's entry.
+pub fn record_at(pool: &[u8], shape: Shape, link: u16) -> Record
+    requires { Opened pool.now shape × Is (link_ok (decode pool.now) link) × (link ≡ 0 → ⊥) }
+    ensures { result ≡ record_of (decode pool.now).stock (piece (decode pool.now) (link - 1)) }
 {
-    let entry = chain::enter(pool, shape, s, serial);
-    if !kinds::state_of(entry).held() {
-        return none(Refusal::Slip);
-    }
-    let link = entry - 1;
-    let n = chain::pieces_from(pool, shape, link);
-    if room < n as usize {
-        return none(Refusal::Narrow);
-    }
-    Begun {
-        outcome: answer::done(pool, shape, s, n as u32),
-        link: link,
-        pieces: n,
-    }
+    let d = PieceNumber(link - 1);
+    let position = transfer::position(pool, shape, d) as u32;
+    let length = chain::piece_bytes(pool, shape, d);
+    let next = tables::piece_next(pool, shape, d);
+    let stretch = Stretch { position, length };
+    Record { stretch, next }
 }
 
 // Writes the records of the first `n` pieces of the chain from `link` to the front of `list`, and answers the link behind them: a scatter list filled.
@@ -85,45 +80,23 @@ pub fn write_records(pool: &[u8], shape: Shape, link: u16, n: usize, list: &mut 
     ensures value { result ≡ follow (decode pool.now) n link }
 {
     let mut at = link;
-    let mut k = 0;
-    while k < n {
-        let d = PieceNumber(at - 1);
-        let i = 2 * k;
-        list[i] = transfer::position(pool, shape, d) as u32;
-        list[i + 1] = chain::piece_bytes(pool, shape, d);
-        at = tables::piece_next(pool, shape, d);
-        k += 1;
+    for k in 0..n {
+        let record = record_at(pool, shape, at);
+        list[2 * k] = record.stretch.position;
+        list[2 * k + 1] = record.stretch.length;
+        at = record.next;
     }
     at
 }
 
-// Writes the records of the chain of slip `s` to the front of `list`, two numbers each: position, then length.
-pub fn list(pool: &[u8], shape: Shape, s: SlipNumber, serial: Serial, list: &mut [u32]) -> Outcome
+// Writes the records of the chain of the slip of a name to the front of `list`, two numbers each: position, then length.
+pub fn list(pool: &[u8], shape: Shape, s: SlipName, list: &mut [u32]) -> Outcome
     requires { Opened pool.now shape }
     ensures by_index { (st : List ℕ) → result_of result pool.now st list.new no_view
-        ≡ perform (WireList (name s.0 serial.0) list.old) (lent pool.now st) }
-    ensures leaves { Leaves result (state_of (slip (decode pool.now) s.0)) }
+        ≡ perform (WireList (name s.slip.0 s.serial.0) list.old) (lent pool.now st) }
+    ensures leaves { Leaves result (state_of (slip (decode pool.now) s.slip.0)) }
 {
-    let b = begin(pool, shape, s, serial, list.len() / 2);
-    let outcome = b.outcome;
-    let link = b.link;
-    let n = b.pieces as usize;
-    write_records(pool, shape, link, n, list);
-    outcome
-}
-
-// The record of the piece that `link` leads to, by way of a list of two numbers, and the link behind it: a scatter list's entry.
-pub fn first(pool: &[u8], shape: Shape, link: u16) -> Record
-    requires { Opened pool.now shape × Is (link_ok (decode pool.now) link) × (link ≡ 0 → ⊥) }
-    ensures { result ≡ record_of (decode pool.now).stock (piece (decode pool.now) (link - 1)) }
-{
-    let mut pair = [0u32; 2];
-    let next = write_records(pool, shape, link, 1, &mut pair);
-    Record {
-        stretch: Stretch {
-            position: pair[0],
-            length: pair[1],
-        },
-        next: next,
-    }
+    let b = begin(pool, shape, s, list.len() / 2)?;
+    write_records(pool, shape, b.link, b.pieces as usize, list);
+    Ok(b.step)
 }

@@ -5,10 +5,10 @@ use Prim.Native.Nat.{ℕ, ◌+◌, ◌≤◌, ◌<◌}
 use native.Mathlib.Omega.{arith}
 use lib.ListN.{length, take, drop}
 use lib.Dec.{ltb, ltb→lt, lt→ltb}
+use Rattle.std.specs.Prelude.{Ok, Err}
 use Rattle.kinds.specs.declared.SlipState.{SlipState}
 use Rattle.kinds.specs.declared.Refusal.TheVariants.{Slip, Range, Narrow}
-use Rattle.kinds.specs.declared.Outcome.{Outcome}
-use Rattle.kinds.specs.declared.Outcome.TheVariants.{Done, Refused}
+use Rattle.kinds.specs.Outcome.{Outcome}
 use Rattle.rules.specs.Basics.{Is}
 use Rattle.rules.specs.Bytes.{decode, encode}
 use Rattle.rules.specs.Chain.{length_of, reads}
@@ -26,11 +26,11 @@ module _ (p st : List ℕ) (y : Name) where
   abbrev s : ℕ
   s = y.slip
 
-  pub length_slip : Is (unnamed (decode p) y) → result_of (Refused Slip) p st [] no_view ≡ perform (Length y) (lent p st)
+  pub length_slip : Is (unnamed (decode p) y) → result_of (Err Slip) p st [] no_view ≡ perform (Length y) (lent p st)
   unfolding rule
   length_slip u = perform_first (Length y) (lent p st) Slip (first_yes (Slip ⇐ unnamed (decode p) y) [] u)
 
-  pub length_done : {o : Outcome} {x : SlipState} {r : ℕ} → o ≡ Done (record { state = x; number = r }) → (Is (unnamed (decode p) y) → ⊥) → r ≡ length_of (decode p) s → encode (decode p) ≡ p
+  pub length_done : {o : Outcome} {x : SlipState} {r : ℕ} → o ≡ Ok (record { state = x; number = r }) → (Is (unnamed (decode p) y) → ⊥) → r ≡ length_of (decode p) s → encode (decode p) ≡ p
       → result_of o p st [] no_view ≡ perform (Length y) (lent p st)
   unfolding rule done
   length_done a u e b =
@@ -41,12 +41,12 @@ module _ (p st : List ℕ) (y : Name) where
 -- ---- read
 
 module _ (p st out : List ℕ) (y : Name) (off n : ℕ) where
-  pub read_slip : Is (unnamed (decode p) y) → result_of (Refused Slip) p st out no_view ≡ perform (Read y off n out) (lent p st)
+  pub read_slip : Is (unnamed (decode p) y) → result_of (Err Slip) p st out no_view ≡ perform (Read y off n out) (lent p st)
   unfolding rule
   read_slip u = perform_first (Read y off n out) (lent p st) Slip (first_yes (Slip ⇐ unnamed (decode p) y) _ u)
 
   module _ (u : Is (unnamed (decode p) y) → ⊥) where
-    pub read_range : length_of (decode p) y.slip < off + n → result_of (Refused Range) p st out no_view ≡ perform (Read y off n out) (lent p st)
+    pub read_range : length_of (decode p) y.slip < off + n → result_of (Err Range) p st out no_view ≡ perform (Read y off n out) (lent p st)
     unfolding rule
     read_range h =
         perform_first (Read y off n out) (lent p st) Range
@@ -56,14 +56,14 @@ module _ (p st out : List ℕ) (y : Name) (off n : ℕ) where
       range_ok : Is (ltb (length_of (decode p) y.slip) (off + n)) → ⊥
       range_ok t = omega (arith, ltb→lt (length_of (decode p) y.slip) (off + n) t)
 
-      pub read_narrow : length out < n → result_of (Refused Narrow) p st out no_view ≡ perform (Read y off n out) (lent p st)
+      pub read_narrow : length out < n → result_of (Err Narrow) p st out no_view ≡ perform (Read y off n out) (lent p st)
       unfolding rule
       read_narrow k =
           perform_first (Read y off n out) (lent p st) Narrow
           (first_no (Slip ⇐ unnamed (decode p) y) _ u ∙ first_no (Range ⇐ ltb (length_of (decode p) y.slip) (off + n)) _ range_ok
           ∙ first_yes (Narrow ⇐ ltb (length out) n) [] (lt→ltb _ _ k))
 
-      pub read_done : {o : Outcome} {x : SlipState} {after : List ℕ} → o ≡ Done (record { state = x; number = n }) → n ≤ length out → encode (decode p) ≡ p
+      pub read_done : {o : Outcome} {x : SlipState} {after : List ℕ} → o ≡ Ok (record { state = x; number = n }) → n ≤ length out → encode (decode p) ≡ p
           → after ≡ copied (take n (drop off (reads (state_in (lent p st)) y.slip))) out → result_of o p st after no_view ≡ perform (Read y off n out) (lent p st)
       unfolding rule done
       read_done {after = after} a k b e =

@@ -1,17 +1,16 @@
 -- What show answers: which refusal, where the bytes are seen, and that they are there. Assumes nothing.
 use mathlib.Core.Path.{◌≡◌, refl, sym, ap, ◌∙◌}
-use mathlib.Core.Logic.{◌↔◌}
-use mathlib.Core.Bool.{false, ◌&&◌}
+use mathlib.Core.Bool.{◌&&◌}
 use mathlib.Core.List.{List, [], ◌∷◌}
 use Prim.Native.Nat.{ℕ, ◌+◌, ◌-◌, ◌≤◌, ◌<◌, min}
 use native.Mathlib.Decide.{ℕ_discrete}
 use native.Mathlib.Omega.{arith}
 use lib.ListN.{length, take, length-take, length-drop}
 use lib.Dec.{T_not, not_T, eqb, eqb→eq, ltb, ltb→lt, lt→ltb, leb, leb→le, le→leb}
+use Rattle.std.specs.Prelude.{Ok, Err}
 use Rattle.kinds.specs.declared.Refusal.{Refusal}
 use Rattle.kinds.specs.declared.Refusal.TheVariants.{Slip, Long, Range, Narrow}
-use Rattle.kinds.specs.declared.Outcome.{Outcome}
-use Rattle.kinds.specs.declared.Outcome.TheVariants.{Done, Refused}
+use Rattle.kinds.specs.declared.Step.{Step}
 use Rattle.kinds.specs.Limits.{buffer_size}
 use Rattle.kinds.specs.SlipState.{state_of}
 use Rattle.kinds.proofs.Sizes.{start_step}
@@ -36,7 +35,6 @@ use Rattle.answer.specs.Result.{result_of}
 use Rattle.answer.proofs.Perform.{perform_first, perform_none}
 use Rattle.look.specs.declared.Place.{Place}
 use Rattle.look.specs.declared.Place.TheVariants.{Storage, Scratch}
-use Rattle.look.specs.declared.Shown.{Shown}
 use Rattle.look.specs.Place.{view_at, place_of, part_at, Lies}
 use Rattle.look.specs.Show.{Seen}
 
@@ -108,29 +106,28 @@ module _ (p st sc : List ℕ) (y : Name) (n : ℕ) where
   s = y.slip
 
   -- a refusal shows the empty start of storage
-  refused_seen : {r : Shown} {why : Refusal} → r ≡ record { outcome = Refused why; place = Storage 0 } → result_of (Refused why) p st sc no_view ≡ perform (Show y n sc) (lent p st)
-      → Seen r p st y n sc sc
-  refused_seen e q = rw e (record { is = q; lies = omega arith; leaves = tt })
+  refused_seen : (why : Refusal) → result_of (Err why) p st sc no_view ≡ perform (Show y n sc) (lent p st) → Seen (Err why) p st y n sc sc
+  refused_seen why q = record { is = q; lies = omega arith; leaves = tt }
 
-  pub show_slip : {r : Shown} → r ≡ record { outcome = Refused Slip; place = Storage 0 } → Is (unnamed (decode p) y) → Seen r p st y n sc sc
+  pub show_slip : Is (unnamed (decode p) y) → Seen (Err Slip) p st y n sc sc
   unfolding rule
-  show_slip e u = refused_seen e (perform_first (Show y n sc) (lent p st) Slip (first_yes (Slip ⇐ unnamed (decode p) y) _ u))
+  show_slip u = refused_seen Slip (perform_first (Show y n sc) (lent p st) Slip (first_yes (Slip ⇐ unnamed (decode p) y) _ u))
 
   module _ (u : Is (unnamed (decode p) y) → ⊥) where
-    pub show_long : {r : Shown} → r ≡ record { outcome = Refused Long; place = Storage 0 } → buffer_size < n → Seen r p st y n sc sc
+    pub show_long : buffer_size < n → Seen (Err Long) p st y n sc sc
     unfolding rule
-    show_long e h =
-        refused_seen e (perform_first (Show y n sc) (lent p st) Long
+    show_long h =
+        refused_seen Long (perform_first (Show y n sc) (lent p st) Long
         (first_no (Slip ⇐ unnamed (decode p) y) _ u ∙ first_yes (Long ⇐ ltb buffer_size n) _ (lt→ltb buffer_size n h)))
 
     module _ (w : n ≤ buffer_size) where
       not_long : Is (ltb buffer_size n) → ⊥
       not_long t = omega (arith, ltb→lt buffer_size n t)
 
-      pub show_range : {r : Shown} → r ≡ record { outcome = Refused Range; place = Storage 0 } → length_of (decode p) s < n → Seen r p st y n sc sc
+      pub show_range : length_of (decode p) s < n → Seen (Err Range) p st y n sc sc
       unfolding rule
-      show_range e h =
-          refused_seen e (perform_first (Show y n sc) (lent p st) Range
+      show_range h =
+          refused_seen Range (perform_first (Show y n sc) (lent p st) Range
           (first_no (Slip ⇐ unnamed (decode p) y) _ u ∙ first_no (Long ⇐ ltb buffer_size n) _ not_long
           ∙ first_yes (Range ⇐ ltb (length_of (decode p) s) n) _ (lt→ltb (length_of (decode p) s) n h)))
 
@@ -138,20 +135,20 @@ module _ (p st sc : List ℕ) (y : Name) (n : ℕ) where
         not_range : Is (ltb (length_of (decode p) s) n) → ⊥
         not_range t = omega (arith, ltb→lt (length_of (decode p) s) n t)
 
-        pub show_narrow : {r : Shown} → r ≡ record { outcome = Refused Narrow; place = Storage 0 } → first_length (spans (decode p) s) < n → length sc < n → Seen r p st y n sc sc
+        pub show_narrow : first_length (spans (decode p) s) < n → length sc < n → Seen (Err Narrow) p st y n sc sc
         unfolding rule
-        show_narrow e v h =
-            refused_seen e (perform_first (Show y n sc) (lent p st) Narrow
+        show_narrow v h =
+            refused_seen Narrow (perform_first (Show y n sc) (lent p st) Narrow
             (first_no (Slip ⇐ unnamed (decode p) y) _ u ∙ first_no (Long ⇐ ltb buffer_size n) _ not_long
             ∙ first_no (Range ⇐ ltb (length_of (decode p) s) n) _ not_range
             ∙ first_yes (Narrow ⇐ (scattered (spans (decode p) s) n && ltb (length sc) n)) []
             (and_intro (scattered (spans (decode p) s) n) _ (first_lacks (spans (decode p) s) n v) (lt→ltb (length sc) n h))))
 
-        module _ {o : Outcome} (a : o ≡ Done (record { state = state_of (slip (decode p) s); number = n })) (b : encode (decode p) ≡ p) where
+        module _ {o : Step} (a : o ≡ record { state = state_of (slip (decode p) s); number = n }) (b : encode (decode p) ≡ p) where
           -- a show that is done, at a place and with the scratch as they are found
           done_seen : (place : Place) (after : List ℕ) → (Is (scattered (spans (decode p) s) n && ltb (length sc) n) → ⊥)
               → after ≡ (whether scattered (spans (decode p) s) n then copied (take n (reads (state_in (lent p st)) s)) sc else sc)
-              → view_at place ≡ view_of (decode p).stock (spans (decode p) s) n → Lies st after place n → Seen (record { outcome = o; place = place }) p st y n sc after
+              → view_at place ≡ view_of (decode p).stock (spans (decode p) s) n → Lies st after place n → Seen (Ok (record { step = o; place = place })) p st y n sc after
           unfolding rule done
           done_seen place after t e v l = rw a (record {
             is = (λ i. record { code = 0; number = n; pool = sym b i; storage = st; output = e i; view = v i })
@@ -166,7 +163,7 @@ module _ (p st sc : List ℕ) (y : Name) (n : ℕ) where
           -- the first piece has the bytes
           pub show_storage : (B c : ℕ) → Fit (decode p).stock B st → Good (decode p).stock B (spans (decode p) s) → n ≤ first_length (spans (decode p) s)
               → view_at (Storage c) ≡ view_of (decode p).stock (spans (decode p) s) n
-              → Seen (record { outcome = o; place = Storage c }) p st y n sc sc
+              → Seen (Ok (record { step = o; place = Storage c })) p st y n sc sc
           show_storage B c f g i v =
               let xs = spans (decode p) s in
               done_seen (Storage c) sc (λ t. first_has xs n i (and_0 (scattered xs n) _ t)) (sym (if_F (scattered xs n) _ _ (first_has xs n i))) v
@@ -174,23 +171,13 @@ module _ (p st sc : List ℕ) (y : Name) (n : ℕ) where
 
           -- or has not, and they are copied
           pub show_scratch : (after : List ℕ) → first_length (spans (decode p) s) < n → n ≤ length sc → length after ≡ length sc
-              → after ≡ copied (take n (reads (state_in (lent p st)) s)) sc → Seen (record { outcome = o; place = Scratch }) p st y n sc after
+              → after ≡ copied (take n (reads (state_in (lent p st)) s)) sc → Seen (Ok (record { step = o; place = Scratch })) p st y n sc after
           show_scratch after v m j e =
               let xs = spans (decode p) s in
               done_seen Scratch after (λ q. omega (arith, ltb→lt (length sc) n (and_1 (scattered xs n) _ q))) (e ∙ sym (if_T (scattered xs n) _ _ (first_lacks xs n v)))
               (view_scratch (decode p).stock xs n v k) (omega arith)
 
 -- ---- whether the bytes are there
-
-module _ (st sc : List ℕ) {place : Place} (n : ℕ) where
-  pub lies_not : {a : ℕ} → place ≡ Storage a → length st < a → Is false ↔ Lies st sc place n
-  lies_not e h = rw e ((λ t. absurd t), (λ l. absurd (omega arith)))
-
-  pub lies_storage : {a : ℕ} → place ≡ Storage a → a ≤ length st → Is (leb n (length st - a)) ↔ Lies st sc place n
-  lies_storage {a} e h = rw e ((λ t. omega (arith, leb→le n (length st - a) t)), (λ l. le→leb n (length st - a) (omega arith)))
-
-  pub lies_scratch : place ≡ Scratch → Is (leb n (length sc)) ↔ Lies st sc place n
-  lies_scratch e = rw e ((λ t. leb→le n (length sc) t), (λ l. le→leb n (length sc) l))
 
 -- so many as are asked are seen at a place, or none at the start of storage: they are there
 pub lies_whole : (st sc : List ℕ) (place : Place) (n : ℕ) → (n ≡ 0 → view_at place ≡ no_view) → length (part_at st sc place n) ≡ n → Lies st sc place n

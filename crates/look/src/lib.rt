@@ -18,21 +18,22 @@ ghost use Rattle.answer.specs.Result.{result_of, Leaves};
 ghost use Rattle.look.specs.Place.{view_at, part_at, Lies};
 ghost use Rattle.look.specs.Show.{Seen};
 
-use kinds::{BufferNumber, Outcome, PieceNumber, Refusal, Serial, SlipNumber};
+use chain::Spot;
+use kinds::{BufferNumber, Outcome, PieceNumber, Refusal, SlipName, Step};
 use layout::Shape;
 use transfer::Cursor;
 
 // Where a view lies: in storage from a byte on, or at the front of the scratch.
-#[derive(Clone, Copy)]
+#[derive(Clone, Copy, PartialEq, Eq)]
 pub enum Place {
     Storage(usize),
     Scratch,
 }
 
-// What show answers: its outcome, and where the bytes are seen.
+// What a done show answers: its step, and where the bytes are seen.
 #[derive(Clone, Copy)]
 pub struct Shown {
-    pub outcome: Outcome,
+    pub step: Step,
     pub place: Place,
 }
 
@@ -41,12 +42,7 @@ pub fn lies(storage: &[u8], scratch: &[u8], place: Place, n: usize) -> bool
     ensures { Is result ↔ Lies storage.now scratch.now place n }
 {
     match place {
-        Place::Storage(start) => {
-            if storage.len() < start {
-                return false;
-            }
-            n <= storage.len() - start
-        }
+        Place::Storage(start) => start <= storage.len() && n <= storage.len() - start,
         Place::Scratch => n <= scratch.len(),
     }
 }
@@ -62,65 +58,42 @@ pub fn view<'a>(storage: &'a [u8], scratch: &'a [u8], place: Place, n: usize) ->
     }
 }
 
-// The byte count of the chain of slip `s`: its length.
-pub fn length(pool: &[u8], shape: Shape, s: SlipNumber, serial: Serial) -> Outcome
+// The byte count of the chain of the slip of a name: its length.
+pub fn length(pool: &[u8], shape: Shape, s: SlipName) -> Outcome
     requires { Opened pool.now shape }
     ensures by_index { (st : List ℕ) → result_of result pool.now st [] no_view
-        ≡ perform (Length (name s.0 serial.0)) (lent pool.now st) }
-    ensures leaves { Leaves result (state_of (slip (decode pool.now) s.0)) }
+        ≡ perform (Length (name s.slip.0 s.serial.0)) (lent pool.now st) }
+    ensures leaves { Leaves result (state_of (slip (decode pool.now) s.slip.0)) }
 {
-    if kinds::state_of(chain::enter(pool, shape, s, serial)).held() {
-        return answer::done(pool, shape, s, chain::chain_length(pool, shape, s));
-    }
-    Outcome::Refused(Refusal::Slip)
+    chain::enter(pool, shape, s)?;
+    let n = chain::chain_length(pool, shape, s.slip);
+    Ok(answer::done(pool, shape, s.slip, n))
 }
 
-// Copies `n` bytes from `off` on of the chain of slip `s` to the front of `output`.
+// Copies `n` bytes from `off` on of the chain of the slip of a name to the front of `output`.
 pub fn read(
     pool: &[u8],
     shape: Shape,
     storage: &[u8],
-    s: SlipNumber,
-    serial: Serial,
+    s: SlipName,
     off: u32,
     n: u32,
     output: &mut [u8],
 ) -> Outcome
     requires { Opened pool.now shape × Backs storage.now shape }
     ensures no_view_after { result_of result pool.now storage.now output.new no_view
-        ≡ perform (Read (name s.0 serial.0) off n output.old) (lent pool.now storage.now) }
-    ensures leaves { Leaves result (state_of (slip (decode pool.now) s.0)) }
+        ≡ perform (Read (name s.slip.0 s.serial.0) off n output.old) (lent pool.now storage.now) }
+    ensures leaves { Leaves result (state_of (slip (decode pool.now) s.slip.0)) }
 {
-    let entry = chain::enter(pool, shape, s, serial);
-    if !kinds::state_of(entry).held() {
-        return Outcome::Refused(Refusal::Slip);
-    }
-    let head = entry - 1;
-    let at = chain::find(pool, shape, head, off);
-    let link = at.link;
-    let into = at.into;
-    if !chain::part_of(pool, shape, link, into as u64 + n as u64).enough {
-        return Outcome::Refused(Refusal::Range);
-    }
+    let head = chain::enter(pool, shape, s)?;
+    let Spot { link, into, .. } = chain::find(pool, shape, head, off)?;
+    chain::part_of(pool, shape, link, into as u64 + n as u64)?;
     if output.len() < n as usize {
-        return Outcome::Refused(Refusal::Narrow);
+        return Err(Refusal::Narrow);
     }
-    let from = Cursor {
-        link: link,
-        into: into,
-    };
+    let from = Cursor { link, into };
     transfer::copy_out(pool, shape, storage, from, n, output);
-    answer::done(pool, shape, s, n)
-}
-
-// What a refused show answers: the view is the empty start of storage.
-pub fn unseen(why: Refusal) -> Shown
-    ensures { result ≡ record { outcome = Outcome.Refused why; place = Place.Storage 0 } }
-{
-    Shown {
-        outcome: Outcome::Refused(why),
-        place: Place::Storage(0),
-    }
+    Ok(answer::done(pool, shape, s.slip, n))
 }
 
 // Where the first `n` bytes of the chain from `link` start in storage, which its first piece has; none start at 0: a data pointer.
@@ -135,46 +108,36 @@ fn start_of(pool: &[u8], shape: Shape, link: u16, n: u32) -> usize
     transfer::position(pool, shape, PieceNumber(link - 1))
 }
 
-// Shows the first `n` bytes of the chain of slip `s` in one stretch, of storage or of the scratch.
+// Shows the first `n` bytes of the chain of the slip of a name in one stretch, of storage or of the scratch.
 pub fn show(
     pool: &[u8],
     shape: Shape,
     storage: &[u8],
-    s: SlipNumber,
-    serial: Serial,
+    s: SlipName,
     n: u32,
     scratch: &mut [u8],
-) -> Shown
+) -> Result<Shown, Refusal>
     requires { Opened pool.now shape × Backs storage.now shape }
-    ensures { Seen result pool.now storage.now (name s.0 serial.0) n scratch.old scratch.new }
+    ensures { Seen result pool.now storage.now (name s.slip.0 s.serial.0) n scratch.old scratch.new }
 {
-    let entry = chain::enter(pool, shape, s, serial);
-    if !kinds::state_of(entry).held() {
-        return unseen(Refusal::Slip);
-    }
+    let link = chain::enter(pool, shape, s)?;
     if !BufferNumber::fits(n) {
-        return unseen(Refusal::Long);
+        return Err(Refusal::Long);
     }
-    let link = entry - 1;
     if chain::in_first(pool, shape, link, n) {
-        return Shown {
-            outcome: answer::done(pool, shape, s, n),
+        return Ok(Shown {
+            step: answer::done(pool, shape, s.slip, n),
             place: Place::Storage(start_of(pool, shape, link, n)),
-        };
+        });
     }
-    if !chain::part_of(pool, shape, link, n as u64).enough {
-        return unseen(Refusal::Range);
-    }
+    chain::part_of(pool, shape, link, n as u64)?;
     if scratch.len() < n as usize {
-        return unseen(Refusal::Narrow);
+        return Err(Refusal::Narrow);
     }
-    let from = Cursor {
-        link: link,
-        into: 0,
-    };
+    let from = Cursor { link, into: 0 };
     transfer::copy_out(pool, shape, storage, from, n, scratch);
-    Shown {
-        outcome: answer::done(pool, shape, s, n),
+    Ok(Shown {
+        step: answer::done(pool, shape, s.slip, n),
         place: Place::Scratch,
-    }
+    })
 }

@@ -1,6 +1,6 @@
--- The own pieces of a chain, met one by one, and a piece shortened. Assumes nothing.
+-- The own pieces of a chain, met one by one. Assumes nothing.
 use mathlib.Core.Path.{◌≡◌, refl, sym, ap, subst, ◌∙◌}
-use mathlib.Core.Bool.{Bool, true, false}
+use mathlib.Core.Bool.{true, false}
 use mathlib.Core.List.{List, [], ◌∷◌, ◌++◌}
 use Prim.Native.Nat.{ℕ, zero, suc, ◌+◌, ◌-◌, ◌<◌}
 use native.Mathlib.Omega.{arith}
@@ -8,21 +8,19 @@ use lib.ListN.{length, drop}
 use lib.Seq.{drop_at}
 use lib.Dec.{eqb}
 use Rattle.rules.specs.Basics.{Is, whether◌then◌else◌, last_of}
-use Rattle.rules.specs.Tables.{Tables, piece, piece_total, set_piece, with_place}
+use Rattle.rules.specs.Tables.{Tables, piece, piece_total}
 use Rattle.rules.specs.Chain.{follow, walk, own_pieces, stretches, total, cut_out}
 use Rattle.rules.specs.Sound.{link_ok, SoundTables}
 use Rattle.rules.proofs.Logic.{if_either}
 use Rattle.rules.proofs.Meets.{meets_one}
 use Rattle.rules.proofs.Hang.{Run, run_split, stretches_append, stretches_length}
-use Rattle.layout.specs.declared.Shape.{Shape}
-use Rattle.tables.specs.Shape.{Holds}
 use Rattle.own.specs.declared.OwnRun.{OwnRun}
 use Rattle.own.specs.declared.OwnPart.{OwnPart}
 use Rattle.chain.specs.Length.{stretches_from}
 use Rattle.own.specs.Own.{single, last_link, own_run, own_part}
-use Rattle.chain.proofs.Links.{walk_on, follow_good, walk_meets}
+use Rattle.chain.proofs.Links.{link_leads, walk_on, walk_less, follow_good, walk_meets, stretches_small}
 use Rattle.chain.proofs.Spots.{cut_out_none}
-use Rattle.chain.proofs.Parts.{part_first}
+use Rattle.chain.proofs.Parts.{part_first, part_total}
 
 -- the link to the last of the pieces, l where there is none
 abbrev pub last_or : ℕ → List ℕ → ℕ
@@ -34,7 +32,7 @@ abbrev run_of : ℕ → Tables → ℕ → List ℕ → OwnRun
 run_of l T n ds = record { last = last_or l ds; next = follow T (length ds) n }
 
 -- own pieces, the link l to the last of them, and then those from the link n on
-abbrev pub own_from : ℕ → Tables → ℕ → OwnRun
+unfoldable pub own_from : ℕ → Tables → ℕ → OwnRun
 own_from l T n = run_of l T n (own_pieces (piece_total T) T n)
 
 -- the last of none, and of one more in front
@@ -48,7 +46,7 @@ last_more l d (x ∷ ds) = refl
 
 -- before any own piece is passed
 pub own_start : (n : ℕ) (T : Tables) → own_from 0 T n ≡ own_run T n
-unfolding own_run
+unfolding own_from own_run
 own_start n T = let own = own_pieces (piece_total T) T n in λ i. record { last = last_none own i; next = follow T (length own) n }
 
 -- no piece is own where the first has another count
@@ -60,12 +58,12 @@ none_own (suc k) (suc d) T e = rw e
 
 -- the piece that n leads to is not own
 pub own_stop : (l n : ℕ) (T : Tables) → single T n ≡ false → own_from l T n ≡ record { last = l; next = n }
-unfolding follow
+unfolding own_from follow
 own_stop l n T e = ap (run_of l T n) (none_own (piece_total T) n T e)
 
 -- only a link to a piece is single
 pub single_link : (n : ℕ) (T : Tables) → single T n ≡ true → n ≡ 0 → ⊥
-single_link zero T e z = subst Is (sym e) tt
+single_link zero T e z = cc
 single_link (suc d) T e z = omega arith
 
 -- the count of the piece that n leads to tells
@@ -92,11 +90,8 @@ own_on : (n : ℕ) (T : Tables) → SoundTables T → Is (link_ok T n) → singl
     → own_pieces (piece_total T) T n ≡ (n - 1) ∷ own_pieces (piece_total T) T (piece T (n - 1)).next
 unfolding whether◌then◌else◌
 own_on n T S t e =
-    let P = piece_total T in
-    let m = (piece T (n - 1)).next in
-    own_walk P n T ∙ ap (own_in T) (walk_on T n S t (single_link n T e))
-    ∙ ap (λ (b : Bool). whether b then (n - 1) ∷ own_in T (walk P T m) else []) (single_is n _ T (single_link n T e) refl ∙ e)
-    ∙ ap (λ (ds : List ℕ). (n - 1) ∷ ds) (sym (own_walk P m T))
+    let i = single_link n T e in
+    rw (own_walk (piece_total T) n T, own_walk (piece_total T) (piece T (n - 1)).next T, walk_on T n S t i, single_is n _ T i refl, e)
 
 -- so one own piece more is passed
 run_more : (l n : ℕ) (T : Tables) (ds : List ℕ) → (n ≡ 0 → ⊥) → run_of l T n ((n - 1) ∷ ds) ≡ run_of n T (piece T (n - 1)).next ds
@@ -107,7 +102,10 @@ run_more l (suc d) T ds i =
     rw b (λ i. record { last = last_more l d ds i; next = follow T (length ds) (piece T d).next })
 
 pub own_more : (l n : ℕ) (T : Tables) → SoundTables T → Is (link_ok T n) → single T n ≡ true → own_from l T n ≡ own_from n T (piece T (n - 1)).next
+unfolding own_from
 own_more l n T S t e = ap (run_of l T n) (own_on n T S t e) ∙ run_more l n T (own_pieces (piece_total T) T (piece T (n - 1)).next) (single_link n T e)
+
+pub ruleset runs = (own_start, own_stop, own_more, single_link, link_leads, walk_less)
 
 -- ---- the own pieces that the first bytes overlap
 
@@ -116,12 +114,12 @@ abbrev bytes_run : ℕ → ℕ → Tables → ℕ → List ℕ → OwnPart
 bytes_run b l T n ds = record { bytes = b + total (stretches T ds); last = last_or l ds; next = follow T (length ds) n }
 
 -- b bytes of own pieces, the link l to the last of them, and then those that the first m bytes from the link n overlap
-abbrev pub own_part_from : ℕ → ℕ → ℕ → Tables → ℕ → OwnPart
+unfoldable pub own_part_from : ℕ → ℕ → ℕ → Tables → ℕ → OwnPart
 own_part_from b l m T n = bytes_run b l T n (own_pieces (length (cut_out (stretches_from T n) 0 m)) T n)
 
 -- before any own piece is passed
 pub own_part_start : (m n : ℕ) (T : Tables) → own_part_from 0 0 m T n ≡ own_part T n m
-unfolding own_part
+unfolding own_part_from own_part
 own_part_start m n T =
     let own = own_pieces (length (cut_out (stretches_from T n) 0 m)) T n in
     let e : 0 + total (stretches T own) ≡ total (stretches T own) = omega arith in
@@ -135,10 +133,11 @@ bytes_none b l T n (d ∷ ds) z = absurd (omega (arith, ap length z))
 
 -- the piece that n leads to is not own, or no more bytes are asked for
 pub own_part_stop : (b l m n : ℕ) (T : Tables) → single T n ≡ false → own_part_from b l m T n ≡ record { bytes = b; last = l; next = n }
+unfolding own_part_from
 own_part_stop b l m n T e = bytes_none b l T n _ (none_own (length (cut_out (stretches_from T n) 0 m)) n T e)
 
 pub own_part_full : (b l m n : ℕ) (T : Tables) → m ≡ 0 → own_part_from b l m T n ≡ record { bytes = b; last = l; next = n }
-unfolding own_pieces
+unfolding own_part_from own_pieces
 own_part_full b l m n T e =
     let none : length (cut_out (stretches_from T n) 0 m) ≡ 0 = ap length (ap (cut_out (stretches_from T n) 0) e ∙ cut_out_none (stretches_from T n) 0) in
     bytes_none b l T n _ (ap (λ (k : ℕ). own_pieces k T n) none)
@@ -161,9 +160,12 @@ own_first b l k (suc d) T e =
 -- the piece that n leads to is own, and bytes are asked for
 pub own_part_more : (b l m n : ℕ) (T : Tables) → SoundTables T → Is (link_ok T n) → 0 < m → single T n ≡ true
     → own_part_from b l m T n ≡ own_part_from (b + (piece T (n - 1)).len) n (m - (piece T (n - 1)).len) T (piece T (n - 1)).next
+unfolding own_part_from
 own_part_more b l m n T S t h e =
     let rest = length (cut_out (stretches_from T (piece T (n - 1)).next) 0 (m - (piece T (n - 1)).len)) in
     ap (λ (k : ℕ). bytes_run b l T n (own_pieces k T n)) (part_first T n m S t (single_link n T e) h) ∙ own_first b l rest n T e
+
+pub ruleset parts = (own_part_start, own_part_stop, own_part_full, single_link, link_leads, stretches_small, part_total)
 
 -- ---- the own pieces in sound tables
 
@@ -208,11 +210,3 @@ own_laws k n T S t =
       rest = ap (λ (x : List ℕ). drop (length own) (stretches T x)) all ∙ ap (drop (length own)) (stretches_append T own (walk P T m))
           ∙ drop_at (stretches T own) (stretches T (walk P T m)) (length own) (stretches_length T own);
     }
-
--- ---- a piece shortened in place, from the numbers that the code has
-
-pub shorten_done : (T : Tables) (d front back : ℕ) {h : Shape} {q : List ℕ} {o l : ℕ} → o ≡ (piece T d).offset → l ≡ (piece T d).len
-    → Holds q h (set_piece T d (with_place (piece T d) (o + front) (l - front - back)))
-    → Holds q h (set_piece T d (with_place (piece T d) ((piece T d).offset + front) ((piece T d).len - front - back)))
-shorten_done T d front back eo el is =
-    record { shaped = is.shaped; is = is.is ∙ (λ i. set_piece T d (with_place (piece T d) (eo i + front) (el i - front - back))) }

@@ -1,5 +1,5 @@
 // The own pieces of a chain: those that it shares with no other, as each before them; and a piece shortened in place.
-#![tactic(auto)]
+#![tactic(auto, using(tables::proofs::Laws::totals, chain::proofs::Links::link_leads))]
 
 ghost use Rattle.std.specs.Prelude.{◌≡◌, ◌+◌, ◌-◌, ◌≤◌, ◌<◌};
 ghost use Rattle.rules.specs.Basics.{Is};
@@ -33,13 +33,11 @@ pub fn single(pool: &[u8], shape: Shape, link: u16) -> bool
     requires { Opened pool.now shape × Is (link_ok (decode pool.now) link) }
     ensures { result ≡ single (decode pool.now) link }
 {
-    if link == 0 {
-        return false;
-    }
-    tables::piece_count(pool, shape, PieceNumber(link - 1)) == 1
+    link != 0 && tables::piece_count(pool, shape, PieceNumber(link - 1)) == 1
 }
 
 // The own pieces of the chain that starts at `link`: those of a single reference.
+#[tactic(auto, using(tables::proofs::Laws::totals, crate::proofs::Own::runs))]
 pub fn own_run(pool: &[u8], shape: Shape, link: u16) -> OwnRun
     requires { Opened pool.now shape × Is (link_ok (decode pool.now) link) }
     ensures { result ≡ own_run (decode pool.now) link }
@@ -50,13 +48,11 @@ pub fn own_run(pool: &[u8], shape: Shape, link: u16) -> OwnRun
         last = next;
         next = tables::piece_next(pool, shape, PieceNumber(next - 1));
     }
-    OwnRun {
-        last: last,
-        next: next,
-    }
+    OwnRun { last, next }
 }
 
 // The own pieces from `link` on, up to the one in which the first `n` bytes end: those of a single reference.
+#[tactic(auto, using(tables::proofs::Laws::totals, crate::proofs::Own::parts))]
 pub fn own_part(pool: &[u8], shape: Shape, link: u16, n: u32) -> OwnPart
     requires { Opened pool.now shape × Is (link_ok (decode pool.now) link) }
     ensures { result ≡ own_part (decode pool.now) link n }
@@ -64,18 +60,15 @@ pub fn own_part(pool: &[u8], shape: Shape, link: u16, n: u32) -> OwnPart
     let mut bytes = 0;
     let mut last = 0;
     let mut at = link;
-    while bytes < n {
-        if !single(pool, shape, at) {
-            break;
-        }
+    while bytes < n && single(pool, shape, at) {
         last = at;
         let d = PieceNumber(at - 1);
         bytes += chain::piece_bytes(pool, shape, d);
         at = tables::piece_next(pool, shape, d);
     }
     OwnPart {
-        bytes: bytes,
-        last: last,
+        bytes,
+        last,
         next: at,
     }
 }

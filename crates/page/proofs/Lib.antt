@@ -1,3 +1,3 @@
 -- The laws of page.
-pub mod Page
+pub mod Ink
 pub mod Digits

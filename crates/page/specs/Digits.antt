@@ -1,5 +1,5 @@
 -- Numbers of 32 bits as decimal text.
-use Rattle.std.specs.Prelude.{◌≡◌, List, [], ◌∷◌, ◌++◌, ℕ, zero, suc, ◌+◌, ◌-◌, ◌*◌, ◌/◌, ◌%◌, ◌<◌, length, drop, replicate, ltb, eqb}
+use Rattle.std.specs.Prelude.{List, [], ◌∷◌, ◌++◌, ℕ, zero, suc, ◌+◌, ◌-◌, ◌*◌, ◌/◌, ◌%◌, length, replicate, ltb, eqb}
 use Prim.Native.String.{String}
 use Rattle.rules.specs.Basics.{whether◌then◌else◌}
 use Rattle.page.specs.Page.{ascii}
@@ -21,12 +21,6 @@ digits n = digits_in 10 n
 abbrev pub value_from : ℕ → List ℕ → ℕ
 value_from v [] = v
 value_from v (x ∷ xs) = value_from (v * 10 + (x - 48)) xs
-
--- the ten bytes of a text end in the digits of n, from r on
-pub record Spelt (n : ℕ) (text : List ℕ) (r : ℕ) : Type 0 where
-  pub low : r < 10
-  pub long : length text ≡ 10
-  pub is : drop r text ≡ digits n
 
 -- right-aligned to w digits, with spaces
 abbrev pub padded : ℕ → ℕ → List ℕ

@@ -3,14 +3,15 @@ use Rattle.std.specs.Prelude.{◌≡◌, List, [], ◌∷◌, ℕ, ◌+◌, leng
 use Prim.Native.Char.{code}
 use Prim.Native.String.{String, [] as none, ◌∷◌ as ◌then◌}
 use Rattle.rules.specs.Basics.{whether◌then◌else◌}
-use Rattle.page.specs.declared.Cursor.{Cursor}
+use Rattle.page.specs.declared.Page.{Page as Lent}
 
+-- what a page holds
 pub record Page : Type 0 where
   pub bytes : List ℕ
   pub at : ℕ
 
-abbrev pub page : List ℕ → Cursor → Page
-page b c = record { bytes = b; at = c.at }
+abbrev pub page : Lent → Page
+page p = record { bytes = p.bytes.now; at = p.at }
 
 -- the page with the byte x written, if there is room
 abbrev pub ink_byte : Page → ℕ → Page
@@ -21,9 +22,10 @@ unfoldable pub inked : Page → List ℕ → Page
 inked p [] = p
 inked p (x ∷ xs) = inked (ink_byte p x) xs
 
--- r is the page p with the text t written
-pub record Wrote (p r : Page) (t : List ℕ) : Type 0 where
-  pub is : r ≡ inked p t
+-- r is the page p, of the same lent bytes, with the text t written
+pub record Wrote (p r : Lent) (t : List ℕ) : Type 0 where
+  pub lent : r.bytes.ghost_name ≡ p.bytes.ghost_name
+  pub is : page r ≡ inked (page p) t
 
 -- the codes of a quoted text
 abbrev pub ascii : String → List ℕ

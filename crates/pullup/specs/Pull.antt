@@ -1,5 +1,5 @@
 -- The first bytes of a chain in one new piece: what is made, when it can be, and what it leaves.
-use Rattle.std.specs.Prelude.{◌≡◌, true, List, ◌∷◌, ℕ, ◌+◌, ◌≤◌, ◌<◌, length}
+use Rattle.std.specs.Prelude.{◌≡◌, true, List, ◌∷◌, IfSome, ℕ, ◌+◌, ◌≤◌, ◌<◌, length}
 use Rattle.kinds.specs.Limits.{buffer_size}
 use Rattle.rules.specs.Basics.{Is}
 use Rattle.rules.specs.Tables.{Tables, head_of, buffer_count, slip_total, piece_total, buffer_total}
@@ -24,7 +24,7 @@ first_on b n r = record { buffer = b; offset = 0; len = n } ∷ new_of r
 pub record FirstMakable (T : Tables) (r : Tail) (i j b : ℕ) : Type 0 where
   pub room : length (new_of r) < length (free_from T i)
   pub none_between : (d : ℕ) → i < d → d < j → Is (is_free T d) → ⊥
-  pub in_store : (r.length ≡ 0 → ⊥) → r.buffer.0 < buffer_total T
+  pub in_store : IfSome r.window (λ w. w.buffer.0 < buffer_total T)
   pub first_in : b < buffer_total T
   pub counted : (x : ℕ) → buffer_count T x + 1 < 65535
 

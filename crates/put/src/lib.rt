@@ -1,5 +1,5 @@
 // put: bytes into fresh buffers, under a new slip.
-#![tactic(auto)]
+#![tactic(auto, using(crate::proofs::Laws::laws))]
 
 ghost use Rattle.std.specs.Prelude.{◌≡◌, []};
 ghost use Rattle.kinds.specs.Serial.{slip_in};
@@ -24,22 +24,11 @@ pub fn put(pool: &mut [u8], shape: Shape, storage: &mut [u8], input: &[u8]) -> O
         ≡ perform (Put input.now) (lent pool.old storage.old) }
     ensures leaves { Leaves result (state_of (slip (decode pool.new) (slip_in (number_of result)))) }
 {
-    let t = room::next_ready(pool, shape, SlipNumber(0));
-    if t.0 == shape.slips {
-        return Outcome::Refused(Refusal::Slips);
-    }
+    let t: SlipNumber = room::lowest(pool, shape).ok_or(Refusal::Slips)?;
     let count = room::buffers_for(input.len());
-    let pieces = room::piece_room(pool, shape, count);
-    if !pieces.enough {
-        return Outcome::Refused(Refusal::Pieces);
-    }
-    let buffers = room::buffer_room(pool, shape, count);
-    if !buffers.enough {
-        return Outcome::Refused(Refusal::Buffers);
-    }
-    let piece = pieces.lowest;
-    let buffer = buffers.lowest;
+    let piece = room::room_for(pool, shape, count).ok_or(Refusal::Pieces)?;
+    let buffer = room::room_for(pool, shape, count).ok_or(Refusal::Buffers)?;
     transfer::fill_free(pool, shape, storage, input, buffer);
     let first = build::lay(pool, shape, input.len() as u32, count as u16, piece, buffer);
-    build::under_new(pool, shape, t, first)
+    Ok(build::under_new(pool, shape, t, first))
 }

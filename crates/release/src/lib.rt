@@ -1,5 +1,5 @@
 // Release of references: what no reference leads to is freed, and a buffer that no piece lies on any more is cleaned.
-#![tactic(auto)]
+#![tactic(auto, using(tables::proofs::Laws::totals, crate::proofs::Laws::moves))]
 
 ghost use Rattle.std.specs.Prelude.{◌≡◌, ◌<◌, ◌≤◌, pred};
 ghost use Rattle.rules.specs.Tables.{piece, set_piece, with_next};
@@ -26,10 +26,9 @@ fn free_piece(pool: &mut [u8], shape: Shape, storage: &mut [u8], d: PieceNumber)
     let n = tables::buffer_count(pool, shape, b) - 1;
     tables::set_buffer_count(pool, shape, b, n);
     tables::clear_piece(pool, shape, d);
-    if n != 0 {
-        return next;
+    if n == 0 {
+        storage::clean_buffer(storage, b);
     }
-    storage::clean_buffer(storage, b);
     next
 }
 
@@ -67,12 +66,9 @@ pub fn turn(pool: &mut [u8], shape: Shape, storage: &mut [u8], s: SlipNumber, v:
     ensures { Becomes pool.old pool.new shape (λ T. turned_to T s.0 v)
         × (storage.new ≡ turned_storage (decode pool.old) storage.old s.0 v) }
 {
-    let old = tables::slip(pool, shape, s);
+    let old = chain::head_link(pool, shape, s);
     tables::set_slip(pool, shape, s, v);
-    if old == 0 {
-        return;
-    }
-    release(pool, shape, storage, old - 1);
+    release(pool, shape, storage, old);
 }
 
 // Piece `l` takes the next `n`, and its old next is released: a tail put in another's place.
@@ -98,7 +94,7 @@ pub fn hang(pool: &mut [u8], shape: Shape, storage: &mut [u8], s: SlipNumber, la
 {
     if last == 0 {
         turn(pool, shape, storage, s, n + 1);
-        return;
+    } else {
+        relink(pool, shape, storage, PieceNumber(last - 1), n);
     }
-    relink(pool, shape, storage, PieceNumber(last - 1), n);
 }

@@ -1,22 +1,11 @@
--- The cases of an answer's text. Assumes nothing.
+-- What a code without a name is called. Assumes nothing.
 use mathlib.Core.Path.{◌≡◌, refl, sym, ap}
-use mathlib.Core.List.{[], ◌++◌}
+use mathlib.Core.List.{[]}
 use Prim.Native.Nat.{ℕ, zero, suc, ◌-◌, ◌≤◌}
 use native.Mathlib.Omega.{arith}
 use lib.ListN.{length, get_or-eq_default}
-use lib.Dec.{eqb→eq}
-use Rattle.kinds.specs.declared.Answer.{Answer}
-use Rattle.rules.proofs.Logic.{if_T, if_F, eq→eqb}
 use Rattle.page.specs.Page.{ascii}
-use Rattle.page.specs.Digits.{tagged}
-use Rattle.reply.specs.declared.Reply.{Reply}
-use Rattle.reply.specs.Text.{names, name_text, done_text, answer_text}
-
-pub answer_done : (k : Reply) (a : Answer) → a.code ≡ 0 → done_text k a.number ≡ answer_text k a
-answer_done k a h = sym (if_T _ _ _ (eq→eqb a.code 0 h))
-
-pub answer_refused : (k : Reply) (a : Answer) → (a.code ≡ 0 → ⊥) → tagged " -> " a.code ++ name_text a.code ≡ answer_text k a
-answer_refused k a h = sym (if_F _ _ _ (λ t. h (eqb→eq a.code 0 t)))
+use Rattle.reply.specs.Text.{names, name_text}
 
 -- none of the codes 1 to k
 abbrev pub NoneTo : ℕ → ℕ → Type 0

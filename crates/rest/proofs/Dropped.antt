@@ -1,6 +1,8 @@
 -- What drop leaves of a chain is what stays from the place found. Assumes nothing.
-use mathlib.Core.Path.{◌≡◌, refl, sym, ap, subst, ◌∙◌}
+use mathlib.Core.Path.{◌≡◌, refl, sym, subst}
 use mathlib.Core.Bool.{Bool, true, false}
+use mathlib.Core.List.{List}
+use Rattle.std.specs.Prelude.{Option, Some, None, IfSome}
 use Prim.Native.Nat.{ℕ, zero, suc, ◌-◌, ◌<◌}
 use Rattle.rules.specs.Basics.{whether◌then◌else◌}
 use Rattle.rules.specs.Tables.{Tables, piece, head_of, piece_total, buffer_total}
@@ -12,9 +14,9 @@ use Rattle.rules.proofs.Build.{Good}
 use Rattle.rules.proofs.Drop.{dropped_planned}
 use Rattle.chain.specs.declared.Spot.{Spot}
 use Rattle.chain.specs.Find.{spot_of}
+use Rattle.tables.specs.declared.Window.{Window}
 use Rattle.rest.specs.declared.Tail.{Tail}
-use Rattle.rest.specs.Rest.{rest_from, new_of, Stays}
-use Rattle.rest.proofs.Rest.{new_one}
+use Rattle.rest.specs.Rest.{rest_from, stretch_in, new_of, Stays}
 
 -- what stays from a place
 abbrev rest_at : Tables → Spot → Plan
@@ -39,18 +41,21 @@ drop_plan_at (suc k) T own (suc d) off =
 module _ (T : Tables) (s off : ℕ) {head : ℕ} {at : Spot} (from : head ≡ head_of T s) (is : at ≡ spot_of (piece_total T) T true head off) where
   -- what drop leaves of the chain is what stays from there
   pub dropped_at : dropped T s off ≡ rest_from T at.own at.link at.into
-  dropped_at =
-      let e : spot_of (piece_total T) T true (head_of T s) off ≡ at = ap (λ (n : ℕ). spot_of (piece_total T) T true n off) (sym from) ∙ sym is in
-      drop_plan_at (piece_total T) T true (head_of T s) off ∙ ap (λ (x : Spot). rest_from T x.own x.link x.into) e
+  dropped_at = rw (is, from) (drop_plan_at (piece_total T) T true (head_of T s) off)
+
+-- a good stretch lies on one of B buffers
+window_good : (Z : List ℕ) (B : ℕ) (o : Option Window) → Good Z B (stretch_in o) → IfSome o (λ w. w.buffer.0 < B)
+window_good Z B None g = tt
+window_good Z B (Some w) g = g.0
 
 module _ (T : Tables) (s n : ℕ) {p : Plan} {t : Tail} (e : dropped T s n ≡ p) (is : Stays t p) where
   -- what is still to be made is what drop makes
   pub more_dropped : new_of t ≡ (dropped T s n).more
-  more_dropped = is.more_is ∙ ap (λ (x : Plan). x.more) (sym e)
+  more_dropped = rw e is.more_is
 
   pub next_dropped : t.next ≡ (dropped T s n).tail
-  next_dropped = is.tail_is ∙ ap (λ (x : Plan). x.tail) (sym e)
+  next_dropped = rw e is.tail_is
 
   -- the buffer of a new piece is one of the pool's
-  pub buffer_dropped : SoundNow T → (t.length ≡ 0 → ⊥) → t.buffer.0 < buffer_total T
-  buffer_dropped h z = (subst (Good T.stock (buffer_total T)) (sym more_dropped ∙ new_one t z) (dropped_planned T s n h).good).0
+  pub buffer_dropped : SoundNow T → IfSome t.window (λ w. w.buffer.0 < buffer_total T)
+  buffer_dropped h = window_good T.stock (buffer_total T) t.window (subst (Good T.stock (buffer_total T)) (sym more_dropped) (dropped_planned T s n h).good)

@@ -1,14 +1,14 @@
 -- A chain made under a slip whose old chain was released first, from the numbers that the code has. Assumes nothing.
 use mathlib.Core.Path.{◌≡◌, refl, sym, ap, subst, ◌∙◌}
 use mathlib.Core.List.{List, [], ◌∷◌}
-use Prim.Native.Nat.{ℕ, ◌+◌, ◌-◌, ◌≤◌, ◌<◌}
+use Prim.Native.Nat.{ℕ, ◌+◌, ◌≤◌, ◌<◌}
 use native.Mathlib.Numerals.{add-one}
 use native.Mathlib.Omega.{arith}
 use lib.ListN.{length}
-use Rattle.rules.specs.Basics.{Is, places}
+use Rattle.rules.specs.Basics.{Is}
 use Rattle.rules.specs.Tables.{Tables, buffer_count, holding, slip_total, piece_total, buffer_total, set_slip}
 use Rattle.rules.specs.Bytes.{decode}
-use Rattle.rules.specs.Chain.{State, Stretch, state_of, own_of, with_tables}
+use Rattle.rules.specs.Chain.{State, Stretch, own_of, with_tables}
 use Rattle.rules.specs.Room.{is_free, is_free_with, free_pieces, free_from}
 use Rattle.rules.specs.Release.{turned}
 use Rattle.rules.specs.Build.{Plan, built, built_link, under_new, under_freed}
@@ -44,14 +44,14 @@ module _ {T : Tables} (p : Plan) (s : ℕ) (ok : Planned T p) (l : s < slip_tota
 
   -- as many pieces and buffers
   pub freed_pieces : piece_total there ≡ piece_total T
-  freed_pieces = subst (λ (X : Tables). piece_total X ≡ piece_total T) same (emptied_sizes bare_there p s ok l).pieces_size
+  freed_pieces = rw (← same) (emptied_sizes bare_there p s ok l).pieces_size
 
   pub freed_buffers : buffer_total there ≡ buffer_total T
-  freed_buffers = subst (λ (X : Tables). buffer_total X ≡ buffer_total T) same (emptied_sizes bare_there p s ok l).counts_size
+  freed_buffers = rw (← same) (emptied_sizes bare_there p s ok l).counts_size
 
   -- how many are free, and which: those that were or are given back, from a number on below which none is
   pub freed_count : length (free_pieces there) ≡ length (own_of p.base s) + length (free_pieces T)
-  freed_count = subst (λ (X : Tables). length (free_pieces X) ≡ length (own_of p.base s) + length (free_pieces T)) same (emptied_frees bare_there p s ok l).many
+  freed_count = rw (← same) (emptied_frees bare_there p s ok l).many
 
   pub freed_free : (d : ℕ) → Is (is_free there d) → Is (is_free_with T (own_of p.base s) d)
   freed_free d t = subst Is ((emptied_frees bare_there p s ok l).which d) (subst (λ (X : Tables). Is (is_free X d)) (sym same) t)
@@ -61,7 +61,7 @@ module _ {T : Tables} (p : Plan) (s : ℕ) (ok : Planned T p) (l : s < slip_tota
 
   -- what stays is held
   there_sound : SoundWith (p.tail ∷ []) there
-  there_sound = subst (SoundWith (p.tail ∷ [])) same (emptied_sound bare_there p s ok l)
+  there_sound = rw (← same) (emptied_sound bare_there p s ok l)
 
   -- no buffer's count is higher than there are pieces
   pub freed_counts : (b : ℕ) → buffer_count there b ≤ piece_total T
@@ -70,8 +70,7 @@ module _ {T : Tables} (p : Plan) (s : ℕ) (ok : Planned T p) (l : s < slip_tota
   -- the link to the new chain leads nowhere or to one of the pieces
   pub freed_link : built_link (free_pieces there) p.more p.tail ≤ piece_total T
   freed_link =
-      subst (λ (X : Tables). built_link (free_pieces X) p.more p.tail ≤ piece_total T) same
-      (let E = (emptied bare_there p s).tables in
+      rw (← same) (let E = (emptied bare_there p s).tables in
       let q = made_there bare_there p s ok l in
       let k = plan_built q (free_pieces E) (planned_there bare_there p s ok l) (free_pieces_lem E) in
       omega (arith, held_below _ _ k.1, (built_kept E (free_pieces E) p.more p.tail).pieces_size, (emptied_sizes bare_there p s ok l).pieces_size))

@@ -1,5 +1,5 @@
 // What stays of a chain from a place on: held while what stands before it is given back, its first piece trimmed where it is own, copied where it is not.
-#![tactic(auto)]
+#![tactic(auto, using(tables::proofs::Laws::totals, crate::proofs::Rest::cases, crate::proofs::Rest::shared_place))]
 
 ghost use Rattle.std.specs.Prelude.{◌≡◌, ◌-◌, ◌≤◌, ◌<◌, length};
 ghost use Rattle.rules.specs.Basics.{Is};
@@ -18,36 +18,35 @@ ghost use Rattle.build.specs.Clone.{Copyable};
 ghost use Rattle.release.specs.Release.{turned_to, turned_storage};
 ghost use Rattle.rest.specs.Rest.{rest_from, new_of, copy_of, Stays, Makable};
 
-use kinds::{BufferNumber, PieceNumber, SlipNumber};
+use chain::Spot;
+use kinds::{PieceNumber, SlipNumber};
 use layout::Shape;
+use tables::Window;
 
-// What stays from a place on: the part of a buffer for a new first piece, none where its length is 0, and the link behind it (a descriptor to be made).
+// What stays from a place on: the window of a new first piece, where it needs one, and the link behind it (a descriptor to be made).
 #[derive(Clone, Copy)]
 pub struct Tail {
-    pub buffer: BufferNumber,
-    pub offset: u16,
-    pub length: u16,
+    pub window: Option<Window>,
     pub next: u16,
 }
 
-// Holds what stands behind piece `d`, to which there is one reference more, and answers what `d` has from its byte `n` on: a descriptor to be cloned.
-fn hold_behind(pool: &mut [u8], shape: Shape, d: PieceNumber, n: u16) -> Tail
+// Holds what stands behind piece `d`, to which there is one reference more; answers what `d` has from its byte `n` on,
+// and the link behind it: a descriptor to be cloned.
+fn hold_behind(pool: &mut [u8], shape: Shape, d: PieceNumber, n: u16) -> (Window, u16)
     requires { Shaped pool.old shape × Copyable (decode pool.old) d.0 n
         × Sharable (decode pool.old) (piece (decode pool.old) d.0).next }
     ensures { Becomes pool.old pool.new shape (λ T. shared T (piece T d.0).next)
-        × (result ≡ copy_of (decode pool.old) d.0 n) }
+        × (result ≡ (copy_of (decode pool.old) d.0 n, (piece (decode pool.old) d.0).next)) }
 {
-    let buffer = tables::piece_buffer(pool, shape, d);
-    let offset = tables::piece_offset(pool, shape, d);
-    let length = tables::piece_length(pool, shape, d);
+    let w = tables::piece_window(pool, shape, d);
     let next = tables::piece_next(pool, shape, d);
     build::share(pool, shape, next);
-    Tail {
-        buffer: buffer,
-        offset: offset + n,
-        length: length - n,
-        next: next,
-    }
+    let window = Window {
+        buffer: w.buffer,
+        offset: w.offset + n,
+        len: w.len - n,
+    };
+    (window, next)
 }
 
 // The free piece `f` becomes what piece `d` has from its byte `n` on, before the same next,
@@ -58,112 +57,81 @@ pub fn clone_rest(pool: &mut [u8], shape: Shape, d: PieceNumber, n: u16, f: Piec
     ensures { Becomes pool.old pool.new shape
         (λ T. taken (shared T (piece T d.0).next) f.0 (fresh (stretch (shorter (piece T d.0) n)) (piece T d.0).next)) }
 {
-    let tail = hold_behind(pool, shape, d, n);
-    build::take_piece(
-        pool,
-        shape,
-        f,
-        tail.buffer,
-        tail.offset,
-        tail.length,
-        tail.next,
-    );
+    let (window, next) = hold_behind(pool, shape, d, n);
+    build::take_piece(pool, shape, f, window, next);
 }
 
 // How many new pieces what stays takes, 0 or 1: the descriptors wanted.
-pub fn wanted(link: u16, into: u32, own: bool) -> u16
-    ensures { (T : Tables) → result ≡ length (rest_from T own link into).more }
+pub fn wanted(at: Spot) -> u16
+    ensures { (T : Tables) → result ≡ length (rest_from T at.own at.link at.into).more }
 {
-    if link == 0 {
-        return 0;
-    }
-    if into == 0 {
-        return 0;
-    }
-    if own {
-        return 0;
-    }
-    1
-}
-
-// What stays needs no new piece: it is what `next` leads to, a chain that is there.
-fn pinned(next: u16) -> Tail
-    ensures { result ≡ record { buffer = record { 0 = 0 }; offset = 0; length = 0; next = next } }
-{
-    Tail {
-        buffer: BufferNumber(0),
-        offset: 0,
-        length: 0,
-        next: next,
+    if at.link == 0 || at.into == 0 || at.own {
+        0
+    } else {
+        1
     }
 }
 
-// Holds what stays from `into` bytes into the piece that `link` leads to: there is one reference more to it, and an own piece is trimmed in place.
+// Holds what stays from a place on: there is one reference more to it, and an own piece is trimmed in place.
 // Answers what is still to be made of it: a tail pinned.
-fn hold(pool: &mut [u8], shape: Shape, link: u16, into: u32, own: bool) -> Tail
-    requires opened { Opened pool.old shape × Is (link_ok (decode pool.old) link) }
-    requires into_bound { (link ≡ 0 → ⊥) → into < (piece (decode pool.old) (link - 1)).len }
-    ensures { Becomes pool.old pool.new shape (λ T. (rest_from T own link into).base)
-        × Stays result (rest_from (decode pool.old) own link into) }
+fn hold(pool: &mut [u8], shape: Shape, at: Spot) -> Tail
+    requires opened { Opened pool.old shape × Is (link_ok (decode pool.old) at.link) }
+    requires into_bound { (at.link ≡ 0 → ⊥) → at.into < (piece (decode pool.old) (at.link - 1)).len }
+    ensures { Becomes pool.old pool.new shape (λ T. (rest_from T at.own at.link at.into).base)
+        × Stays result (rest_from (decode pool.old) at.own at.link at.into) }
 {
-    if link == 0 {
-        return pinned(0);
+    let there = Tail {
+        window: None,
+        next: at.link,
+    };
+    if at.link == 0 {
+        return there;
     }
-    if into == 0 {
-        build::share(pool, shape, link);
-        return pinned(link);
+    if at.into == 0 {
+        build::share(pool, shape, at.link);
+        return there;
     }
-    let d = PieceNumber(link - 1);
-    if own {
-        build::share(pool, shape, link);
-        own::shorten(pool, shape, d, into as u16, 0);
-        return pinned(link);
+    let d = PieceNumber(at.link - 1);
+    let n = at.into as u16;
+    if at.own {
+        build::share(pool, shape, at.link);
+        own::shorten(pool, shape, d, n, 0);
+        return there;
     }
-    hold_behind(pool, shape, d, into as u16)
+    let (window, next) = hold_behind(pool, shape, d, n);
+    Tail {
+        window: Some(window),
+        next,
+    }
 }
 
 // Slip `s` takes what stays from a place on, where that needs no new piece, and what stands before it is released: a handle moved along its chain.
-pub fn move_to(
-    pool: &mut [u8],
-    shape: Shape,
-    storage: &mut [u8],
-    s: SlipNumber,
-    link: u16,
-    into: u32,
-    own: bool,
-)
-    requires opened { Opened pool.old shape × Is (link_ok (decode pool.old) link) × (s.0 < shape.slips) }
-    requires into_bound { ((link ≡ 0 → ⊥) → into < (piece (decode pool.old) (link - 1)).len)
+pub fn move_to(pool: &mut [u8], shape: Shape, storage: &mut [u8], s: SlipNumber, at: Spot)
+    requires opened { Opened pool.old shape × Is (link_ok (decode pool.old) at.link) × (s.0 < shape.slips) }
+    requires into_bound { ((at.link ≡ 0 → ⊥) → at.into < (piece (decode pool.old) (at.link - 1)).len)
         × Backs storage.old shape }
     ensures { Becomes pool.old pool.new shape
-        (λ T. turned_to (rest_from T own link into).base s.0 (holding (rest_from T own link into).tail))
-        × (storage.new ≡ turned_storage (rest_from (decode pool.old) own link into).base storage.old s.0
-        (holding (rest_from (decode pool.old) own link into).tail)) }
+        (λ T. turned_to (rest_from T at.own at.link at.into).base s.0 (holding (rest_from T at.own at.link at.into).tail))
+        × (storage.new ≡ turned_storage (rest_from (decode pool.old) at.own at.link at.into).base storage.old s.0
+        (holding (rest_from (decode pool.old) at.own at.link at.into).tail)) }
 {
-    let tail = hold(pool, shape, link, into, own);
+    let tail = hold(pool, shape, at);
     release::turn(pool, shape, storage, s, tail.next + 1);
 }
 
 // Gives back what release frees of the chain of slip `s` before a place: what stays from there is held, the slip is emptied and its old chain released.
 // Answers what stays: a front freed before its numbers are taken again.
-pub fn give_back(
-    pool: &mut [u8],
-    shape: Shape,
-    storage: &mut [u8],
-    s: SlipNumber,
-    link: u16,
-    into: u32,
-    own: bool,
-) -> Tail
-    requires opened { Opened pool.old shape × Is (link_ok (decode pool.old) link) × (s.0 < shape.slips) }
-    requires into_bound { ((link ≡ 0 → ⊥) → into < (piece (decode pool.old) (link - 1)).len)
+pub fn give_back(pool: &mut [u8], shape: Shape, storage: &mut [u8], s: SlipNumber, at: Spot) -> Tail
+    requires opened { Opened pool.old shape × Is (link_ok (decode pool.old) at.link) × (s.0 < shape.slips) }
+    requires into_bound { ((at.link ≡ 0 → ⊥) → at.into < (piece (decode pool.old) (at.link - 1)).len)
         × Backs storage.old shape }
-    ensures becomes { Becomes pool.old pool.new shape (λ T. turned_to (rest_from T own link into).base s.0 (holding 0))
-        × Stays result (rest_from (decode pool.old) own link into) }
+    ensures becomes { Becomes pool.old pool.new shape
+        (λ T. turned_to (rest_from T at.own at.link at.into).base s.0 (holding 0))
+        × Stays result (rest_from (decode pool.old) at.own at.link at.into) }
     ensures storage_after { storage.new
-        ≡ turned_storage (rest_from (decode pool.old) own link into).base storage.old s.0 (holding 0) }
+        ≡ turned_storage (rest_from (decode pool.old) at.own at.link at.into).base storage.old s.0 (holding 0) }
 {
-    let tail = hold(pool, shape, link, into, own);
+    let tail = hold(pool, shape, at);
     release::turn(pool, shape, storage, s, 1);
     tail
 }
@@ -174,18 +142,10 @@ pub fn make(pool: &mut [u8], shape: Shape, tail: Tail, from: PieceNumber) -> u16
     ensures { Becomes pool.old pool.new shape (λ T. built T (free_from T from.0) (new_of tail) tail.next)
         × (result ≡ built_link (free_from (decode pool.old) from.0) (new_of tail) tail.next) }
 {
-    if tail.length == 0 {
+    let Some(window) = tail.window else {
         return tail.next;
-    }
-    let f = room::next_free_piece(pool, shape, from);
-    build::take_piece(
-        pool,
-        shape,
-        f,
-        tail.buffer,
-        tail.offset,
-        tail.length,
-        tail.next,
-    );
+    };
+    let f = room::next_free(pool, shape, from);
+    build::take_piece(pool, shape, f, window, tail.next);
     f.0 + 1
 }

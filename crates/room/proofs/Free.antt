@@ -1,44 +1,22 @@
 -- The numbers that pass a test, by a scan from the lowest on: the first, and whether there are enough. Assumes nothing.
 use mathlib.Core.Path.{◌≡◌, refl, sym, ap, subst, ◌∙◌}
-use mathlib.Core.Bool.{Bool, true, false, not, ◌&&◌}
+use mathlib.Core.Bool.{Bool, true, false}
 use mathlib.Core.List.{List, [], ◌∷◌}
 use Prim.Native.Nat.{ℕ, zero, suc, ◌+◌, ◌-◌, ◌≤◌, ◌<◌}
 use native.Mathlib.Numerals.{add-one}
 use native.Mathlib.Decide.{dec_lt}
 use native.Mathlib.Omega.{arith}
 use lib.ListN.{length, get_or}
-use borrow.Author.Tests.{eq-eqb, ne_eqb, le-leb, lt-leb}
-use lib.Dec.{eqb, leb, leb-suc-suc, ltb, lt→ltb, ltb→lt}
-use Rattle.kinds.specs.Serial.{last_serial}
-use Rattle.kinds.specs.declared.Serial.{Serial}
+use borrow.Author.Tests.{le-leb, lt-leb, lt-ltb, le-ltb}
+use Rattle.std.specs.Bool.{then_some}
+use lib.Dec.{leb, leb-suc-suc, ltb, lt→ltb, ltb→lt}
 use Rattle.rules.specs.Basics.{Is, whether◌then◌else◌, places, bit}
-use Rattle.rules.specs.Tables.{Tables, slip, serial, slip_total, piece_total, buffer_total}
+use Rattle.rules.specs.Tables.{Tables, slip_total, piece_total, buffer_total}
 use Rattle.rules.specs.Room.{is_ready, is_free, is_unheld, ready_slips, free_pieces, free_buffers, new_slip}
 use Rattle.rules.proofs.Logic.{if_T, if_F, if_either, bit_one, is_true}
 use Rattle.rules.proofs.Sums.{sum_to_ones}
 use Rattle.rules.proofs.Room.{places_count_0}
-use Rattle.room.specs.Free.{first_or, first_from, lowest_for, enough_from, RoomFor}
-
--- ---- tests against zero
-
--- what was loaded, v, tells of the entry m
-pub is_zero : {v m : ℕ} → v ≡ m → v ≡ 0 → eqb m 0 ≡ true
-is_zero {v} {m} e z = eq-eqb m 0 (omega arith)
-
-pub not_zero : {v m : ℕ} → v ≡ m → (v ≡ 0 → ⊥) → eqb m 0 ≡ false
-not_zero {v} {m} e z = ne_eqb m 0 (omega arith)
-
--- ---- slips that may be given
-
--- a held slip is not one
-pub ready_held : (T : Tables) (s : ℕ) {v : ℕ} → v ≡ slip T s → (v ≡ 0 → ⊥) → false ≡ is_ready T s
-ready_held T s e n = sym (ap (λ (b : Bool). b && not (b && eqb (serial T s) last_serial)) (not_zero e n))
-
--- a vacant slip is one just where its serial is not the last
-pub ready_vacant : (T : Tables) (s : ℕ) {v : ℕ} {k : Serial} {b : Bool} → v ≡ slip T s → v ≡ 0 → k ≡ record { 0 = serial T s } → b ≡ eqb k.0 last_serial
-    → not b ≡ is_ready T s
-ready_vacant T s e z k l =
-    ap not (l ∙ ap (λ (x : Serial). eqb x.0 last_serial) k) ∙ sym (ap (λ (b : Bool). b && not (b && eqb (serial T s) last_serial)) (is_zero e z))
+use Rattle.room.specs.Free.{first_or, first_from, lowest_for, enough_from, RoomFor, LowestIn, RoomIn}
 
 -- ---- the first
 
@@ -65,6 +43,8 @@ module _ (f : ℕ → Bool) (i n : ℕ) where
   pub first_past : i < n → f i ≡ false → first_from f i n ≡ first_from f (i + 1) n
   unfolding first_from
   first_past h t = ap (first_or n) (past h t) ∙ ap (λ (x : ℕ). first_or n (places f x (n - x))) (sym (add-one i))
+
+pub ruleset firsts = (first_end, first_here, first_past)
 
 -- ---- the first, and the rest of the list
 
@@ -176,7 +156,7 @@ unfolding places
 none_of f i = refl
 
 -- none that passes is below the first
-pub places_skip : (f : ℕ → Bool) (n : ℕ) {r : ℕ} → r ≡ first_from f 0 n → places f r (n - r) ≡ places f 0 n
+places_skip : (f : ℕ → Bool) (n : ℕ) {r : ℕ} → r ≡ first_from f 0 n → places f r (n - r) ≡ places f 0 n
 places_skip f n {r} e =
     elim (dec_lt r n) [
       | yes h ↦
@@ -222,16 +202,36 @@ module _ (f : ℕ → Bool) (k i n : ℕ) where
   pub enough_past : i < n → f i ≡ false → enough_from f k (i + 1) n ≡ enough_from f k i n
   enough_past b t = ap (λ (j : ℕ). enough_from f k j n) (add-one i) ∙ ap (λ (l : List ℕ). leb k (length l)) (sym (past f i n b t))
 
+pub ruleset enoughs = (enough_none, enough_here, enough_last, enough_past)
+
 -- ---- the lowest, and whether there are enough
 
 module _ (f : ℕ → Bool) (k n : ℕ) where
-  -- none is wanted
-  pub room_none : k ≡ 0 → RoomFor f k n 0 true
-  room_none z = (sym (ap (λ (j : ℕ). lowest_for f j n) z), sym (le-leb k (length (places f 0 n)) (omega arith)))
+  -- some are wanted, and there is no lowest
+  pub room_empty : (k ≡ 0 → ⊥) → first_from f 0 n ≡ n → false ≡ leb k (length (places f 0 n))
+  room_empty h e = sym (lt-leb k (length (places f 0 n)) (omega (arith, h, ap length (all_none f n refl e))))
 
-  -- some are: none that passes is below the lowest
+  -- or there is: none that passes is below it
   pub room_some : {r : ℕ} {b : Bool} → (k ≡ 0 → ⊥) → r ≡ first_from f 0 n → b ≡ enough_from f k r n → RoomFor f k n r b
   room_some h e w = (e ∙ sym (lowest_some f k n h), w ∙ ap (λ (l : List ℕ). leb k (length l)) (places_skip f n e))
+
+-- ---- the lowest, if there is one
+
+module _ {N : Type 0} (number : N → ℕ) (f : ℕ → Bool) (n : ℕ) (x : N) where
+  -- it is the first, where that is below n
+  pub lowest_in : number x ≡ first_from f 0 n → LowestIn number f n (then_some (ltb (number x) n) x)
+  lowest_in e =
+      elim (dec_lt (number x) n) [
+        | yes h ↦ rw (lt-ltb (number x) n h) (e, h)
+        | no h ↦ rw (le-ltb (number x) n (omega arith)) (omega (arith, first_most f 0 n, e))
+      ]
+
+  -- the lowest wanted is given where there are enough
+  pub room_in : (k : ℕ) (b : Bool) → RoomFor f k n (number x) b → RoomIn number f k n (then_some b x)
+  room_in k true r = r
+  room_in k false r = r.1
+
+-- ---- where none below passes
 
 -- where i does not pass, those from i on are those after it
 under_from : (f : ℕ → Bool) (i k j : ℕ) → (Is (f i) → ⊥) → j ≡ k - 1 → places f i k ≡ places f (suc i) j

@@ -1,5 +1,5 @@
 -- The lowest free numbers.
-use Rattle.std.specs.Prelude.{◌≡◌, Bool, List, [], ◌∷◌, ℕ, zero, suc, ◌-◌, length, leb}
+use Rattle.std.specs.Prelude.{◌≡◌, ◌<◌, Bool, true, false, List, [], ◌∷◌, Option, MatchOption, ℕ, zero, suc, ◌-◌, length, leb}
 use Rattle.rules.specs.Basics.{places}
 
 -- the first of a list, or n where it has none
@@ -23,3 +23,11 @@ enough_from f k i n = leb k (length (places f i (n - i)))
 -- r is the lowest below n that passes, where any is wanted, and b says whether k pass
 abbrev pub RoomFor : (ℕ → Bool) → ℕ → ℕ → ℕ → Bool → Type 0
 RoomFor f k n r b = (r ≡ lowest_for f k n) × (b ≡ leb k (length (places f 0 n)))
+
+-- o is the lowest below n that passes, or nothing where none does
+abbrev pub LowestIn : {N : Type 0} → (N → ℕ) → (ℕ → Bool) → ℕ → Option N → Type 0
+LowestIn number f n o = MatchOption o (first_from f 0 n ≡ n) (λ x. (number x ≡ first_from f 0 n) × (number x < n))
+
+-- o is the lowest below n that passes, or 0 where none is wanted, if k pass; and nothing if fewer do
+abbrev pub RoomIn : {N : Type 0} → (N → ℕ) → (ℕ → Bool) → ℕ → ℕ → Option N → Type 0
+RoomIn number f k n o = MatchOption o (false ≡ leb k (length (places f 0 n))) (λ x. RoomFor f k n (number x) true)

@@ -26,4 +26,4 @@ module _ {Z : List ℕ} {b a z : ℕ} (l : Place Z b a z) where
 
   -- it lies in the storage
   pub place_inside : (B : ℕ) (st : List ℕ) → Fit Z B st → b < B → a + z ≤ length st
-  place_inside B st f h = omega (arith, l.start, l.size, start_step Z b B h)
+  place_inside B st f h = omega (arith, start_step Z b B h)

@@ -14,22 +14,18 @@ const SIZE: usize = BufferNumber::SIZE as usize;
 pub fn zero(s: &mut [u8])
     ensures { s.new ≡ replicate (length s.old) 0 }
 {
-    let mut i = 0;
-    while i < s.len() {
-        s[i] = 0;
-        i += 1;
+    for x in s.iter_mut() {
+        *x = 0;
     }
 }
 
-// Copies `src` over `dst`, of the same length: a memcpy.
+// Copies `src` over `dst`, of the same length, by a loop, which the compiler unrolls where it knows the length: a memcpy.
 pub fn copy(dst: &mut [u8], src: &[u8])
     requires { length dst.old ≡ length src.now }
     ensures { dst.new ≡ src.now }
 {
-    let mut i = 0;
-    while i < dst.len() {
-        dst[i] = src[i];
-        i += 1;
+    for (i, x) in src.iter().enumerate() {
+        dst[i] = *x;
     }
 }
 
@@ -43,7 +39,7 @@ pub fn fill(part: &mut [u8], input: &[u8])
         copy(part, input);
         return;
     }
-    copy(&mut part[..n], input);
+    part[..n].copy_from_slice(input);
     zero(&mut part[n..]);
 }
 
@@ -53,18 +49,15 @@ pub fn fill_buffer(storage: &mut [u8], b: BufferNumber, input: &[u8])
     ensures { storage.new ≡ filled_at storage.old (buffer_size * b.0) buffer_size input.now }
 {
     let start = b.start();
-    let end = start + SIZE;
-    fill(&mut storage[start..end], input);
+    fill(&mut storage[start..start + SIZE], input);
 }
 
-// Sets every byte of buffer `b` to zero: only its stretch of storage is lent (a cluster cleared).
+// Sets every byte of buffer `b` to zero, as a fill with nothing: only its stretch of storage is lent (a cluster cleared).
 pub fn clean_buffer(storage: &mut [u8], b: BufferNumber)
     requires { buffer_size * b.0 + buffer_size ≤ length storage.old }
     ensures { storage.new ≡ filled_at storage.old (buffer_size * b.0) buffer_size [] }
 {
-    let start = b.start();
-    let end = start + SIZE;
-    zero(&mut storage[start..end]);
+    fill_buffer(storage, b, &[]);
 }
 
 // Copies the `n` bytes of `src` from `from` on over those of `dst` from `at` on, at most a
@@ -73,26 +66,23 @@ pub fn copy_part(dst: &mut [u8], at: usize, src: &[u8], from: usize, n: usize)
     requires { (at + n ≤ length dst.old) × (from + n ≤ length src.now) × (n ≤ buffer_size) }
     ensures { dst.new ≡ take at dst.old ++ (take n (drop from src.now) ++ drop (at + n) dst.old) }
 {
-    let end = at + n;
-    let last = from + n;
     let mut block = [0u8; SIZE];
-    copy(&mut block[..n], &src[from..last]);
-    copy(&mut dst[at..end], &block[..n]);
+    block[..n].copy_from_slice(&src[from..from + n]);
+    dst[at..at + n].copy_from_slice(&block[..n]);
 }
 
 // Sets the bytes of buffer `b` from `at` on to the `n` bytes of storage from `from` on, by way of a local array,
-// as copy_part: only the buffer's stretch is lent to be written (a cluster write from another).
+// as copy_part: only these bytes of the buffer are lent to be written (a cluster write from another).
 pub fn fill_part(storage: &mut [u8], b: BufferNumber, at: usize, from: usize, n: usize)
     requires { (buffer_size * b.0 + buffer_size ≤ length storage.old) × (at + n ≤ buffer_size) × (from + n ≤ length storage.old) }
     ensures { storage.new
         ≡ take (buffer_size * b.0 + at) storage.old
         ++ (take n (drop from storage.old) ++ drop (buffer_size * b.0 + at + n) storage.old) }
 {
-    let start = b.start();
-    let end = start + SIZE;
+    let to = b.start() + at;
     let mut block = [0u8; SIZE];
     copy_part(&mut block, 0, storage, from, n);
-    copy_part(&mut storage[start..end], at, &block, 0, n);
+    storage[to..to + n].copy_from_slice(&block[..n]);
 }
 
 // Sets the bytes of buffer `b` from `n` on to zero: only its stretch is lent (the rest of a cluster cleared).
@@ -103,7 +93,5 @@ pub fn fill_rest(storage: &mut [u8], b: BufferNumber, n: usize)
         ++ (replicate (buffer_size - n) 0 ++ drop (buffer_size * b.0 + buffer_size) storage.old) }
 {
     let start = b.start();
-    let from = start + n;
-    let end = start + SIZE;
-    zero(&mut storage[from..end]);
+    zero(&mut storage[start + n..start + SIZE]);
 }

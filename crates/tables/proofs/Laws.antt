@@ -1,9 +1,9 @@
 -- Where the entries of a pool stand: what a load gives, and what a store leaves.
-use Prim.Native.Nat.{ℕ, zero, suc, ◌+◌, ◌-◌, ◌*◌, ◌%◌, ◌<◌, ◌≤◌}
+use Prim.Native.Nat.{ℕ, zero, suc, ◌+◌, ◌*◌, ◌%◌, ◌<◌, ◌≤◌}
 use mathlib.Core.Path.{◌≡◌, refl, sym, ap, ap₂, ◌∙◌}
 use mathlib.Core.Logic.{◌≢◌}
 use mathlib.Core.Bool.{Bool, true, false}
-use mathlib.Core.List.{List, [], ◌∷◌, ◌++◌}
+use mathlib.Core.List.{List, [], ◌∷◌}
 use native.Mathlib.Nat.{mod-eq_of_lt}
 use native.Mathlib.Omega.{arith}
 use lib.Dec.{eqb}
@@ -96,32 +96,13 @@ module _ (p : List ℕ) where
   unfolding decode
   count_at_lem b h = get_d_table (buffers_in p) _ b 0 h
 
-  pub field_at : (d k : ℕ) → d < pieces_in p → k < 5 → field k (piece (decode p) d) ≡ get16 p (piece_at (slips_in p) d + 2 * k)
-  field_at d k h five = ap (field k) (piece_at_lem d h ∙ in_fields p (piece_at (slips_in p) d)) ∙ piece_of_field (λ j. get16 p (piece_at (slips_in p) d + 2 * j)) k five
-
--- ---- loads
-
-module _ {p : List ℕ} {h : Shape} {a r : ℕ} (is : Shaped p h) (got : r ≡ get16 p a) where
-  pub load_slip : (s : ℕ) → s < h.slips → a ≡ slip_at s → r ≡ slip (decode p) s
-  load_slip s b e = got ∙ ap (get16 p) e ∙ sym (slip_at_lem p s (omega arith))
-
-  -- a serial that was loaded fits 16 bits
-  pub load_serial : (s : ℕ) → s < h.slips → r < 65536 → a ≡ serial_at s → r ≡ serial (decode p) s
-  load_serial s b small e =
-      let g : r ≡ get16 p (serial_at s) = got ∙ ap (get16 p) e in
-      g ∙ sym (mod-eq_of_lt (omega arith)) ∙ sym (serial_at_lem p s (omega arith))
-
-  pub load_field : (d k : ℕ) → d < h.pieces → k < 5 → a ≡ piece_at h.slips d + 2 * k → r ≡ field k (piece (decode p) d)
-  load_field d k b five e =
-      let f : a ≡ piece_at (slips_in p) d + 2 * k = omega arith in
-      got ∙ ap (get16 p) f ∙ sym (field_at p d k (omega arith) five)
-
-  pub load_count : (b : ℕ) → b < h.buffers → a ≡ count_at h.pieces h.slips b → r ≡ buffer_count (decode p) b
-  load_count b l e =
-      let f : a ≡ count_at (pieces_in p) (slips_in p) b = omega arith in
-      got ∙ ap (get16 p) f ∙ sym (count_at_lem p b (omega arith))
+-- what is loaded at its place is the entry
+pub ruleset loads = (slip_at_lem, serial_at_lem, piece_at_lem, count_at_lem)
 
 -- ---- the tables of a pool
+
+-- its header states the lengths of its tables
+pub ruleset totals = (decode_slips, decode_pieces, decode_counts)
 
 module _ {p : List ℕ} {h : Shape} where
   -- a pool holds its own tables

@@ -1,24 +1,35 @@
 // The pool's tables in lent bytes: every entry is loaded and stored here and nowhere else.
-#![tactic(auto)]
+#![tactic(auto, using(crate::proofs::Laws::loads))]
 
 ghost use Rattle.std.specs.Prelude.{◌≡◌, pred, ◌<◌, ◌≤◌, ◌∷◌, ◌++◌, length};
 ghost use Rattle.kinds.specs.SlipState.{state_of};
-ghost use Rattle.rules.specs.Tables.{blank, slip, serial, piece, buffer_count, set_slip, set_serial, aged, set_piece, with_count, with_next, with_place, set_count};
+ghost use Rattle.rules.specs.Tables.{blank, slip, serial, piece, buffer_count};
+ghost use Rattle.rules.specs.Tables.{set_slip, set_serial, aged, set_piece, with_count, with_next, with_place, set_count};
+ghost use Rattle.rules.specs.Chain.{stretch};
 ghost use Rattle.rules.specs.Bytes.{decode};
 ghost use Rattle.tables.specs.Entry.{piece_of};
+ghost use Rattle.tables.specs.Window.{window_of};
 ghost use Rattle.tables.specs.Shape.{Shaped, Becomes, with_base};
 
 use kinds::{BufferNumber, PieceNumber, Serial, SlipNumber, SlipState};
 use layout::Shape;
 
-// The five numbers of a piece, loaded.
-#[derive(Clone, Copy)]
+// The five numbers of a piece: a segment descriptor, loaded.
+#[derive(Clone, Copy, Default, PartialEq, Eq)]
 pub struct Entry {
     pub count: u16,
     pub buffer: BufferNumber,
     pub offset: u16,
     pub len: u16,
     pub next: u16,
+}
+
+// The part of a buffer that a piece covers: a data window.
+#[derive(Clone, Copy, Default, PartialEq, Eq)]
+pub struct Window {
+    pub buffer: BufferNumber,
+    pub offset: u16,
+    pub len: u16,
 }
 
 // What the entry of slip `s` says, as a number: a handle table load.
@@ -34,7 +45,7 @@ pub fn slip_state(pool: &[u8], shape: Shape, s: SlipNumber) -> SlipState
     requires { Shaped pool.now shape × (s.0 < shape.slips) }
     ensures { result ≡ state_of (slip (decode pool.now) s.0) }
 {
-    kinds::state_of(slip(pool, shape, s))
+    slip(pool, shape, s).into()
 }
 
 // The serial of slip `s`: a handle's generation.
@@ -49,10 +60,7 @@ pub fn serial(pool: &[u8], shape: Shape, s: SlipNumber) -> Serial
 pub fn link_of(raw: u16) -> u16
     ensures { result ≡ pred raw }
 {
-    if raw == 0 {
-        return 0;
-    }
-    raw - 1
+    raw.saturating_sub(1)
 }
 
 // The count of piece `d`: its reference count.
@@ -95,16 +103,29 @@ pub fn piece_next(pool: &[u8], shape: Shape, d: PieceNumber) -> u16
     word::get16(pool, layout::piece_at(shape, d) + 8)
 }
 
+// The part of its buffer that piece `d` covers: its data window.
+pub fn piece_window(pool: &[u8], shape: Shape, d: PieceNumber) -> Window
+    requires { Shaped pool.now shape × (d.0 < shape.pieces) }
+    ensures { window_of result ≡ stretch (piece (decode pool.now) d.0) }
+{
+    Window {
+        buffer: piece_buffer(pool, shape, d),
+        offset: piece_offset(pool, shape, d),
+        len: piece_length(pool, shape, d),
+    }
+}
+
 // The entry of piece `d`.
 pub fn entry_of(pool: &[u8], shape: Shape, d: PieceNumber) -> Entry
     requires { Shaped pool.now shape × (d.0 < shape.pieces) }
     ensures { piece_of result ≡ piece (decode pool.now) d.0 }
 {
+    let w = piece_window(pool, shape, d);
     Entry {
         count: piece_count(pool, shape, d),
-        buffer: piece_buffer(pool, shape, d),
-        offset: piece_offset(pool, shape, d),
-        len: piece_length(pool, shape, d),
+        buffer: w.buffer,
+        offset: w.offset,
+        len: w.len,
         next: piece_next(pool, shape, d),
     }
 }
@@ -179,23 +200,13 @@ fn set_piece_base(pool: &mut [u8], shape: Shape, d: PieceNumber, count: u16, buf
 }
 
 // Sets piece `d` whole: a descriptor store.
-pub fn set_piece(
-    pool: &mut [u8],
-    shape: Shape,
-    d: PieceNumber,
-    count: u16,
-    buffer: BufferNumber,
-    offset: u16,
-    length: u16,
-    next: u16,
-)
+pub fn set_piece(pool: &mut [u8], shape: Shape, d: PieceNumber, e: Entry)
     requires { Shaped pool.old shape × (d.0 < shape.pieces) }
-    ensures { Becomes pool.old pool.new shape
-        (λ T. set_piece T d.0 (record { count = count; buffer = buffer.0; offset = offset; len = length; next = next })) }
+    ensures { Becomes pool.old pool.new shape (λ T. set_piece T d.0 (piece_of e)) }
 {
-    set_piece_base(pool, shape, d, count, buffer);
-    set_piece_place(pool, shape, d, offset, length);
-    set_piece_next(pool, shape, d, next);
+    set_piece_base(pool, shape, d, e.count, e.buffer);
+    set_piece_place(pool, shape, d, e.offset, e.len);
+    set_piece_next(pool, shape, d, e.next);
 }
 
 // Sets the ten bytes of piece `d` to zero, which frees it: a cleared descriptor.
@@ -203,7 +214,7 @@ pub fn clear_piece(pool: &mut [u8], shape: Shape, d: PieceNumber)
     requires { Shaped pool.old shape × (d.0 < shape.pieces) }
     ensures { Becomes pool.old pool.new shape (λ T. set_piece T d.0 blank) }
 {
-    set_piece(pool, shape, d, 0, BufferNumber(0), 0, 0, 0);
+    set_piece(pool, shape, d, Entry::default());
 }
 
 // Sets the count of buffer `b`: the reference count of a cluster.

@@ -5,6 +5,7 @@ use mathlib.Core.List.{List, [], ◌∷◌}
 use Prim.Native.Nat.{ℕ, ◌+◌, ◌-◌, ◌≤◌, ◌<◌, min}
 use native.Mathlib.Omega.{arith}
 use lib.ListN.{length, take, drop}
+use Rattle.std.proofs.lemmas.List.{take_min, drop_min}
 use lib.Seq.{take_all, take-take, drop-drop}
 use Rattle.kinds.specs.Limits.{buffer_size}
 use Rattle.rules.specs.Basics.{Is}
@@ -24,7 +25,7 @@ use Rattle.room.specs.Free.{first_from, lowest_for}
 use Rattle.transfer.specs.declared.Cursor.{Cursor}
 use Rattle.transfer.specs.Behind.{InPiece, behind}
 use Rattle.transfer.proofs.Behind.{Behind, behind_found, start_inside}
-use Rattle.transfer.proofs.Copy.{take_most, drop_most, bytes_from, bytes_count}
+use Rattle.transfer.proofs.Copy.{bytes_from, bytes_count}
 use Rattle.transfer.proofs.Move.{unheld_other}
 use Rattle.storage.proofs.Place.{place_one, place_filled}
 use Rattle.transfer.proofs.Fill.{Filling, filling_first, filling_done, filling_below, filling_passes, filling_on}
@@ -110,10 +111,10 @@ module _ {T : Tables} {goal : List ℕ} {i : ℕ} {st : List ℕ} {c : Cursor} {
         let same : contents T.stock st' (stretches_from T c.link) ≡ contents T.stock st (stretches_from T c.link) =
         ap (λ (q : List ℕ). contents T.stock q (stretches_from T c.link)) es
         ∙ chain_stays T c.link b st _ sound w.good w.filling.fits below refilling_free in
-        let part : take m D ≡ take buffer_size (take n D) = sym (take_most buffer_size m (take n D) k ∙ take-take m n D (omega arith)) in
+        let part : take m D ≡ take buffer_size (take n D) = sym (take-take m n D (omega arith)) ∙ ap (λ i. take i (take n D)) k ∙ take_min buffer_size (take n D) in
         let rest : take (n - m) (drop c'.into (contents T.stock st' (stretches_from T c'.link))) ≡ drop buffer_size (take n D) =
         ap (take (n - m)) (sym (r.rest st' s) ∙ ap (drop (c.into + m)) same ∙ sym (drop-drop m c.into _))
-        ∙ sym (drop_most buffer_size m (take n D) k ∙ drop_take m n D) in
+        ∙ sym (drop_take m n D) ∙ ap (λ i. drop i (take n D)) k ∙ drop_min buffer_size (take n D) in
         record {
           good = r.good;
           inside = r.inside;

@@ -19,7 +19,7 @@ use Rattle.chain.specs.declared.Spot.{Spot}
 use Rattle.chain.specs.Length.{stretches_from}
 use Rattle.chain.specs.Find.{spot_of}
 use Rattle.chain.proofs.Links.{link_leads, stretches_in}
-use Rattle.chain.proofs.Spots.{spot_end, spot_turn, spot_stop, found}
+use Rattle.chain.proofs.Spots.{spot_end, spot_turn, spot_stop, found_from}
 use Rattle.transfer.specs.declared.Cursor.{Cursor}
 use Rattle.transfer.specs.Behind.{InPiece, behind, advanced}
 
@@ -39,7 +39,7 @@ unfolding behind
 behind_found T c n S t =
     let Z = T.stock in
     let B = buffer_total T in
-    let f = found T S true c.link (c.into + n) t in
+    let f = found_from T S true c.link (c.into + n) t in
     record {
       good = f.good;
       inside = f.inside;

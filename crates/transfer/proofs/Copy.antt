@@ -2,10 +2,9 @@
 use mathlib.Core.Path.{◌≡◌, refl, sym, ap, ap₂, subst, ◌∙◌}
 use mathlib.Core.List.{List, ◌∷◌, ◌++◌, append_assoc}
 use Prim.Native.Nat.{ℕ, ◌+◌, ◌-◌, ◌≤◌, ◌<◌, min}
-use native.Mathlib.Decide.{dec_le}
 use native.Mathlib.Omega.{arith}
-use lib.ListN.{length, take, drop, length-append, length-take, length-drop, drop_of_length-le, take-append-drop}
-use lib.Seq.{length-take-le, take_all, take_at, drop_at, take-take, drop-drop, take-add, take-append-le, drop-append-le}
+use lib.ListN.{length, take, drop, length-append, length-take, length-drop, take-append-drop}
+use lib.Seq.{length-take-le, take_at, drop_at, take-take, drop-drop, take-add, take-append-le, drop-append-le}
 use Rattle.kinds.specs.Limits.{buffer_size}
 use Rattle.kinds.proofs.Sizes.{start_step}
 use Rattle.rules.specs.Basics.{Is}
@@ -16,27 +15,14 @@ use Rattle.rules.specs.Read.{copied}
 use Rattle.rules.proofs.Contents.{Fit, drop_take, bytes_length, contents_length}
 use Rattle.chain.specs.Length.{stretches_from}
 use Rattle.chain.proofs.Links.{InUse, link_leads, length_empty, stretches_on, stretches_in}
+use Rattle.layout.specs.declared.Shape.{Shape}
+use Rattle.tables.specs.Shape.{Shaped}
 use Rattle.transfer.specs.declared.Cursor.{Cursor}
 use Rattle.transfer.specs.declared.Extent.{Extent}
 use Rattle.transfer.specs.Behind.{InPiece, extent_at, behind, advanced}
 use Rattle.transfer.proofs.Behind.{Behind, behind_none, behind_advanced, advanced_behind}
 
 -- ---- parts of lists
-
--- no more is taken or dropped than there is
-pub take_most : (n k : ℕ) (xs : List ℕ) → k ≡ min n (length xs) → take n xs ≡ take k xs
-take_most n k xs e =
-    elim (dec_le n (length xs)) [
-      | yes h ↦ (let q : n ≡ k = omega arith in ap (λ i. take i xs) q)
-      | no h ↦ take_all n xs (omega arith) ∙ sym (take_all k xs (omega arith))
-    ]
-
-pub drop_most : (n k : ℕ) (xs : List ℕ) → k ≡ min n (length xs) → drop n xs ≡ drop k xs
-drop_most n k xs e =
-    elim (dec_le n (length xs)) [
-      | yes h ↦ (let q : n ≡ k = omega arith in ap (λ i. drop i xs) q)
-      | no h ↦ drop_of_length-le xs {i = n} (omega arith) ∙ sym (drop_of_length-le xs {i = k} (omega arith))
-    ]
 
 -- w goes to the place t, and v behind it: at once, or w first
 two_writes : (out w v : List ℕ) (t n m : ℕ) → length w ≡ n → n ≤ m → t + m ≤ length out
@@ -72,6 +58,14 @@ first_bytes_lem Z st x xs i k l h =
     ap (take k) (drop-append-le i a (contents Z st xs) (omega arith)) ∙ take-append-le k (drop i a) (contents Z st xs) (simp length-drop (omega arith))
     ∙ ap (take k) (drop_take i x.len (drop (position_of Z x) st)) ∙ take-take k (x.len - i) _ (omega arith) ∙ ap (take k) (drop-drop i (position_of Z x) st)
 
+-- the next extent x of the n bytes from the place g on: some bytes, no more than are left and than a buffer has, which are of its piece, and so lie in the storage
+pub record Next (T : Tables) (st : List ℕ) (g : Cursor) (n : ℕ) (x : Extent) : Type 0 where
+  pub some : 0 < x.count
+  pub most : x.count ≤ n
+  pub small : x.count ≤ buffer_size
+  pub within : g.into + x.count ≤ (piece T (g.link - 1)).len
+  pub lies : x.start + x.count ≤ length st
+
 -- ---- a copy under way
 
 -- the n bytes from the place g on go to the place t of the output, which is then `goal`, and the copy is then at `end`
@@ -105,7 +99,7 @@ module _ {T : Tables} {st goal : List ℕ} {end g : Cursor} {n t : ℕ} {out : L
 
   module _ (h : 0 < n) where
     -- where some are, there is a link
-    pub going_some : g.link ≡ 0 → ⊥
+    going_some : g.link ≡ 0 → ⊥
     going_some z = omega (arith, w.enough, length_empty (piece_total T) g.link T z)
 
     -- which leads to a piece in use
@@ -116,6 +110,10 @@ module _ {T : Tables} {st goal : List ℕ} {end g : Cursor} {n t : ℕ} {out : L
     pub going_before : g.into < (piece T (g.link - 1)).len
     going_before = w.inside going_some
 
+    -- and of which a pool of the shape sh has the entry
+    pub going_shaped : {p : List ℕ} {sh : Shape} → Shaped p sh → piece_total T ≡ sh.pieces → Shaped p sh × (g.link ≤ sh.pieces) × (g.link ≡ 0 → ⊥)
+    going_shaped o e = let some = going_some in (o, omega (arith, going_piece.below, e, some), some)
+
     module _ (fit : Fit T.stock (buffer_total T) st) {x : Extent} (ex : x ≡ extent_at T g n) where
       -- the next extent: where it starts, and its bytes
       pub going_start : x.start ≡ position_of T.stock (stretch (piece T (g.link - 1))) + g.into
@@ -124,18 +122,17 @@ module _ {T : Tables} {st goal : List ℕ} {end g : Cursor} {n t : ℕ} {out : L
       going_size : x.count ≡ min n ((piece T (g.link - 1)).len - g.into)
       going_size = ap (λ (q : Extent). q.count) ex
 
-      -- it has some, no more than are left, and no more than a buffer
-      pub going_count : (0 < x.count) × (x.count ≤ n) × (x.count ≤ buffer_size)
-      going_count = (omega (arith, going_size, going_before), omega (arith, going_size), omega (arith, going_size, going_piece.most))
-
-      -- they are of the piece, and so lie in the storage
-      pub going_within : g.into + x.count ≤ (piece T (g.link - 1)).len
-      going_within = omega (arith, going_size, going_before)
-
-      pub going_lies : x.start + x.count ≤ length st
-      going_lies =
+      pub going_next : Next T st g n x
+      going_next =
           let u = going_piece in
-          omega (arith, going_start, going_within, u.inside, start_step T.stock (piece T (g.link - 1)).buffer (buffer_total T) u.in_store)
+          let within : g.into + x.count ≤ (piece T (g.link - 1)).len = omega (arith, going_size, going_before) in
+          record {
+            some = omega (arith, going_size, going_before);
+            most = omega (arith, going_size);
+            small = omega (arith, going_size, u.most);
+            within = within;
+            lies = omega (arith, going_start, within, u.inside, start_step T.stock (piece T (g.link - 1)).buffer (buffer_total T) u.in_store);
+          }
 
       -- once they are copied, the copy goes on behind them
       pub going_on : {g' : Cursor} {out' : List ℕ} → g' ≡ advanced T g x.count → out' ≡ take t out ++ (take x.count (drop x.start st) ++ drop (t + x.count) out)
@@ -144,8 +141,8 @@ module _ {T : Tables} {st goal : List ℕ} {end g : Cursor} {n t : ℕ} {out : L
           let k = x.count in
           let y = stretch (piece T (g.link - 1)) in
           let u = going_piece in
-          let i = going_within in
-          let l = going_count.1 in
+          let i = going_next.within in
+          let l = going_next.most in
           let b = subst (Behind T g k) (sym eg) (advanced_behind T g k sound w.good going_some i) in
           let e : k + (n - k) ≡ n = omega arith in
           let D = drop g.into (contents T.stock st (stretches_from T g.link)) in

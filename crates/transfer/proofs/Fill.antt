@@ -1,35 +1,33 @@
 -- Filling the lowest free buffers, one after another. Assumes nothing.
-use mathlib.Core.Path.{◌≡◌, sym, ap, ◌∙◌}
+use mathlib.Core.Path.{◌≡◌, refl, sym, ap, ◌∙◌}
 use mathlib.Core.Bool.{Bool}
-use mathlib.Core.List.{List, ◌∷◌}
+use mathlib.Core.List.{List, ◌∷◌, ◌++◌}
 use Prim.Native.Nat.{ℕ, suc, ◌+◌, ◌-◌, ◌*◌, ◌≤◌, ◌<◌, min}
 use native.Mathlib.Numerals.{add-one}
 use native.Mathlib.Decide.{dec_lt}
 use native.Mathlib.Omega.{arith}
 use lib.ListN.{length, take, drop, length-take, length-drop}
-use lib.Seq.{take-take, drop-drop}
-use lib.Dec.{ltb, lt→ltb, ltb→lt}
+use Rattle.std.proofs.lemmas.List.{take_min, drop_min}
+use lib.Seq.{take_at, drop_at, take-take}
 use Rattle.kinds.specs.Limits.{buffer_size}
 use Rattle.kinds.specs.Sizes.{size_of}
 use Rattle.kinds.proofs.Sizes.{size_one}
 use Rattle.rules.specs.Basics.{Is, places}
 use Rattle.rules.specs.Storage.{filled_at, filled}
 use Rattle.rules.specs.Build.{buffers_for, stored}
-use Rattle.rules.proofs.Logic.{if_T, if_F}
 use Rattle.rules.proofs.Contents.{Fit, filled_length}
 use Rattle.room.specs.Free.{first_from, lowest_for}
-use Rattle.room.proofs.Free.{places_first, first_lies, lowest_all}
-use Rattle.transfer.proofs.Copy.{take_most, drop_most}
+use Rattle.room.proofs.Free.{first_lies, free_first, free_none, lowest_all}
 use Rattle.storage.proofs.Place.{place_one, place_filled}
 
 -- ---- how many buffers
 
 -- no byte needs no buffer
-pub for_none : (n : ℕ) → n ≡ 0 → buffers_for n ≡ 0
+for_none : (n : ℕ) → n ≡ 0 → buffers_for n ≡ 0
 for_none n e = omega arith
 
 -- some bytes need one buffer, and those for the bytes behind it
-pub for_some : (n : ℕ) → 0 < n → buffers_for n ≡ suc (buffers_for (n - buffer_size))
+for_some : (n : ℕ) → 0 < n → buffers_for n ≡ suc (buffers_for (n - buffer_size))
 for_some n h = omega arith
 
 -- so bytes that fit one buffer need just that
@@ -45,15 +43,12 @@ filled_first st a z xs =
     let l : z - length (take z xs) ≡ z - length xs = simp length-take (omega arith) in
     rw (l, take-take z z xs (omega arith))
 
--- the part from a to e, which ends after a buffer's bytes or with the list, and what comes behind it
-pub next_part_lem : (xs : List ℕ) (a e : ℕ) → a ≤ length xs → e ≡ min (a + buffer_size) (length xs)
-    → (take (e - a) (drop a xs) ≡ take buffer_size (drop a xs)) × (drop e xs ≡ drop buffer_size (drop a xs))
-next_part_lem xs a e h q =
-    let l : e - a ≡ min buffer_size (length (drop a xs)) = rw length-drop (omega arith) in
-    let i : a + (e - a) ≡ e = omega arith in (
-      sym (take_most buffer_size (e - a) (drop a xs) l),
-      sym (drop_most buffer_size (e - a) (drop a xs) l ∙ drop-drop (e - a) a xs ∙ ap (λ j. drop j xs) i),
-    )
+-- the next part of a list, as long as z if the list is, and what comes behind it
+pub next_part_lem : (z : ℕ) (xs part behind : List ℕ) → xs ≡ part ++ behind → length part ≡ min z (length xs) → (part ≡ take z xs) × (behind ≡ drop z xs)
+next_part_lem z xs part behind e l = (
+  sym (take_at part behind (length part) refl) ∙ ap (take (length part)) (sym e) ∙ ap (λ i. take i xs) l ∙ take_min z xs,
+  sym (drop_at part behind (length part) refl) ∙ ap (drop (length part)) (sym e) ∙ ap (λ i. drop i xs) l ∙ drop_min z xs,
+)
 
 -- ---- the lowest that pass
 
@@ -61,9 +56,10 @@ next_part_lem xs a e h q =
 pub lowest : (f : ℕ → Bool) (i n : ℕ) → 0 < length (places f i (n - i)) → (first_from f i n < n) × Is (f (first_from f i n)) × (places f i (n - i) ≡ first_from f i n ∷ places f (first_from f i n + 1) (n - (first_from f i n + 1)))
 lowest f i n h =
     let r = first_from f i n in
+    let at = first_lies f i n in
     elim (dec_lt r n) [
-      | yes l ↦ (l, ((first_lies f i n).1 l).1, places_first f i n ∙ if_T (ltb r n) _ _ (lt→ltb r n l) ∙ ap (λ (j : ℕ). r ∷ places f j (n - j)) (sym (add-one r)))
-      | no l ↦ absurd (omega (arith, ap length (places_first f i n ∙ if_F (ltb r n) _ _ (λ t. l (ltb→lt r n t)))))
+      | yes l ↦ (l, (at.1 l).1, free_first f i n refl l ∙ ap (λ (j : ℕ). r ∷ places f j (n - j)) (sym (add-one r)))
+      | no l ↦ absurd (omega (arith, ap length (free_none f i n refl (omega (arith, at.0)))))
     ]
 
 -- ---- a fill under way

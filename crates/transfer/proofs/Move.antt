@@ -15,13 +15,13 @@ use Rattle.rules.specs.Room.{is_unheld}
 use Rattle.rules.specs.Storage.{filled_at, filled}
 use Rattle.rules.specs.Read.{copied}
 use Rattle.rules.proofs.Moves.{SoundBy, buffer_pos}
-use Rattle.rules.proofs.Contents.{Fit, filled_length, filled_other}
+use Rattle.rules.proofs.Contents.{Fit, filled_other}
 use Rattle.rules.proofs.Audit.{tables_now}
 use Rattle.chain.specs.Length.{stretches_from}
 use Rattle.transfer.specs.declared.Cursor.{Cursor}
 use Rattle.transfer.specs.declared.Extent.{Extent}
 use Rattle.transfer.specs.Behind.{InPiece, extent_at, behind, advanced}
-use Rattle.transfer.proofs.Copy.{bytes_from, Going, going_first, going_piece, going_start, going_count, going_within, going_lies, going_on, going_done}
+use Rattle.transfer.proofs.Copy.{bytes_from, Going, going_first, going_piece, going_start, going_next, going_on, going_done}
 use Rattle.storage.proofs.Place.{Place, place_filled, place_inside}
 
 -- ---- parts of lists
@@ -107,10 +107,6 @@ module _ (T : Tables) (b a z : ℕ) (l : Place T.stock b a z) (st₀ : List ℕ)
       record { out = out; size = long; stands = sym (filled_self st₀ a z inside); going = going_first T st₀ c n out sound fit t i e (omega arith) }
 
   module _ {goal : List ℕ} {end g : Cursor} {n t : ℕ} {st : List ℕ} (w : Moving T a z st₀ goal end g n t st) where
-    -- the storage keeps its length
-    pub moving_length : length st ≡ length st₀
-    moving_length = ap length (w.stands ∙ place_filled l st₀ w.out) ∙ filled_length T.stock (buffer_total T) st₀ b w.out fit below
-
     -- where none is left, and zeros are behind the bytes xs that are there, the buffer is filled with these
     pub moving_done : n ≤ 0 → (xs rest st' : List ℕ) (m : ℕ) → goal ≡ copied xs rest → length xs ≡ m → m ≤ z
         → st' ≡ take (a + m) st ++ (replicate (z - m) 0 ++ drop (a + z) st) → st' ≡ filled T.stock st₀ b xs
@@ -129,7 +125,7 @@ module _ (T : Tables) (b a z : ℕ) (l : Place T.stock b a z) (st₀ : List ℕ)
           let y : Stretch = record { buffer = p.buffer; offset = p.offset + g.into; len = x.count } in
           let i : x.start ≡ start_of Z p.buffer + (p.offset + g.into) = omega (arith, going_start sound w.going h fit ex) in
           ap (λ (q : List ℕ). take x.count (drop x.start q)) (w.stands ∙ place_filled l st₀ w.out) ∙ ap (λ j. take x.count (drop j (filled Z st₀ b w.out))) i
-          ∙ filled_other Z (buffer_total T) st₀ b w.out y fit below (unheld_other T b (g.link - 1) (tables_now T sound).1 free u.used) u.in_store (omega (arith, going_within sound w.going h fit ex, u.inside))
+          ∙ filled_other Z (buffer_total T) st₀ b w.out y fit below (unheld_other T b (g.link - 1) (tables_now T sound).1 free u.used) u.in_store (omega (arith, (going_next sound w.going h fit ex).within, u.inside))
           ∙ ap (λ j. take x.count (drop j st₀)) (sym i)
 
       -- once it is copied, the copy goes on behind it
@@ -137,13 +133,13 @@ module _ (T : Tables) (b a z : ℕ) (l : Place T.stock b a z) (st₀ : List ℕ)
           → Moving T a z st₀ goal end g' (n - x.count) (t + x.count) st'
       moving_on {g'} {st'} eg es =
           let bytes = take x.count (drop x.start st₀) in
-          let long : length bytes ≡ x.count = simp (length-take, length-drop) (omega (arith, going_lies sound w.going h fit ex)) in
+          let long : length bytes ≡ x.count = simp (length-take, length-drop) (omega (arith, (going_next sound w.going h fit ex).lies)) in
           let on = going_on sound w.going h fit ex eg refl in
           record {
             out = take t w.out ++ (bytes ++ drop (t + x.count) w.out);
             size = on.0 ∙ w.size;
             stands = es ∙ ap (λ (q : List ℕ). take (a + t) st ++ (q ++ drop (a + t + x.count) st)) moving_bytes
                 ∙ ap (λ (q : List ℕ). take (a + t) q ++ (bytes ++ drop (a + t + x.count) q)) w.stands
-                ∙ filled_part st₀ a z inside w.out bytes t x.count w.size long (omega (arith, w.going.room, w.size, (going_count sound w.going h fit ex).1));
+                ∙ filled_part st₀ a z inside w.out bytes t x.count w.size long (omega (arith, w.going.room, w.size, (going_next sound w.going h fit ex).most));
             going = on.1;
           }

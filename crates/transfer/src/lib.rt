@@ -39,6 +39,7 @@ struct Extent {
 }
 
 // The byte of storage at which the stretch of piece `d` starts: its data pointer.
+#[tactic(auto, using(kinds::proofs::Sizes::start_one))]
 pub fn position(pool: &[u8], shape: Shape, d: PieceNumber) -> usize
     requires { Shaped pool.now shape × (d.0 < shape.pieces) }
     ensures { result ≡ position_of (decode pool.now).stock (stretch (piece (decode pool.now) d.0)) }
@@ -54,12 +55,10 @@ fn advance(pool: &[u8], shape: Shape, c: Cursor, k: u32) -> Cursor
     ensures { result ≡ advanced (decode pool.now) c k }
 {
     let d = PieceNumber(c.link - 1);
+    let length = tables::piece_length(pool, shape, d) as u32;
     let into = c.into + k;
-    if into < tables::piece_length(pool, shape, d) as u32 {
-        return Cursor {
-            link: c.link,
-            into: into,
-        };
+    if into < length {
+        return Cursor { link: c.link, into };
     }
     Cursor {
         link: tables::piece_next(pool, shape, d),
@@ -75,12 +74,9 @@ fn extent_at(pool: &[u8], shape: Shape, c: Cursor, most: u32) -> Extent
 {
     let d = PieceNumber(c.link - 1);
     let length = tables::piece_length(pool, shape, d) as u32;
-    let count = kinds::lesser(most, length - c.into);
+    let count = most.min(length - c.into);
     let start = position(pool, shape, d) + c.into as usize;
-    Extent {
-        start: start,
-        count: count,
-    }
+    Extent { start, count }
 }
 
 // Copies the `n` bytes from the place `c` on to the front of `output`, one piece after another, and answers the place behind them: a gather.
@@ -113,17 +109,6 @@ pub fn copy_out(
     g
 }
 
-// Where the part of at most a buffer's bytes from `at` on ends, of `length` bytes: a chunk's end.
-fn part_end(at: usize, length: usize) -> usize
-    requires { at ≤ length }
-    ensures { result ≡ min (at + buffer_size) length }
-{
-    if length - at < SIZE {
-        return length;
-    }
-    at + SIZE
-}
-
 // Fills the lowest free buffers, from `buffer` on, with `input`, in order, and the rest of the last with zeros: a scatter to fresh clusters.
 pub fn fill_free(pool: &[u8], shape: Shape, storage: &mut [u8], input: &[u8], buffer: BufferNumber)
     requires shaped { Shaped pool.now shape × Backs storage.old shape }
@@ -133,13 +118,10 @@ pub fn fill_free(pool: &[u8], shape: Shape, storage: &mut [u8], input: &[u8], bu
         ≡ stored (decode pool.now).stock storage.old (new_buffers (decode pool.now) (buffers_for (length input.now)))
         input.now }
 {
-    let mut at = 0;
     let mut from = buffer;
-    while at < input.len() {
-        let to = room::next_free_buffer(pool, shape, from);
-        let end = part_end(at, input.len());
-        storage::fill_buffer(storage, to, &input[at..end]);
-        at = end;
+    for part in input.chunks(SIZE) {
+        let to = room::next_free(pool, shape, from);
+        storage::fill_buffer(storage, to, part);
         from = BufferNumber(to.0 + 1);
     }
 }
@@ -196,17 +178,14 @@ pub fn refill(
         ≡ stored (decode pool.now).stock storage.old (new_buffers (decode pool.now) (buffers_for n))
         (take n (contents (decode pool.now).stock storage.old (stretches_from (decode pool.now) link))) }
 {
-    let mut c = Cursor {
-        link: link,
-        into: 0,
-    };
+    let mut c = Cursor { link, into: 0 };
     let mut left = n;
     let mut from = buffer;
     while 0 < left {
-        let b = room::next_free_buffer(pool, shape, from);
-        let m = kinds::lesser(left, BufferNumber::SIZE as u32);
+        let b = room::next_free(pool, shape, from);
+        let m = left.min(BufferNumber::SIZE as u32);
         c = refill_buffer(pool, shape, storage, c, m, b);
-        left = left - m;
+        left -= m;
         from = BufferNumber(b.0 + 1);
     }
 }

@@ -1,3 +1,3 @@
 -- The laws of walkthrough.
-mod Data
-mod Shown
+pub mod Data
+pub mod Shown

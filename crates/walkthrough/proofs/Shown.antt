@@ -1,16 +1,14 @@
 -- What is written of a show: its place, its bytes one after the other, and the whole. Assumes nothing.
 use mathlib.Core.Path.{◌≡◌, refl, sym, ap, ◌∙◌}
 use mathlib.Core.List.{List, [], ◌∷◌, ◌++◌, append-nil, append_assoc}
-use Prim.Native.Nat.{ℕ, ◌+◌, ◌<◌}
-use native.Mathlib.Numerals.{add-one}
-use lib.ListN.{length, take, get_or}
-use lib.Seq.{take-suc}
+use Prim.Native.Nat.{ℕ}
 use Rattle.rules.specs.Sound.{lent}
 use Rattle.rules.specs.Rule.{Name}
 use Rattle.rules.specs.Step.{Show, Do, step}
 use Rattle.calls_look.specs.declared.Shown.{Shown}
 use Rattle.calls_look.specs.Shown.{view_in, shown_of, bytes_shown}
 use Rattle.page.specs.Page.{ascii}
+use Rattle.page.proofs.Ink.{inks}
 use Rattle.page.specs.Digits.{tagged}
 use Rattle.reply.specs.declared.Reply.TheVariants.{Number}
 use Rattle.reply.specs.Text.{answer_text}
@@ -21,18 +19,17 @@ unfolding bytes_text
 bytes_append [] ys = refl
 bytes_append (x ∷ xs) ys = ap (λ (t : List ℕ). tagged " " x ++ t) (bytes_append xs ys) ∙ sym (append_assoc (tagged " " x) (bytes_text xs) (bytes_text ys))
 
-pub bytes_none : [] ≡ bytes_text []
+pub bytes_none : bytes_text [] ≡ []
 unfolding bytes_text
 bytes_none = refl
 
--- the next byte
-pub bytes_next : (s : List ℕ) (i : ℕ) → i < length s → bytes_text (take i s) ++ tagged " " (get_or s i 0) ≡ bytes_text (take (i + 1) s)
+-- one number more
+pub bytes_push : (xs : List ℕ) (x : ℕ) → bytes_text (xs ++ (x ∷ [])) ≡ bytes_text xs ++ tagged " " x
 unfolding bytes_text
-bytes_next s i h =
-    let one : take i s ++ (get_or s i 0 ∷ []) ≡ take (i + 1) s = rw (add-one, take-suc s i 0) in
-    ap (λ (t : List ℕ). bytes_text (take i s) ++ t) (sym (append-nil (tagged " " (get_or s i 0))))
-    ∙ sym (bytes_append (take i s) (get_or s i 0 ∷ []))
-    ∙ ap bytes_text one
+bytes_push xs x = bytes_append xs (x ∷ []) ∙ ap (λ (t : List ℕ). bytes_text xs ++ t) (append-nil (tagged " " x))
+
+-- what the search is given of rows
+pub ruleset rows = (inks, bytes_none, bytes_push)
 
 -- the row of an answer x of show s, n, whose bytes are seen
 module _ {x : Shown} {sc bytes : List ℕ} (p st before : List ℕ) (s : Name) (n : ℕ) where

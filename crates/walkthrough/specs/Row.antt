@@ -20,7 +20,7 @@ row_text kind a pool = answer_text kind a ++ ascii "\n" ++ pool_text pool ++ asc
 abbrev pub place_text : View → List ℕ
 place_text v = whether eqb v.in_scratch 0 then ascii "\n  storage " else ascii "\n  scratch "
 
--- bytes in decimal, each behind a space
+-- numbers in decimal, each behind a space: the bytes shown, or what a call is given
 unfoldable pub bytes_text : List ℕ → List ℕ
 bytes_text [] = []
 bytes_text (b ∷ bs) = tagged " " b ++ bytes_text bs

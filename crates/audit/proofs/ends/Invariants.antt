@@ -1,12 +1,6 @@
-use mathlib.Core.Path.{◌≡◌}
-use Prim.Native.Nat.{◌-◌}
-use lib.ListN.{length}
 use Rattle.rules.specs.Bytes.{decode}
 use Rattle.audit.specs.Colours.{colours_in, Scanned}
 use Rattle.audit.proofs.ends.Given as goal
 
 abbrev pub invariant-loop-d : goal.invariant-loop-d
-invariant-loop-d l = Scanned (decode l.pool) (colours_in l.colours) l.n l.d × (length l.colours ≡ length l.initial.colours)
-
-abbrev pub decreases-loop-d : goal.decreases-loop-d
-decreases-loop-d l = l.shape.pieces - l.d
+invariant-loop-d l = Scanned (decode l.pool) (colours_in l.colours) l.n l.d

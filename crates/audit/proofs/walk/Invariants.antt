@@ -1,14 +1,9 @@
-use mathlib.Core.Path.{◌≡◌}
-use Prim.Native.Nat.{◌-◌}
-use lib.ListN.{length}
-use Rattle.rules.specs.Bytes.{decode}
-use Rattle.audit.specs.Colours.{colours_in}
-use Rattle.audit.proofs.Colours.{InWalk}
+use Prim.Native.Nat.{◌-◌, ◌+◌}
+use Rattle.audit.proofs.Colours.{Under}
 use Rattle.audit.proofs.walk.Given as goal
 
-abbrev pub invariant-loop-link : goal.invariant-loop-link
-invariant-loop-link l =
-    InWalk (decode l.pool) (colours_in l.initial.colours) l.follows (l.initial.link - 1) (colours_in l.colours) l.link l.n × (length l.colours ≡ length l.initial.colours)
+abbrev pub invariant-loop-i : goal.invariant-loop-i
+invariant-loop-i l = Under l.pool l.shape l.fn.colours l.follows l.fn.d.0 l.colours l.link l.n
 
-abbrev pub decreases-loop-link : goal.decreases-loop-link
-decreases-loop-link l = l.shape.pieces - l.n
+abbrev pub decreases-loop-i : goal.decreases-loop-i
+decreases-loop-i l = l.shape.pieces + 1 - l.n

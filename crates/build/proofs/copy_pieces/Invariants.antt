@@ -1,5 +1,3 @@
-use mathlib.Core.Path.{◌≡◌}
-use lib.ListN.{length}
 use Rattle.rules.specs.Chain.{cut_out}
 use Rattle.rules.specs.Bytes.{decode}
 use Rattle.rules.specs.Room.{free_pieces}
@@ -12,7 +10,4 @@ use Rattle.build.proofs.copy_pieces.Given as goal
 abbrev pub invariant-loop-more : goal.invariant-loop-more
 invariant-loop-more l =
     let T = decode l.initial.pool in
-    (length l.pool ≡ length l.initial.pool) × Shaped l.pool l.shape × Copies T (built T (free_pieces T) (cut_out (stretches_from T l.link) l.into l.n) l.tail) l.tail (decode l.pool) l.c l.more
-
-abbrev pub decreases-loop-more : goal.decreases-loop-more
-decreases-loop-more l = l.more
+    Shaped l.pool l.shape × Copies T (built T (free_pieces T) (cut_out (stretches_from T l.link) l.into l.n) l.tail) l.tail (decode l.pool) l.c l.more

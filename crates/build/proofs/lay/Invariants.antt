@@ -1,5 +1,3 @@
-use mathlib.Core.Path.{◌≡◌}
-use lib.ListN.{length}
 use Rattle.rules.specs.Bytes.{decode}
 use Rattle.rules.specs.Room.{free_pieces, new_buffers}
 use Rattle.rules.specs.Build.{built, laid}
@@ -10,7 +8,4 @@ use Rattle.build.proofs.lay.Given as goal
 abbrev pub invariant-loop-more : goal.invariant-loop-more
 invariant-loop-more l =
     let T = decode l.initial.pool in
-    (length l.pool ≡ length l.initial.pool) × Shaped l.pool l.shape × Lays (built T (free_pieces T) (laid T.stock (new_buffers T l.count) l.n) 0) (decode l.pool) l.c l.more
-
-abbrev pub decreases-loop-more : goal.decreases-loop-more
-decreases-loop-more l = l.more
+    Shaped l.pool l.shape × Lays (built T (free_pieces T) (laid T.stock (new_buffers T l.count) l.n) 0) (decode l.pool) l.c l.more

@@ -1,21 +1,22 @@
 -- `calls_look::begin` meets its contract. Assumes nothing.
-use native.Mathlib.Omega.{arith}
-use borrow.Author.Tests.{not-true, not-false}
-use Rattle.rules.specs.Rule.{name}
+use Rattle.std.proofs.Common.{rules}
+use Rattle.std.proofs.lemmas.Result.{err_from_is_err_and}
 use Rattle.calls.proofs.Laws.{opened}
-use Rattle.calls_look.proofs.Laws.{begins_torn, begins_sound}
+use Rattle.calls_look.proofs.Laws.{begins_torn, begins_refused, begins_sound}
 use Rattle.calls_look.proofs.begin.Goals as goal
 
-pub returns-then-not-audited : goal.returns-then-not-audited
-returns-then-not-audited c =
-    let a = c.args in
-    begins_torn a.storage.now (name a.slip.0 a.serial.0) a.room c.audit-audited.ensures (not-true _ c.if-not-audited.true) c.refused.ensures
+pub returns-in_err-shape : goal.returns-in_err-shape
+returns-in_err-shape c =
+    let p = err_from_is_err_and c.from_residual.result c.from_residual.ensures.1 in
+    rw (p.1, p.2) (begins_torn c.args.storage.now _ _ c.in_err-shape.ensures)
 
-pub begin-b-requires : goal.begin-b-requires
-begin-b-requires c =
-    opened c.args.storage.now c.audit-audited.ensures (not-false _ c.if-not-audited.false)
+pub begin-requires : goal.begin-requires
+begin-requires c = opened c.in_ok-shape.ensures
+
+pub returns-in_err-step : goal.returns-in_err-step
+returns-in_err-step c =
+    let p = err_from_is_err_and c.from_residual-in_err-step.result c.from_residual-in_err-step.ensures.1 in
+    rw (p.1, p.2) (begins_refused c.args.storage.now _ _ c.in_ok-shape.ensures (search rules) c.in_err-step.ensures)
 
 pub returns : goal.returns
-returns c =
-    let a = c.args in
-    begins_sound a.storage.now (name a.slip.0 a.serial.0) a.room c.audit-audited.ensures (λ i. omega (arith, c.shared_slice_known-1.given i)) (not-false _ c.if-not-audited.false) c.begin-b.ensures c.answer_of.ensures
+returns c = begins_sound c.args.storage.now _ _ c.in_ok-shape.ensures (search rules) c.in_ok-step.ensures

@@ -1,5 +1,5 @@
 -- `calls_look::place_of` meets its contract. Assumes nothing.
-use mathlib.Core.Path.{sym}
+use Rattle.std.proofs.Common.{sym}
 use lib.Dec.{eqb, eqb→eq}
 use Rattle.rules.proofs.Logic.{if_T, if_F, eq→eqb}
 use Rattle.look.specs.declared.Place.TheVariants.{Storage, Scratch}

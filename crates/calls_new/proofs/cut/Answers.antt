@@ -1,20 +1,10 @@
 -- `calls_new::cut` meets its contract. Assumes nothing.
-use borrow.Author.Tests.{not-true, not-false}
-use Rattle.rules.specs.Rule.{name}
-use Rattle.rules.specs.Step.{Cut}
-use Rattle.calls.proofs.Laws.{torn_answer_lem, opened, answered}
+use Rattle.std.proofs.Common.{◌∙◌}
+use Rattle.calls.proofs.Laws.{opened, performed}
 use Rattle.calls_new.proofs.cut.Goals as goal
 
-pub returns-then-not-audited : goal.returns-then-not-audited
-returns-then-not-audited c =
-    let a = c.args in
-    torn_answer_lem a.storage.now c.audit-audited.ensures (not-true _ c.if-not-audited.true) (Cut (name a.slip.0 a.serial.0) a.offset a.length) c.refused.ensures
-
 pub cut-requires : goal.cut-requires
-cut-requires c =
-    opened c.args.storage.now c.audit-audited.ensures (not-false _ c.if-not-audited.false)
+cut-requires c = opened c.in_ok-shape.ensures
 
 pub returns : goal.returns
-returns c =
-    let a = c.args in
-    answered a.storage.now c.audit-audited.ensures (not-false _ c.if-not-audited.false) c.cut.result (Cut (name a.slip.0 a.serial.0) a.offset a.length) c.answer_of.ensures (c.cut.ensures.by_index a.storage.now)
+returns c = c.cut.ensures.by_index c.args.storage.now ∙ performed c.args.storage.now c.in_ok-shape.ensures _

@@ -1,21 +1,10 @@
 -- `calls_store::pullup` meets its contract. Assumes nothing.
-use borrow.Author.Tests.{not-true, not-false}
-use Rattle.rules.specs.Rule.{name}
-use Rattle.rules.specs.Step.{Pullup}
-use Rattle.calls.proofs.Laws.{torn_answer_lem, opened, fitted, answered}
+use Rattle.std.proofs.Common.{◌∙◌}
+use Rattle.calls.proofs.Laws.{opened, fitted, performed}
 use Rattle.calls_store.proofs.pullup.Goals as goal
 
-pub returns-then-not-audited : goal.returns-then-not-audited
-returns-then-not-audited c =
-    let a = c.args in
-    torn_answer_lem a.storage.now c.audit-audited.ensures (not-true _ c.if-not-audited.true) (Pullup (name a.slip.0 a.serial.0) a.n) c.refused.ensures
-
 pub pullup-requires : goal.pullup-requires
-pullup-requires c =
-    let st = c.args.storage.now in
-    (opened st c.audit-audited.ensures (not-false _ c.if-not-audited.false), fitted st c.audit-audited.ensures (not-false _ c.if-not-audited.false))
+pullup-requires c = (opened c.in_ok-shape.ensures, fitted c.in_ok-shape.ensures)
 
 pub returns : goal.returns
-returns c =
-    let a = c.args in
-    answered a.storage.now c.audit-audited.ensures (not-false _ c.if-not-audited.false) c.pullup.result (Pullup (name a.slip.0 a.serial.0) a.n) c.answer_of.ensures c.pullup.ensures.no_view_after
+returns c = c.pullup.ensures.no_view_after ∙ performed c.args.storage.now c.in_ok-shape.ensures _

@@ -7,11 +7,9 @@ use Rattle.rules.specs.Chain.{follow, walk, stretches, total}
 use Rattle.rules.specs.Sound.{link_ok}
 use Rattle.chain.proofs.leg_from.Given as goal
 
-abbrev pub invariant-loop-allowed : goal.invariant-loop-allowed
-invariant-loop-allowed l =
+abbrev pub invariant-loop : goal.invariant-loop
+invariant-loop l =
     let T = decode l.pool in
-    Is (link_ok T l.at) × (l.allowed ≤ l.most) × (l.bytes ≤ buffer_size * (l.most - l.allowed)) × (follow T l.allowed l.at ≡ follow T l.most l.link)
-    × (l.bytes + total (stretches T (walk l.allowed T l.at)) ≡ total (stretches T (walk l.most T l.link)))
-
-abbrev pub decreases-loop-allowed : goal.decreases-loop-allowed
-decreases-loop-allowed l = l.allowed
+    let left = l.most - l.counter in
+    Is (link_ok T l.at) × (l.bytes ≤ buffer_size * l.counter) × (follow T left l.at ≡ follow T l.most l.link)
+    × (l.bytes + total (stretches T (walk left T l.at)) ≡ total (stretches T (walk l.most T l.link)))

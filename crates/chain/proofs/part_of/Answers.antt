@@ -43,16 +43,10 @@ fewer c =
     let l = c.before.before.loop-left in
     walk_less (decode z.args.pool.now) l.at z.requires.0.sound l.invariant.0 c.if-at-eq0.false
 
-pub piece_bytes-k-requires : goal.piece_bytes-k-requires
-piece_bytes-k-requires c =
+pub piece_bytes-requires : goal.piece_bytes-requires
+piece_bytes-requires c =
     let o = c.before.before.before.before.requires.0.shaped in
-    (o, omega (arith, (leads (goal.at.piece_bytes-k-requires c).Else-at-eq0).below, total_pieces (whole o)))
-
-pub overflow_cast-k : goal.overflow_cast-k
-overflow_cast-k c = omega arith
-
-pub past-left-requires : goal.past-left-requires
-past-left-requires c = tt
+    (o, omega (arith, (leads (goal.at.piece_bytes-requires c).Else-at-eq0).below, total_pieces (whole o)))
 
 pub overflow_add-pieces : goal.overflow_add-pieces
 overflow_add-pieces c =
@@ -60,7 +54,7 @@ overflow_add-pieces c =
     omega (arith, fewer (goal.at.overflow_add-pieces c).Else-at-eq0, c.before.before.before.before.loop-left.invariant.1, total_pieces (whole o.shaped), o.few_pieces_lem)
 
 pub piece_next-at-requires : goal.piece_next-at-requires
-piece_next-at-requires c = piece_bytes-k-requires (goal.at.piece_next-at-requires c).Else-at-eq0
+piece_next-at-requires c = piece_bytes-requires (goal.at.piece_next-at-requires c).Else-at-eq0
 
 pub loop-left-smaller : goal.loop-left-smaller
 loop-left-smaller c =
@@ -77,7 +71,7 @@ loop-left-preserved c =
       subst (λ (x : ℕ). Is (link_ok T x)) (sym e) (leads (goal.at.loop-left-preserved c).Else-at-eq0).onward,
       subst (λ (x : ℕ). l.pieces + 1 + length (walk (piece_total T) T x) ≤ piece_total T) (sym e) (omega (arith, fewer (goal.at.loop-left-preserved c).Else-at-eq0, l.invariant.1)),
       part_turn l.pieces T l.at l.left z.requires.0.sound l.invariant.0 c.before.before.before.if-at-eq0.false (omega (arith, c.before.before.before.before.loop-left-test.true))
-          e c.before.before.piece_bytes-k.ensures c.before.past-left.ensures ∙ l.invariant.2,
+          e c.before.before.piece_bytes.ensures c.before.saturating_sub-left.ensures ∙ l.invariant.2,
     )
 
 pub returns : goal.returns

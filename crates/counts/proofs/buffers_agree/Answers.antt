@@ -1,51 +1,20 @@
--- `counts::buffers_agree` meets its contract. The invariant: the counts passed agree. Assumes nothing.
-use Prim.Native.Nat.{ℕ}
-use native.Mathlib.Omega.{arith}
-use Rattle.rules.specs.Tables.{Tables, buffer_count, buffer_total}
+-- `counts::buffers_agree` meets its contract. Assumes nothing.
+use Rattle.std.proofs.Common.{get_or, arith, rules, refl, ◌∙◌, eqb}
+use borrow.Author.Tests.{tests}
+use Rattle.std.proofs.lemmas.Iterator.{YieldsList-from_range}
+use Rattle.std.proofs.lemmas.Iterator.Search.{all_from_yields_List}
 use Rattle.rules.specs.Bytes.{decode}
-use Rattle.rules.specs.Sound.{lying}
+use Rattle.rules.specs.Tables.{buffer_count}
 use Rattle.counts.specs.Ranges.{buffers_agree}
-use Rattle.counts.proofs.Counters.{totals, agree_start, agree_on, agree_torn, agree_end}
-use Rattle.counts.proofs.buffers_agree.Invariants.{stored, found}
+use Rattle.counts.proofs.Counters.{totals, agree}
 use Rattle.counts.proofs.buffers_agree.Goals as goal
-
-pub loop-b-init : goal.loop-b-init
-loop-b-init c = let T = decode c.args.pool.now in (omega arith, agree_start (stored T) (found T))
-
-pub buffer_count-count-requires : goal.buffer_count-count-requires
-buffer_count-count-requires c = (c.requires.0.shaped, c.loop-b-test.true)
-
-pub overflow_cast-i : goal.overflow_cast-i
-overflow_cast-i c = omega (arith, c.requires.0.few_buffers_lem)
-
-pub offset_bounds-lies-i : goal.offset_bounds-lies-i
-offset_bounds-lies-i c = omega (arith, c.requires.0.few_buffers_lem)
-
-pub bounds-lies-i : goal.bounds-lies-i
-bounds-lies-i c = omega (arith, c.requires.1.long)
-
-pub returns-then-count-lies : goal.returns-then-count-lies
-unfolding buffers_agree
-returns-then-count-lies c =
-    let T = decode c.args.pool.now in
-    let k = totals c.requires.0 in
-    agree_torn (stored T) (found T) c.requires.1 (omega arith) c.buffer_count-count.ensures (buffer_total T) (omega arith) c.if-count-lies.true
-
-pub overflow_add-b : goal.overflow_add-b
-overflow_add-b c = omega (arith, c.requires.0.few_buffers_lem)
-
-pub loop-b-smaller : goal.loop-b-smaller
-loop-b-smaller c = omega arith
-
-pub loop-b-preserved : goal.loop-b-preserved
-loop-b-preserved c =
-    let T = decode c.args.pool.now in
-    let k = totals c.requires.0 in
-    (omega arith, agree_on (stored T) (found T) c.requires.1 (omega arith) c.buffer_count-count.ensures c.loop-b.invariant.1 c.if-count-lies.false)
 
 pub returns : goal.returns
 unfolding buffers_agree
 returns c =
     let T = decode c.args.pool.now in
+    let n = c.args.shape.buffers in
     let k = totals c.requires.0 in
-    agree_end (stored T) (found T) (buffer_total T) (omega arith) c.loop-b.invariant.1
+    let yields = YieldsList-from_range 0 n n refl (omega arith) in
+    all_from_yields_List (λ d. eqb (buffer_count T d) (get_or c.args.lies.now d 0)) _ _ _ c.all.ensures.ran yields (λ x b q k. search (rules, tests))
+    ∙ agree _ c.requires.1 (omega arith)

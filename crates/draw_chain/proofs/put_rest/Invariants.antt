@@ -1,15 +1,14 @@
+-- What is still to be drawn, written behind what is, gives the whole.
 use mathlib.Core.Path.{◌≡◌}
-use lib.ListN.{length}
+use Prim.Native.Nat.{◌-◌}
 use Rattle.rules.specs.Bytes.{decode}
 use Rattle.rules.specs.Chain.{walk}
-use Rattle.page.specs.Page.{Page, page, Wrote}
+use Rattle.page.specs.Page.{page, inked}
 use Rattle.draw_chain.specs.Text.{rest_text}
 use Rattle.draw_chain.proofs.put_rest.Given as goal
 
-abbrev pub invariant-loop-left : goal.invariant-loop-left
-invariant-loop-left l =
-    let T = decode l.pool in
-    (length l.out ≡ length l.initial.out) × ((r : Page) → Wrote (page l.out l.at) r (rest_text T (walk l.left T l.next)) → Wrote (page l.initial.out l.initial.at) r (rest_text T (walk l.allowed T l.link)))
-
-abbrev pub decreases-loop-left : goal.decreases-loop-left
-decreases-loop-left l = l.left
+abbrev pub invariant-loop : goal.invariant-loop
+invariant-loop l = record {
+  lent : l.page.bytes.ghost_name ≡ l.initial.page.bytes.ghost_name;
+  is : inked (page l.page) (rest_text (decode l.pool) (walk (l.allowed - l.counter) (decode l.pool) l.next)) ≡ inked (page l.initial.page) (rest_text (decode l.pool) (walk l.allowed (decode l.pool) l.link));
+}

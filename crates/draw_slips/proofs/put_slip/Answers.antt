@@ -1,11 +1,8 @@
 -- `draw_slips::put_slip` meets its contract. Assumes nothing.
-use mathlib.Core.Path.{ap}
-use Rattle.kinds.specs.declared.Serial.{Serial}
-use Rattle.page.proofs.Page.{on, same}
-use Rattle.page.specs.Digits.{serial_text}
+use Rattle.page.proofs.Ink.{on}
+use Rattle.draw_slips.specs.Text.{slip_text}
 use Rattle.draw_slips.proofs.put_slip.Goals as goal
 
 pub returns : goal.returns
-returns c =
-    let name = same (ap (λ (x : Serial). serial_text x.0) c.serial.ensures) c.put_serial-name.ensures in
-    on (on (on c.put_tagged-number.ensures name) c.put_state-held.ensures) c.put_text.ensures
+unfolding slip_text
+returns c = rw (c.from.ensures, c.serial.ensures) at (on (on (on c.tagged.ensures c.serial-2.ensures) c.put_state.ensures) c.text.ensures)

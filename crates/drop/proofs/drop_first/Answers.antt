@@ -1,19 +1,18 @@
 -- `drop::drop_first` meets its contract. Assumes nothing.
-use mathlib.Core.Path.{◌≡◌, sym, ap, subst, ◌∙◌}
-use mathlib.Core.Logic.{◌≢◌}
+use mathlib.Core.Path.{◌≡◌, refl, sym, ap, subst, ◌∙◌}
 use mathlib.Core.List.{List}
-use mathlib.Core.Bool.{Bool}
+use mathlib.Core.Bool.{Bool, true}
 use Prim.Native.Nat.{ℕ, ◌+◌, ◌≤◌, ◌<◌}
 use native.Mathlib.Omega.{arith}
 use borrow.Author.Rules.{rules}
 use lib.ListN.{length}
-use lib.Dec.{leb}
-use borrow.Author.Tests.{not-true, not-false, leb-true, leb-false}
-use Rattle.kinds.proofs.Laws.{entry_none, entry_some}
+use lib.Dec.{leb, ltb}
+use borrow.Author.Tests.{leb-true, leb-false}
+use Rattle.std.specs.Prelude.{Option, None}
 use Rattle.rules.specs.Basics.{Is}
 use Rattle.rules.specs.Tables.{Tables, head_of, holding, slip_total, piece_total}
 use Rattle.rules.specs.Bytes.{decode}
-use Rattle.rules.specs.Chain.{state_of, own_pieces}
+use Rattle.rules.specs.Chain.{state_of, own_pieces, length_of}
 use Rattle.rules.specs.Room.{is_free_with, free_pieces, free_from}
 use Rattle.rules.specs.Build.{Plan, built, built_link}
 use Rattle.rules.specs.Rule.{name}
@@ -25,17 +24,22 @@ use Rattle.rules.proofs.Back.{pieces_most, drop_room, back_own}
 use Rattle.layout.specs.declared.Shape.{Shape}
 use Rattle.tables.specs.Shape.{Holds}
 use Rattle.tables.proofs.Laws.{whole, total_pieces}
-use Rattle.chain.proofs.Spots.{found_at, past_range}
+use Rattle.chain.specs.Find.{spot_of}
+use Rattle.chain.proofs.Spots.{Found, found_at, found_ok, found_err, past_range}
 use Rattle.release.specs.Release.{turned_to, turned_storage}
-use Rattle.front.specs.Front.{RoomInFront}
+use Rattle.front.specs.declared.FrontRoom.{FrontRoom}
+use Rattle.front.specs.Front.{RoomInFront, RoomThere}
 use Rattle.rest.specs.declared.Tail.{Tail}
-use Rattle.rest.specs.Rest.{new_of, Stays, Makable}
+use Rattle.rest.specs.Rest.{rest_from, new_of, Stays, Makable}
+use Rattle.std.proofs.lemmas.Option.{IfSome_then}
+use Rattle.rest.proofs.Rest.{makable}
 use Rattle.rest.proofs.Freed.{emptied_to, freed_buffers, freed_count, freed_from, freed_counts, freed_link, freed_done, moved_done, freed_storage, moved_storage}
 use Rattle.rest.proofs.Dropped.{dropped_at, more_dropped, buffer_dropped}
 use Rattle.drop.proofs.Laws.{no_stretch, made_dropped, drop_slip, drop_range, drop_pieces_lem, drop_nothing, drop_done}
 use Rattle.drop.proofs.drop_first.Goals as goal
+use Rattle.drop.proofs.drop_first.Goals.{In_ok-at, After-wanted-wanted, In_ok-room, After-make-link}
 
--- ---- the slip is named
+-- ---- the room
 
 -- Over a pool's tables, the slip's number, the bytes that go, and the link that the slip holds.
 module _ (T : Tables) (s n link : ℕ) (head_is : link ≡ head_of T s) (h : SoundNow T) where
@@ -44,6 +48,13 @@ module _ (T : Tables) (s n link : ℕ) (head_is : link ≡ head_of T s) (h : Sou
       → enough ≡ leb (length (dropped T s n).more) (length (drop_back T s n) + length (free_pieces T))
   room_is wants r =
       r.there ∙ (λ i. leb (wants i) (length (own_pieces (piece_total T) T (head_is i)) + length (free_pieces T))) ∙ sym (drop_room T s n h (length (free_pieces T)))
+
+  -- where there is none, too few are free
+  lacking : {wanted : ℕ} {o : Option FrontRoom} → wanted ≡ length (dropped T s n).more → RoomThere (RoomInFront T link wanted) o → o ≡ None
+      → length (drop_back T s n) + length (free_pieces T) < length (dropped T s n).more
+  lacking wants r z =
+      let (_, _, few) = rw z at r in
+      leb-false _ _ (sym (room_is wants few))
 
   -- none below the number found is free once the front is given back
   none_below : {wanted from beyond : ℕ} {enough : Bool} → RoomInFront T link wanted from beyond enough
@@ -58,149 +69,132 @@ module _ (T : Tables) (s n i : ℕ) (h : SoundNow T) (inside : s < slip_total T)
   all_free : free_from (emptied_to (dropped T s n) s) i ≡ free_pieces (emptied_to (dropped T s n) s)
   all_free = freed_from (dropped T s n) s (dropped_planned T s n h) inside i none
 
-  makable : {p : Plan} {t : Tail} → dropped T s n ≡ p → Stays t p → piece_total T < 65535 → length (dropped T s n).more ≤ length (drop_back T s n) + length (free_pieces T)
+  stays_makable : {p : Plan} {t : Tail} → dropped T s n ≡ p → Stays t p → piece_total T < 65535 → length (dropped T s n).more ≤ length (drop_back T s n) + length (free_pieces T)
       → Makable (emptied_to (dropped T s n) s) t i
-  makable {t = t} e is few enough =
+  stays_makable {t = t} e is few enough =
       let rest = dropped T s n in
       let planned = dropped_planned T s n h in
-      let same = more_dropped T s n e is in
-      record {
-        room = omega (arith, enough, ap length same, ap length all_free, freed_count rest s planned inside);
-        in_store = λ z. omega (arith, buffer_dropped T s n e is h z, freed_buffers rest s planned inside);
-        counted = omega (arith, few, freed_counts rest s planned inside t.buffer.0);
-      }
+      makable t (omega (arith, enough, ap length (more_dropped T s n e is), ap length all_free, freed_count rest s planned inside))
+      (IfSome_then t.window (buffer_dropped T s n e is h) (λ w l. omega (arith, l, freed_buffers rest s planned inside)))
+      (λ x. omega (arith, few, freed_counts rest s planned inside x))
 
-pub returns-then-not-held-clause-no_view_after : goal.returns-then-not-held-clause-no_view_after
-returns-then-not-held-clause-no_view_after c =
-    let a = c.args in
-    drop_slip a.pool.now a.storage.now (name a.s.0 a.serial.0) a.n (c.enter-entry.ensures.strange (entry_none c.state_of.ensures c.held.ensures (not-true _ c.if-not-held.true-raw)))
+pub returns-in_err-head-clause-no_view_after : goal.returns-in_err-head-clause-no_view_after
+returns-in_err-head-clause-no_view_after c = grind (arith, drop_slip c.args.pool.now c.args.storage.now (name c.args.s.slip.0 c.args.s.serial.0) c.args.n)
 
 -- ---- the place found
 
-pub returns-then-past_end-clause-no_view_after : goal.returns-then-past_end-clause-no_view_after
-returns-then-past_end-clause-no_view_after c =
+pub returns-in_err-at-clause-no_view_after : goal.returns-in_err-at-clause-no_view_after
+returns-in_err-at-clause-no_view_after c =
     let a = c.args in
     let T = decode a.pool.now in
-    let held_here : c.enter-entry.result ≢ 0 = entry_some c.state_of.ensures c.held.ensures (not-false _ c.if-not-held.false-raw) in
-    let e = c.enter-entry.ensures in
-    let past = past_range T a.s.0 a.n (e.link_is held_here) c.find-at.ensures c.requires.0.sound (e.inside held_here) in
-    drop_range a.pool.now a.storage.now (name a.s.0 a.serial.0) a.n (e.named held_here) (subst Is (sym c.if-past_end.true ∙ c.past_end.ensures ∙ past) tt)
+    let e = c.in_ok-head.ensures in
+    let (r, t) = found_err (spot_of (piece_total T) T true c.in_ok-head.head a.n) c.in_err-at.ensures in
+    let past = subst Is (past_range T a.s.slip.0 a.n e.link_is refl c.requires.0.sound e.inside) t in
+    grind (arith, drop_range a.pool.now a.storage.now (name a.s.slip.0 a.s.serial.0) a.n e.named past)
+
+module _ (c : In_ok-at) where
+  abbrev T : Tables
+  T = decode c.args.pool.now
+
+  abbrev s : ℕ
+  s = c.args.s.slip.0
+
+  place_is : c.in_ok-at.at ≡ spot_of (piece_total T) T true c.in_ok-head.head c.args.n
+  place_is = (found_ok _ c.in_ok-at.ensures).0
+
+  place : Found T (head_of T s) c.args.n c.in_ok-at.at
+  place = let e = c.in_ok-head.ensures in found_at T s c.args.n e.link_is place_is c.requires.0.sound e.inside
+
+  -- the chain has the bytes that go
+  there : Is (ltb (length_of T s) c.args.n) → ⊥
+  there t = let e = c.in_ok-head.ensures in (found_ok (spot_of (piece_total T) T true c.in_ok-head.head c.args.n) c.in_ok-at.ensures).1 (subst Is (sym (past_range T s c.args.n e.link_is refl c.requires.0.sound e.inside)) t)
+
+  -- what stays is the plan from the place found
+  plan : dropped T s c.args.n ≡ rest_from T c.in_ok-at.at.own c.in_ok-at.at.link c.in_ok-at.at.into
+  plan = dropped_at T s c.args.n c.in_ok-head.ensures.link_is place_is
 
 pub returns-then-n-eq0-clause-no_view_after : goal.returns-then-n-eq0-clause-no_view_after
 returns-then-n-eq0-clause-no_view_after c =
     let a = c.args in
-    let T = decode a.pool.now in
-    let held_here : c.enter-entry.result ≢ 0 = entry_some c.state_of.ensures c.held.ensures (not-false _ c.if-not-held.false-raw) in
-    let e = c.enter-entry.ensures in
-    let past = past_range T a.s.0 a.n (e.link_is held_here) c.find-at.ensures c.requires.0.sound (e.inside held_here) in
-    drop_nothing a.pool.now a.storage.now (name a.s.0 a.serial.0) a.n (e.named held_here)
-    (λ t. subst Is (sym past ∙ sym c.past_end.ensures ∙ c.if-past_end.false) t) c.if-n-eq0.true c.done.ensures (λ i. search rules) c.requires.0.shaped
+    let i = (goal.at.returns-then-n-eq0-clause-no_view_after c).In_ok-at in
+    drop_nothing a.pool.now a.storage.now (name a.s.slip.0 a.s.serial.0) a.n c.in_ok-head.ensures.named (there i) c.if-n-eq0.true c.done.ensures (search rules) c.requires.0.shaped
+
+-- how many pieces are wanted
+wants : (c : After-wanted-wanted) → c.wanted-wanted.result ≡ length (dropped (decode c.args.pool.now) c.args.s.slip.0 c.args.n).more
+wants c =
+    let T = decode c.args.pool.now in
+    c.wanted-wanted.ensures T ∙ ap (λ (p : Plan). length p.more) (sym (plan (goal.at.After-wanted-wanted c).In_ok-at))
 
 -- ---- none is wanted: the slip is moved along its chain
 
-pub move_to-requires-clause-opened : goal.move_to-requires-clause-opened
-move_to-requires-clause-opened c =
-    let a = c.args in
-    let T = decode a.pool.now in
-    let held_here : c.enter-entry.result ≢ 0 = entry_some c.state_of.ensures c.held.ensures (not-false _ c.if-not-held.false-raw) in
-    let e = c.enter-entry.ensures in
-    let place = found_at T a.s.0 a.n (e.link_is held_here) c.find-at.ensures c.requires.0.sound (e.inside held_here) in
-    (c.requires.0, place.good, e.below held_here)
-
-pub move_to-requires-clause-into_bound : goal.move_to-requires-clause-into_bound
-move_to-requires-clause-into_bound c =
-    let a = c.args in
-    let T = decode a.pool.now in
-    let held_here : c.enter-entry.result ≢ 0 = entry_some c.state_of.ensures c.held.ensures (not-false _ c.if-not-held.false-raw) in
-    let e = c.enter-entry.ensures in
-    ((found_at T a.s.0 a.n (e.link_is held_here) c.find-at.ensures c.requires.0.sound (e.inside held_here)).inside, c.requires.1)
+pub move_to-requires : goal.move_to-requires
+move_to-requires c =
+    let f = place (goal.at.move_to-requires c).In_ok-at in
+    record { opened = (c.requires.0, f.good, c.in_ok-head.ensures.below); into_bound = (f.inside, c.requires.1) }
 
 pub returns-then-wanted-eq0-clause-no_view_after : goal.returns-then-wanted-eq0-clause-no_view_after
 returns-then-wanted-eq0-clause-no_view_after c =
     let a = c.args in
     let T = decode a.pool.now in
-    let s = a.s.0 in
-    let held_here : c.enter-entry.result ≢ 0 = entry_some c.state_of.ensures c.held.ensures (not-false _ c.if-not-held.false-raw) in
-    let e = c.enter-entry.ensures in
-    let past = past_range T s a.n (e.link_is held_here) c.find-at.ensures c.requires.0.sound (e.inside held_here) in
-    let q = dropped_at T s a.n (e.link_is held_here) c.find-at.ensures in
-    let wants : c.wanted-wanted.result ≡ length (dropped T s a.n).more = c.wanted-wanted.ensures T ∙ ap (λ (p : Plan). length p.more) (sym q) in
-    let none_new = no_stretch (dropped T s a.n).more (sym wants ∙ c.if-wanted-eq0.true) in
+    let s = a.s.slip.0 in
+    let at = goal.at.returns-then-wanted-eq0-clause-no_view_after c in
+    let q = plan at.In_ok-at in
+    let none_new = no_stretch (dropped T s a.n).more (sym (wants at.After-wanted-wanted) ∙ c.if-wanted-eq0.true) in
     let S = state_of T a.storage.now in
-    drop_done a.pool.now a.storage.now (name s a.serial.0) a.n (e.named held_here)
-    (λ t. subst Is (sym past ∙ sym c.past_end.ensures ∙ c.if-past_end.false) t) c.if-n-eq0.false (omega (arith, ap length none_new)) c.done-then-wanted-eq0.ensures
-    (λ i. search rules)
+    drop_done a.pool.now a.storage.now (name s a.s.serial.0) a.n c.in_ok-head.ensures.named (there at.In_ok-at) c.if-n-eq0.false (omega (arith, ap length none_new)) c.done-then-wanted-eq0.ensures
+    (search rules)
     (moved_done S (dropped T s a.n) s none_new
     (record { shaped = c.move_to.ensures.0.shaped; is = c.move_to.ensures.0.is ∙ ap (λ (p : Plan). turned_to p.base s (holding p.tail)) (sym q) }))
     (c.move_to.ensures.1 ∙ ap (λ (p : Plan). turned_storage p.base a.storage.now s (holding p.tail)) (sym q) ∙ moved_storage S (dropped T s a.n) s)
 
 -- ---- a piece is wanted
 
-pub room_in_front-room-requires : goal.room_in_front-room-requires
-room_in_front-room-requires c =
+pub room_in_front-requires : goal.room_in_front-requires
+room_in_front-requires c =
+    let T = decode c.args.pool.now in
+    (c.requires.0, c.in_ok-head.ensures.good, omega (arith, wants (goal.at.room_in_front-requires c).After-wanted-wanted, pieces_most T c.args.s.slip.0 c.args.n, drop_count T c.args.s.slip.0 c.args.n (tables_now T c.requires.0.sound)))
+
+pub returns-in_err-room-clause-no_view_after : goal.returns-in_err-room-clause-no_view_after
+returns-in_err-room-clause-no_view_after c =
     let a = c.args in
     let T = decode a.pool.now in
-    let held_here : c.enter-entry.result ≢ 0 = entry_some c.state_of.ensures c.held.ensures (not-false _ c.if-not-held.false-raw) in
-    let e = c.enter-entry.ensures in
-    let q = dropped_at T a.s.0 a.n (e.link_is held_here) c.find-at.ensures in
-    let wants : c.wanted-wanted.result ≡ length (dropped T a.s.0 a.n).more = c.wanted-wanted.ensures T ∙ ap (λ (p : Plan). length p.more) (sym q) in
-    (c.requires.0, e.good, omega (arith, wants, pieces_most T a.s.0 a.n, drop_count T a.s.0 a.n (tables_now T c.requires.0.sound)))
+    let e = c.in_ok-head.ensures in
+    let at = goal.at.returns-in_err-room-clause-no_view_after c in
+    let few = lacking T a.s.slip.0 a.n c.in_ok-head.head e.link_is (tables_now T c.requires.0.sound) (wants at.After-wanted-wanted) c.room_in_front.ensures (grind arith) in
+    grind (arith, drop_pieces_lem a.pool.now a.storage.now (name a.s.slip.0 a.s.serial.0) a.n e.named (there at.In_ok-at) few)
 
-pub returns-then-not-room-clause-no_view_after : goal.returns-then-not-room-clause-no_view_after
-returns-then-not-room-clause-no_view_after c =
-    let a = c.args in
-    let T = decode a.pool.now in
-    let s = a.s.0 in
-    let held_here : c.enter-entry.result ≢ 0 = entry_some c.state_of.ensures c.held.ensures (not-false _ c.if-not-held.false-raw) in
-    let sound_here = tables_now T c.requires.0.sound in
-    let e = c.enter-entry.ensures in
-    let past = past_range T s a.n (e.link_is held_here) c.find-at.ensures c.requires.0.sound (e.inside held_here) in
-    let q = dropped_at T s a.n (e.link_is held_here) c.find-at.ensures in
-    let wants : c.wanted-wanted.result ≡ length (dropped T s a.n).more = c.wanted-wanted.ensures T ∙ ap (λ (p : Plan). length p.more) (sym q) in
-    let room = room_is T s a.n _ (e.link_is held_here) sound_here wants c.room_in_front-room.ensures in
-    let few = leb-false (length (dropped T s a.n).more) (length (drop_back T s a.n) + length (free_pieces T)) (sym room ∙ not-true _ c.if-not-room.true) in
-    drop_pieces_lem a.pool.now a.storage.now (name s a.serial.0) a.n (e.named held_here)
-    (λ t. subst Is (sym past ∙ sym c.past_end.ensures ∙ c.if-past_end.false) t) (omega (arith, few))
+module _ (c : In_ok-room) where
+  room_here : RoomInFront (decode c.args.pool.now) c.in_ok-head.head c.wanted-wanted.result c.in_ok-room.room.from.0 c.in_ok-room.room.beyond.0 true
+  room_here = rw c.in_ok-room.ensures.ok_part at c.room_in_front.ensures
 
--- ---- there is room
+  sound_now : SoundNow (decode c.args.pool.now)
+  sound_now = tables_now (decode c.args.pool.now) c.requires.0.sound
 
-pub give_back-tail-requires-clause-opened : goal.give_back-tail-requires-clause-opened
-give_back-tail-requires-clause-opened c =
-    let a = c.args in
-    let T = decode a.pool.now in
-    let held_here : c.enter-entry.result ≢ 0 = entry_some c.state_of.ensures c.held.ensures (not-false _ c.if-not-held.false-raw) in
-    let e = c.enter-entry.ensures in
-    let place = found_at T a.s.0 a.n (e.link_is held_here) c.find-at.ensures c.requires.0.sound (e.inside held_here) in
-    (c.requires.0, place.good, e.below held_here)
+  enough : let T = decode c.args.pool.now in let s = c.args.s.slip.0 in length (dropped T s c.args.n).more ≤ length (drop_back T s c.args.n) + length (free_pieces T)
+  enough =
+      leb-true _ _ (sym (room_is (decode c.args.pool.now) c.args.s.slip.0 c.args.n c.in_ok-head.head c.in_ok-head.ensures.link_is sound_now (wants (goal.at.In_ok-room c).After-wanted-wanted) room_here))
 
-pub give_back-tail-requires-clause-into_bound : goal.give_back-tail-requires-clause-into_bound
-give_back-tail-requires-clause-into_bound c =
-    let a = c.args in
-    let T = decode a.pool.now in
-    let held_here : c.enter-entry.result ≢ 0 = entry_some c.state_of.ensures c.held.ensures (not-false _ c.if-not-held.false-raw) in
-    let e = c.enter-entry.ensures in
-    ((found_at T a.s.0 a.n (e.link_is held_here) c.find-at.ensures c.requires.0.sound (e.inside held_here)).inside, c.requires.1)
+  none : (d : ℕ) → d < c.in_ok-room.room.from.0 → Is (is_free_with (decode c.args.pool.now) (drop_back (decode c.args.pool.now) c.args.s.slip.0 c.args.n) d) → ⊥
+  none = none_below (decode c.args.pool.now) c.args.s.slip.0 c.args.n c.in_ok-head.head c.in_ok-head.ensures.link_is sound_now room_here
+
+pub give_back-tail-requires : goal.give_back-tail-requires
+give_back-tail-requires c =
+    let f = place (goal.at.give_back-tail-requires c).In_ok-at in
+    record { opened = (c.requires.0, f.good, c.in_ok-head.ensures.below); into_bound = (f.inside, c.requires.1) }
 
 pub make-link-requires : goal.make-link-requires
 make-link-requires c =
     let a = c.args in
     let T = decode a.pool.now in
-    let s = a.s.0 in
-    let held_here : c.enter-entry.result ≢ 0 = entry_some c.state_of.ensures c.held.ensures (not-false _ c.if-not-held.false-raw) in
-    let sound_here = tables_now T c.requires.0.sound in
-    let e = c.enter-entry.ensures in
-    let q = dropped_at T s a.n (e.link_is held_here) c.find-at.ensures in
-    let wants : c.wanted-wanted.result ≡ length (dropped T s a.n).more = c.wanted-wanted.ensures T ∙ ap (λ (p : Plan). length p.more) (sym q) in
-    let room = room_is T s a.n _ (e.link_is held_here) sound_here wants c.room_in_front-room.ensures in
-    let enough = leb-true (length (dropped T s a.n).more) (length (drop_back T s a.n) + length (free_pieces T)) (sym room ∙ not-false _ c.if-not-room.false) in
+    let s = a.s.slip.0 in
+    let at = goal.at.make-link-requires c in
+    let q = plan at.In_ok-at in
     let given = c.give_back-tail.ensures.becomes.0.is ∙ ap (λ (p : Plan). turned_to p.base s (holding 0)) (sym q) in
-    let number = c.room_in_front-room.result.from.0 in
-    let none = none_below T s a.n _ (e.link_is held_here) sound_here c.room_in_front-room.ensures in
-    let can = makable T s a.n number sound_here (e.inside held_here) none q c.give_back-tail.ensures.becomes.1
-    (omega (arith, c.requires.0.few_pieces_lem, total_pieces (whole c.requires.0.shaped))) enough in (
+    let can = stays_makable T s a.n c.in_ok-room.room.from.0 (sound_now at.In_ok-room) c.in_ok-head.ensures.inside (none at.In_ok-room) q c.give_back-tail.ensures.becomes.1
+    (omega (arith, c.requires.0.few_pieces_lem, total_pieces (whole c.requires.0.shaped))) (enough at.In_ok-room) in (
       c.give_back-tail.ensures.becomes.0.shaped,
       omega (arith, c.requires.0.few_pieces_lem),
-      subst (λ (X : Tables). Makable X c.give_back-tail.result number) (sym given) can,
+      subst (λ (X : Tables). Makable X c.give_back-tail.result c.in_ok-room.room.from.0) (sym given) can,
     )
 
 -- ---- what stays is made
@@ -216,21 +210,24 @@ module _ (T : Tables) (s n i : ℕ) (h : SoundNow T) (inside : s < slip_total T)
       made_dropped T s n i e is (all_free T s n i h inside none)
       (subst (λ (Y : Tables). Holds q sh (built Y (free_from Y i) (new_of t) t.next) × (r ≡ built_link (free_from Y i) (new_of t) t.next)) same m)
 
+-- what the code has made
+module _ (c : After-make-link) where
+  done : let T = decode c.args.pool.now in let s = c.args.s.slip.0 in let E = emptied_to (dropped T s c.args.n) s in
+      Holds c.make-link.new.pool c.args.shape (built E (free_pieces E) (dropped T s c.args.n).more (dropped T s c.args.n).tail) × (c.make-link.result ≡ built_link (free_pieces E) (dropped T s c.args.n).more (dropped T s c.args.n).tail)
+  done =
+      let at = goal.at.After-make-link c in
+      made (decode c.args.pool.now) c.args.s.slip.0 c.args.n c.in_ok-room.room.from.0 (sound_now at.In_ok-room) c.in_ok-head.ensures.inside (none at.In_ok-room) (plan at.In_ok-at)
+      c.give_back-tail.ensures.becomes.1 c.give_back-tail.ensures.becomes.0.is c.make-link.ensures
+
 pub overflow_add-link : goal.overflow_add-link
 overflow_add-link c =
-    let a = c.args in
-    let T = decode a.pool.now in
-    let s = a.s.0 in
-    let held_here : c.enter-entry.result ≢ 0 = entry_some c.state_of.ensures c.held.ensures (not-false _ c.if-not-held.false-raw) in
-    let sound_here = tables_now T c.requires.0.sound in
-    let e = c.enter-entry.ensures in
-    let q = dropped_at T s a.n (e.link_is held_here) c.find-at.ensures in
-    let none = none_below T s a.n _ (e.link_is held_here) sound_here c.room_in_front-room.ensures in
-    let m = made T s a.n _ sound_here (e.inside held_here) none q c.give_back-tail.ensures.becomes.1 c.give_back-tail.ensures.becomes.0.is c.make-link.ensures in
+    let T = decode c.args.pool.now in
+    let s = c.args.s.slip.0 in
+    let at = goal.at.overflow_add-link c in
     omega (
       arith,
-      m.1,
-      freed_link (dropped T s a.n) s (dropped_planned T s a.n sound_here) (e.inside held_here),
+      (done at.After-make-link).1,
+      freed_link (dropped T s c.args.n) s (dropped_planned T s c.args.n (sound_now at.In_ok-room)) c.in_ok-head.ensures.inside,
       c.requires.0.few_pieces_lem,
       total_pieces (whole c.requires.0.shaped),
     )
@@ -239,20 +236,10 @@ pub returns-clause-no_view_after : goal.returns-clause-no_view_after
 returns-clause-no_view_after c =
     let a = c.args in
     let T = decode a.pool.now in
-    let s = a.s.0 in
-    let held_here : c.enter-entry.result ≢ 0 = entry_some c.state_of.ensures c.held.ensures (not-false _ c.if-not-held.false-raw) in
-    let sound_here = tables_now T c.requires.0.sound in
-    let e = c.enter-entry.ensures in
-    let past = past_range T s a.n (e.link_is held_here) c.find-at.ensures c.requires.0.sound (e.inside held_here) in
-    let q = dropped_at T s a.n (e.link_is held_here) c.find-at.ensures in
-    let wants : c.wanted-wanted.result ≡ length (dropped T s a.n).more = c.wanted-wanted.ensures T ∙ ap (λ (p : Plan). length p.more) (sym q) in
-    let room = room_is T s a.n _ (e.link_is held_here) sound_here wants c.room_in_front-room.ensures in
-    let enough = leb-true (length (dropped T s a.n).more) (length (drop_back T s a.n) + length (free_pieces T)) (sym room ∙ not-false _ c.if-not-room.false) in
-    let none = none_below T s a.n _ (e.link_is held_here) sound_here c.room_in_front-room.ensures in
-    let m = made T s a.n _ sound_here (e.inside held_here) none q c.give_back-tail.ensures.becomes.1 c.give_back-tail.ensures.becomes.0.is c.make-link.ensures in
+    let s = a.s.slip.0 in
+    let at = goal.at.returns-clause-no_view_after c in
+    let q = plan at.In_ok-at in
     let S = state_of T a.storage.now in
-    let planned = dropped_planned T s a.n sound_here in
-    drop_done a.pool.now a.storage.now (name s a.serial.0) a.n (e.named held_here)
-    (λ t. subst Is (sym past ∙ sym c.past_end.ensures ∙ c.if-past_end.false) t) c.if-n-eq0.false enough c.done-2.ensures (λ i. search rules)
-    (freed_done (dropped T s a.n) s planned (e.inside held_here) S m c.set_slip.ensures)
+    drop_done a.pool.now a.storage.now (name s a.s.serial.0) a.n c.in_ok-head.ensures.named (there at.In_ok-at) c.if-n-eq0.false (enough at.In_ok-room) c.done-2.ensures (search rules)
+    (freed_done (dropped T s a.n) s (dropped_planned T s a.n (sound_now at.In_ok-room)) c.in_ok-head.ensures.inside S (done at.After-make-link) c.set_slip.ensures)
     (c.give_back-tail.ensures.storage_after ∙ ap (λ (p : Plan). turned_storage p.base a.storage.now s (holding 0)) (sym q) ∙ freed_storage S (dropped T s a.n) s)

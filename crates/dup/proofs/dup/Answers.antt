@@ -1,158 +1,114 @@
 -- `dup::dup` meets its contract. Assumes nothing.
-use mathlib.Core.Path.{◌≡◌, refl, sym, ap, subst, ◌∙◌}
-use mathlib.Core.Logic.{◌≢◌}
+use mathlib.Core.Path.{◌≡◌, sym, ap, ◌∙◌}
 use mathlib.Core.List.{List, [], ◌∷◌}
-use Prim.Native.Nat.{ℕ, suc, ◌+◌, ◌-◌, ◌≤◌, ◌<◌}
+use Prim.Native.Nat.{ℕ, suc, ◌+◌, ◌-◌, ◌<◌, ◌≤◌}
 use native.Mathlib.Omega.{arith}
 use lib.ListN.{length, get_or}
-use borrow.Author.Tests.{not-true, not-false}
+use Rattle.std.proofs.Common.{rules}
 use Rattle.kinds.specs.Serial.{name_with}
-use Rattle.kinds.specs.SlipState.{state_of}
-use Rattle.kinds.proofs.Laws.{entry_none, entry_some, heads_raw}
-use Rattle.rules.specs.Basics.{Is}
 use Rattle.rules.specs.Tables.{Tables, piece, head_of, name_of, slip_total, piece_total, set_slip, holding}
 use Rattle.rules.specs.Bytes.{decode}
-use Rattle.rules.specs.Sound.{SoundTables, link_ok}
-use Rattle.rules.specs.Room.{is_ready, is_free, ready_slips, free_pieces, new_slip}
+use Rattle.rules.specs.Room.{is_free, ready_slips, free_pieces, new_slip}
 use Rattle.rules.specs.Build.{made}
 use Rattle.rules.specs.Dup.{dup_plan}
-use Rattle.rules.specs.Rule.{Name, name, unnamed}
+use Rattle.rules.specs.Rule.{name}
 use Rattle.rules.proofs.Sizes.{shared_sizes}
 use Rattle.tables.proofs.Laws.{whole, total_slips, total_pieces, onward}
-use Rattle.chain.specs.Enter.{Enters}
-use Rattle.chain.proofs.Links.{InUse, link_leads}
+use Rattle.chain.proofs.Links.{link_leads}
 use Rattle.room.specs.Free.{first_from}
-use Rattle.room.proofs.Free.{first_lies, new_slip_lem, no_slip, piece_first, no_piece}
-use Rattle.answer.proofs.New.{new_leaves}
+use Rattle.room.proofs.Free.{new_slip_lem, no_slip, piece_first}
 use Rattle.build.proofs.Laws.{opened_copyable, opened_sharable}
-use Rattle.dup.proofs.Laws.{no_heads, plan_none, plan_one, empty_under, cloned_made, clone_under, dup_slip, dup_slips, dup_pieces, dup_done}
+use Rattle.dup.proofs.Laws.{lacking, plan_none, plan_one, empty_under, cloned_made, clone_under, dup_slip, dup_slips, dup_pieces, dup_done}
 use Rattle.dup.proofs.dup.Goals as goal
+use Rattle.dup.proofs.dup.Goals.{In_ok-t, Else-head-eq0, In_ok-f}
 
-pub returns-then-not-held : goal.returns-then-not-held
-returns-then-not-held c =
-    let a = c.args in
-    let vacant = entry_none c.state_of-state.ensures c.held.ensures (not-true _ c.if-not-held.true-raw) in
-    record { by_index = λ st. dup_slip a.pool.now st (name a.s.0 a.serial.0) (c.enter.ensures.strange vacant); leaves = tt }
+pub returns-in_err-head-clause-by_index : goal.returns-in_err-head-clause-by_index
+returns-in_err-head-clause-by_index c st = grind (arith, dup_slip c.args.pool.now st (name c.args.s.slip.0 c.args.s.serial.0))
 
-pub returns-then-t-shape : goal.returns-then-t-shape
-returns-then-t-shape c =
-    let a = c.args in
-    let T = decode a.pool.now in
-    let held_here : c.enter.result ≢ 0 = entry_some c.state_of-state.ensures c.held.ensures (not-false _ c.if-not-held.false-raw) in
-    let all : c.next_ready-t.result.0 ≡ slip_total T = omega (arith, c.if-t-shape.true, total_slips (whole c.requires.shaped)) in
-    record {
-      by_index = λ st. dup_slips a.pool.now st (name a.s.0 a.serial.0) (c.enter.ensures.named held_here) (no_slip T c.next_ready-t.ensures all);
-      leaves = tt;
-    }
+pub returns-in_err-t-clause-by_index : goal.returns-in_err-t-clause-by_index
+returns-in_err-t-clause-by_index c st = grind (arith, no_slip, dup_slips c.args.pool.now st (name c.args.s.slip.0 c.args.s.serial.0) c.in_ok-head.ensures.named)
 
 -- the new slip: the lowest that may be given
-found : (T : Tables) (t : ℕ) → t ≢ slip_total T → t ≡ first_from (is_ready T) 0 (slip_total T)
-    → (t < slip_total T) × (new_slip T ≡ t) × (1 ≤ length (ready_slips T))
-found T t n e =
-    let below : t < slip_total T = omega (arith, n, e, (first_lies (is_ready T) 0 (slip_total T)).0) in
-    let new = new_slip_lem T e below in
-    (below, new.0, new.1)
-
--- the new piece: the lowest free one
-taken_here : (T : Tables) (f : ℕ) → f ≢ piece_total T → f ≡ first_from (is_free T) 0 (piece_total T) → f < piece_total T
-taken_here T f n e = omega (arith, n, e, (first_lies (is_free T) 0 (piece_total T)).0)
-
--- the piece that heads the chain is in use
-leads : (T : Tables) (raw d : ℕ) → SoundTables T → Is (link_ok T (raw - 1)) → raw ≡ suc (suc d) → InUse T d
-leads T raw d h good e =
-    let k : raw - 1 - 1 ≡ d = omega arith in
-    subst (InUse T) k (link_leads T (raw - 1) h good (λ z. omega arith))
+new : (c : In_ok-t) → let t = c.in_ok-t.t.0 in let T = decode c.args.pool.now in (t < slip_total T) × (new_slip T ≡ t) × (1 ≤ length (ready_slips T))
+new c =
+    let (first, below) = rw c.in_ok-t.ensures.ok_part at c.lowest.ensures in
+    let it = new_slip_lem (decode c.args.pool.now) first below in
+    (below, it.0, it.1)
 
 pub under_new-requires : goal.under_new-requires
-under_new-requires c =
-    let new = found (decode c.args.pool.now) c.next_ready-t.result.0 (λ z. c.if-t-shape.false (z ∙ total_slips (whole c.requires.shaped))) c.next_ready-t.ensures in
-    (c.requires.shaped, omega (arith, new.0, total_slips (whole c.requires.shaped)), omega arith)
+under_new-requires c = let s = whole c.requires.shaped in (c.requires.shaped, omega (arith, (new (goal.at.under_new-requires c).In_ok-t).0, total_slips s), omega arith)
 
-pub returns-in_default : goal.returns-in_default
-returns-in_default c =
+pub returns-then-head-eq0-clause-by_index : goal.returns-then-head-eq0-clause-by_index
+returns-then-head-eq0-clause-by_index c st =
     let a = c.args in
     let T = decode a.pool.now in
-    let held_here = entry_some c.state_of-state.ensures c.held.ensures (not-false _ c.if-not-held.false-raw) in
-    let new = found T c.next_ready-t.result.0 (λ z. c.if-t-shape.false (z ∙ total_slips (whole c.requires.shaped))) c.next_ready-t.ensures in
-    let one : c.enter.result ≡ 1 = no_heads c.enter.result c.state_of-state.ensures held_here c.in_default.not-Heads in
-    let none : head_of T a.s.0 ≡ 0 = omega (arith, c.enter.ensures.link_is held_here) in
+    let e = c.in_ok-head.ensures in
+    let none : head_of T a.s.slip.0 ≡ 0 = sym e.link_is ∙ c.if-head-eq0.true in
+    let it = new (goal.at.returns-then-head-eq0-clause-by_index c).In_ok-t in
     let is = c.under_new.ensures.becomes in
-    record {
-      by_index = λ st. dup_done a.pool.now st (name a.s.0 a.serial.0) (c.enter.ensures.named held_here) new.2 (omega (arith, plan_none T (head_of T a.s.0) none)) new.1
-          c.under_new.ensures.value refl (λ i. omega (arith, c.type_inv.pool i)) (record { shaped = is.shaped; is = is.is ∙ empty_under T (head_of T a.s.0) _ (free_pieces T) none });
-      leaves = new_leaves (decode c.under_new.new.pool) T c.next_ready-t.result.0 (omega (arith, new.0, total_slips (whole c.requires.shaped), c.requires.few_slips)) c.under_new.ensures.value;
-    }
+    dup_done a.pool.now st (name a.s.slip.0 a.s.serial.0) e.named it.2 (omega (arith, plan_none T (head_of T a.s.slip.0) none)) it.1
+    c.under_new.ensures.value (search rules) (search rules) (record { shaped = is.shaped; is = is.is ∙ empty_under T (head_of T a.s.slip.0) _ (free_pieces T) none })
 
-pub returns-then-f-shape : goal.returns-then-f-shape
-returns-then-f-shape c =
+-- where a piece heads the chain
+some : (c : Else-head-eq0) → head_of (decode c.args.pool.now) c.args.s.slip.0 ≡ 0 → ⊥
+some c z = c.if-head-eq0.false (c.in_ok-head.ensures.link_is ∙ z)
+
+pub returns-in_err-f-clause-by_index : goal.returns-in_err-f-clause-by_index
+returns-in_err-f-clause-by_index c st =
     let a = c.args in
     let T = decode a.pool.now in
-    let held_here = entry_some c.state_of-state.ensures c.held.ensures (not-false _ c.if-not-held.false-raw) in
-    let new = found T c.next_ready-t.result.0 (λ z. c.if-t-shape.false (z ∙ total_slips (whole c.requires.shaped))) c.next_ready-t.ensures in
-    let raw_here = heads_raw (sym c.state_of-state.ensures ∙ c.in-Heads.is) in
-    let some : head_of T a.s.0 ≢ 0 = λ z. omega (arith, raw_here, c.enter.ensures.link_is held_here) in
-    let all : c.next_free_piece-f.result.0 ≡ piece_total T = omega (arith, c.if-f-shape.true, total_pieces (whole c.requires.shaped)) in
-    let none = ap length (no_piece T c.next_free_piece-f.ensures all) in
-    record {
-      by_index = λ st. dup_pieces a.pool.now st (name a.s.0 a.serial.0) (c.enter.ensures.named held_here) new.2 (omega (arith, none, plan_one T (head_of T a.s.0) some));
-      leaves = tt;
-    }
+    let at = goal.at.returns-in_err-f-clause-by_index c in
+    let none = plan_one T (head_of T a.s.slip.0) (some at.Else-head-eq0) in
+    grind (arith, lacking T, dup_pieces a.pool.now st (name a.s.slip.0 a.s.serial.0) c.in_ok-head.ensures.named (new at.In_ok-t).2)
+
+-- the new piece: the lowest free one
+taken_here : (c : In_ok-f) → let T = decode c.args.pool.now in let f = c.in_ok-f.f.0 in (f ≡ first_from (is_free T) 0 (piece_total T)) × (f < piece_total T)
+taken_here c = rw c.in_ok-f.ensures.ok_part at c.lowest-2.ensures
 
 pub clone_rest-requires : goal.clone_rest-requires
 clone_rest-requires c =
     let T = decode c.args.pool.now in
-    let d = c.in-Heads.head.0 in
-    let raw_here = heads_raw (sym c.state_of-state.ensures ∙ c.in-Heads.is) in
-    let used = leads T c.enter.result d c.requires.sound c.enter.ensures.good raw_here in
-    let taken = taken_here T c.next_free_piece-f.result.0 (λ z. c.if-f-shape.false (z ∙ total_pieces (whole c.requires.shaped))) c.next_free_piece-f.ensures in (
+    let d = c.in_ok-head.head - 1 in
+    let used = link_leads T c.in_ok-head.head c.requires.sound c.in_ok-head.ensures.good c.if-head-eq0.false in (
       c.requires.shaped,
-      omega (arith, taken, total_pieces (whole c.requires.shaped)),
+      omega (arith, (taken_here (goal.at.clone_rest-requires c).In_ok-f).1, total_pieces (whole c.requires.shaped)),
       opened_copyable c.requires d 0 used (omega (arith, used.some_bytes)),
       opened_sharable c.requires (piece T d).next used.onward,
     )
 
+-- its number has 16 bits with one more
+small : (c : In_ok-f) → c.in_ok-f.f.0 + 1 < 65535
+small c = omega (arith, (taken_here c).1, total_pieces (whole c.requires.shaped), c.requires.few_pieces_lem)
+
 pub overflow_add-f : goal.overflow_add-f
-overflow_add-f c =
-    let T = decode c.args.pool.now in
-    let taken = taken_here T c.next_free_piece-f.result.0 (λ z. c.if-f-shape.false (z ∙ total_pieces (whole c.requires.shaped))) c.next_free_piece-f.ensures in
-    omega (arith, taken, total_pieces (whole c.requires.shaped), c.requires.few_pieces_lem)
+overflow_add-f c = omega (arith, small (goal.at.overflow_add-f c).In_ok-f)
 
 pub under_new-requires-2 : goal.under_new-requires-2
 under_new-requires-2 c =
-    let T = decode c.args.pool.now in
-    let new = found T c.next_ready-t.result.0 (λ z. c.if-t-shape.false (z ∙ total_slips (whole c.requires.shaped))) c.next_ready-t.ensures in
-    let taken = taken_here T c.next_free_piece-f.result.0 (λ z. c.if-f-shape.false (z ∙ total_pieces (whole c.requires.shaped))) c.next_free_piece-f.ensures in (
-      c.clone_rest.ensures.shaped,
-      omega (arith, new.0, total_slips (whole c.requires.shaped)),
-      omega (arith, taken, total_pieces (whole c.requires.shaped), c.requires.few_pieces_lem),
-    )
+    let at = goal.at.under_new-requires-2 c in
+    (c.clone_rest.ensures.shaped, omega (arith, (new at.In_ok-t).0, total_slips (whole c.requires.shaped)), small at.In_ok-f)
 
-pub returns : goal.returns
-returns c =
+pub returns-clause-by_index : goal.returns-clause-by_index
+returns-clause-by_index c st =
     let a = c.args in
     let T = decode a.pool.now in
-    let s = a.s.0 in
-    let t = c.next_ready-t.result.0 in
-    let g = c.next_free_piece-f.result.0 in
-    let d = c.in-Heads.head.0 in
-    let held_here = entry_some c.state_of-state.ensures c.held.ensures (not-false _ c.if-not-held.false-raw) in
-    let new = found T t (λ z. c.if-t-shape.false (z ∙ total_slips (whole c.requires.shaped))) c.next_ready-t.ensures in
-    let taken = taken_here T g (λ z. c.if-f-shape.false (z ∙ total_pieces (whole c.requires.shaped))) c.next_free_piece-f.ensures in
-    let raw_here = heads_raw (sym c.state_of-state.ensures ∙ c.in-Heads.is) in
-    let some : head_of T s ≢ 0 = λ z. omega (arith, raw_here, c.enter.ensures.link_is held_here) in
-    let same_piece : d ≡ head_of T s - 1 = omega (arith, raw_here, c.enter.ensures.link_is held_here) in
-    let fs = piece_first T c.next_free_piece-f.ensures taken in
+    let t = c.in_ok-t.t.0 in
+    let g = c.in_ok-f.f.0 in
+    let d = c.in_ok-head.head - 1 in
+    let e = c.in_ok-head.ensures in
+    let at = goal.at.returns-clause-by_index c in
+    let it = new at.In_ok-t in
+    let first = taken_here at.In_ok-f in
+    let some_here = some at.Else-head-eq0 in
+    let fs = piece_first T first.0 first.1 in
     let now = onward c.clone_rest.ensures (λ (U : Tables). set_slip U t (holding (g + 1))) c.under_new-2.ensures.becomes in
-    record {
-      by_index = λ st. dup_done a.pool.now st (name s a.serial.0) (c.enter.ensures.named held_here) new.2 (omega (arith, ap length fs, plan_one T (head_of T s) some)) new.1
-          c.under_new-2.ensures.value
-          (ap (λ (U : Tables). name_of U t) c.clone_rest.ensures.is ∙ ap (λ (ks : List ℕ). name_with t (get_or ks t 0)) (shared_sizes T (piece T d).next).serials_kept)
-          (λ i. omega (arith, c.type_inv.pool i))
-          (record {
-            shaped = now.shaped;
-            is = now.is ∙ ap (λ (U : Tables). set_slip U t (holding (g + 1))) (cloned_made T d g)
-                ∙ ap (λ (e : ℕ). set_slip (made (dup_plan T (suc e)) (g ∷ [])) t (holding (g + 1))) same_piece
-                ∙ clone_under T (head_of T s) t g some fs;
-          });
-      leaves = new_leaves (decode c.under_new-2.new.pool) (decode c.clone_rest.new.pool) t (omega (arith, new.0, total_slips (whole c.requires.shaped), c.requires.few_slips)) c.under_new-2.ensures.value;
-    }
+    dup_done a.pool.now st (name a.s.slip.0 a.s.serial.0) e.named it.2 (omega (arith, ap length fs, plan_one T (head_of T a.s.slip.0) some_here)) it.1
+    c.under_new-2.ensures.value
+    (ap (λ (U : Tables). name_of U t) c.clone_rest.ensures.is ∙ ap (λ (ks : List ℕ). name_with t (get_or ks t 0)) (shared_sizes T (piece T d).next).serials_kept)
+    (search rules)
+    (record {
+      shaped = now.shaped;
+      is = now.is ∙ ap (λ (U : Tables). set_slip U t (holding (g + 1))) (cloned_made T d g)
+          ∙ ap (λ (h : ℕ). set_slip (made (dup_plan T (suc (h - 1))) (g ∷ [])) t (holding (g + 1))) e.link_is
+          ∙ clone_under T (head_of T a.s.slip.0) t g some_here fs;
+    })

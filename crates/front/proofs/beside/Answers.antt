@@ -1,16 +1,11 @@
 -- `front::beside` meets its contract. Assumes nothing.
-use native.Mathlib.Omega.{arith}
+use mathlib.Core.Path.{refl}
 use Rattle.rules.specs.Bytes.{decode}
-use Rattle.tables.proofs.Laws.{whole, total_pieces}
-use Rattle.front.proofs.Front.{given_one}
+use Rattle.front.proofs.Front.{given_one, given_alone}
 use Rattle.front.proofs.beside.Goals as goal
 
-pub returns-then-free-d : goal.returns-then-free-d
-returns-then-free-d c =
-    given_one (decode c.args.pool.now) c.args.d.0 (total_pieces (whole c.requires)) c.next_free_piece-free.ensures
-    (omega (arith, c.if-free-d.true)) (omega (arith, c.if-free-d.true)) (omega (arith, c.if-free-d.true)) (λ l. omega arith)
+pub returns-in_err-free : goal.returns-in_err-free
+returns-in_err-free c = rw c.from_residual.ensures (0, 0, given_alone (decode c.args.pool.now) c.args.d.0 refl c.in_err-free.ensures)
 
 pub returns : goal.returns
-returns c =
-    given_one (decode c.args.pool.now) c.args.d.0 (total_pieces (whole c.requires)) c.next_free_piece-free.ensures
-    (omega (arith, c.if-free-d.false)) (omega (arith, c.if-free-d.false)) (omega (arith, c.if-free-d.false)) (λ l. omega arith)
+returns c = rw c.min.ensures (given_one (decode c.args.pool.now) c.args.d.0 c.in_ok-free.ensures.0 c.in_ok-free.ensures.1)

@@ -1,44 +1,24 @@
 -- `front::room_in_front` meets its contract. Assumes nothing.
-use mathlib.Core.Path.{◌≡◌, sym, subst, ◌∙◌}
-use mathlib.Core.Bool.{true}
-use Prim.Native.Nat.{ℕ, ◌-◌}
+use mathlib.Core.Path.{refl, sym}
+use Prim.Native.Nat.{◌-◌}
 use native.Mathlib.Omega.{arith}
-use borrow.Author.Tests.{not-true, not-false}
-use Rattle.rules.specs.Basics.{Is}
-use Rattle.rules.specs.Tables.{Tables}
 use Rattle.rules.specs.Bytes.{decode}
-use Rattle.rules.specs.Sound.{link_ok}
 use Rattle.tables.proofs.Laws.{whole, total_pieces}
-use Rattle.own.specs.Own.{single}
 use Rattle.own.proofs.Own.{single_link}
 use Rattle.chain.proofs.Links.{InUse, link_leads}
 use Rattle.front.proofs.Front.{front_shared, front_own_lem, front_both, front_alone}
 use Rattle.front.proofs.room_in_front.Goals as goal
-use Rattle.front.proofs.room_in_front.Goals.{Else-not-single}
+use Rattle.front.proofs.room_in_front.Goals.{Else-not-single, else-wanted-eq2-via-then-wanted-eq2+else-not-single-2, else-wanted-eq2-via-else-wanted-eq2}
+
+pub returns-in_err-lowest : goal.returns-in_err-lowest
+returns-in_err-lowest c = rw c.from_residual.ensures (_, _, front_shared _ _ _ (sym c.if-not-single.ensures) (refl, c.in_err-lowest.ensures))
 
 pub returns-then-not-single : goal.returns-then-not-single
-returns-then-not-single c =
-    let a = c.args in
-    front_shared (decode a.pool.now) a.head a.wanted (sym c.single.ensures ∙ not-true c.single.result c.if-not-single.true-raw) c.piece_room-room.ensures
+returns-then-not-single c = front_shared _ _ _ (sym c.if-not-single.ensures) c.in_ok-lowest.ensures
 
--- where the head's piece is own
-module _ (c : Else-not-single) where
-  abbrev T : Tables
-  T = decode c.args.pool.now
-
-  abbrev head : ℕ
-  head = c.args.head
-
-  -- it has count 1
-  one : single T head ≡ true
-  one = sym c.single.ensures ∙ not-false c.single.result c.if-not-single.false-raw
-
-  -- and is in use
-  leads : InUse T (head - 1)
-  leads = let p = c.requires in link_leads T head p.0.sound p.1 (single_link head T one)
-
-pub overflow_sub-first : goal.overflow_sub-first
-overflow_sub-first c = let i = single_link (head (goal.at.overflow_sub-first c).Else-not-single) (T (goal.at.overflow_sub-first c).Else-not-single) (one (goal.at.overflow_sub-first c).Else-not-single) in omega arith
+-- where the head's piece is own, it is in use
+leads : (c : Else-not-single) → InUse (decode c.args.pool.now) (c.args.head - 1)
+leads c = let T = decode c.args.pool.now in link_leads T c.args.head c.requires.0.sound c.requires.1 (single_link c.args.head T (sym c.if-not-single.ensures))
 
 pub piece_next-requires : goal.piece_next-requires
 piece_next-requires c =
@@ -46,19 +26,19 @@ piece_next-requires c =
     (o, omega (arith, (leads (goal.at.piece_next-requires c).Else-not-single).below, total_pieces (whole o)))
 
 pub single-requires-then-wanted-eq2 : goal.single-requires-then-wanted-eq2
-single-requires-then-wanted-eq2 c =
-    (c.requires.0, subst (λ (n : ℕ). Is (link_ok (T (goal.at.single-requires-then-wanted-eq2 c).Else-not-single) n)) (sym c.piece_next.ensures) (leads (goal.at.single-requires-then-wanted-eq2 c).Else-not-single).onward)
+single-requires-then-wanted-eq2 c = (c.requires.0, rw c.piece_next.ensures (leads (goal.at.single-requires-then-wanted-eq2 c).Else-not-single).onward)
 
 pub returns-then-not-single-2 : goal.returns-then-not-single-2
 returns-then-not-single-2 c =
-    front_alone (T (goal.at.returns-then-not-single-2 c).Else-not-single) (head (goal.at.returns-then-not-single-2 c).Else-not-single) c.requires.0.sound c.requires.1 (one (goal.at.returns-then-not-single-2 c).Else-not-single) c.piece_next.ensures c.args.wanted (omega (arith, c.if-wanted-eq2.true))
-    (sym c.single-then-wanted-eq2.ensures ∙ not-true c.single-then-wanted-eq2.result c.if-not-single-2.true-raw) c.beside.ensures
+    let p = c.requires in
+    front_alone _ c.args.head p.0.sound p.1 (sym c.if-not-single.ensures) c.piece_next.ensures c.args.wanted _ c.if-wanted-eq2.true (sym c.if-not-single-2.ensures) c.beside.ensures
 
-pub returns-else-not-single-2 : goal.returns-else-not-single-2
-returns-else-not-single-2 c =
-    front_both (T (goal.at.returns-else-not-single-2 c).Else-not-single) (head (goal.at.returns-else-not-single-2 c).Else-not-single) c.requires.0.sound c.requires.1 (one (goal.at.returns-else-not-single-2 c).Else-not-single) c.piece_next.ensures c.args.wanted c.requires.2
-    (sym c.single-then-wanted-eq2.ensures ∙ not-false c.single-then-wanted-eq2.result c.if-not-single-2.false-raw)
-
-pub returns-else-wanted-eq2 : goal.returns-else-wanted-eq2
-returns-else-wanted-eq2 c =
-    front_own_lem (T (goal.at.returns-else-wanted-eq2 c).Else-not-single) (head (goal.at.returns-else-wanted-eq2 c).Else-not-single) c.requires.0.sound c.requires.1 (one (goal.at.returns-else-wanted-eq2 c).Else-not-single) c.args.wanted (omega (arith, c.requires.2, c.if-wanted-eq2.false))
+pub returns : goal.returns
+returns c =
+    let p = c.requires in
+    let one = sym c.if-not-single.ensures in
+    elim c.else-wanted-eq2.branch [
+      | else-wanted-eq2-via-then-wanted-eq2+else-not-single-2 w ↦
+          front_both _ c.args.head p.0.sound p.1 one w.piece_next.ensures c.args.wanted p.2 (sym w.if-not-single-2.ensures)
+      | else-wanted-eq2-via-else-wanted-eq2 w ↦ front_own_lem _ c.args.head p.0.sound p.1 one c.args.wanted (omega (arith, p.2, w.if-wanted-eq2.false))
+    ]

@@ -1,14 +1,10 @@
-use mathlib.Core.Path.{◌≡◌}
-use Prim.Native.Nat.{◌-◌}
-use lib.ListN.{length}
+use Rattle.std.proofs.Common.{◌≡◌}
+use Rattle.std.specs.Slice.Iter.{chunks_exact_rest, chunks_exact_size}
 use Rattle.rules.specs.Read.{copied}
 use Rattle.rules.specs.Gather.{listed}
 use Rattle.gather.proofs.Laws.{Listing}
 use Rattle.gather.proofs.copy_all.Given as goal
 
-abbrev pub invariant-loop-i : goal.invariant-loop-i
-invariant-loop-i l =
-    (length l.output ≡ length l.initial.output) × Listing l.storage (copied (listed l.storage l.list) l.initial.output) l.list l.output l.at l.i
-
-abbrev pub decreases-loop-i : goal.decreases-loop-i
-decreases-loop-i l = length l.list - l.i
+abbrev pub invariant-loop-record : goal.invariant-loop-record
+invariant-loop-record l =
+    (chunks_exact_size l.record-iterator ≡ 2) × Listing l.storage (copied (listed l.storage l.list) l.initial.output) (chunks_exact_rest l.record-iterator) l.output l.at

@@ -1,51 +1,26 @@
 -- `layout::sized` meets its contract. Assumes nothing.
-use mathlib.Core.Path.{sym, ◌∙◌}
-use mathlib.Core.List.{[], ◌∷◌}
-use borrow.Author.Tests.{eq-eqb, ne_eqb, not-true, not-false}
+use Rattle.std.proofs.Common.{◌≡◌, true, nat_eq, sym, ◌∙◌, [], ◌∷◌}
 use Rattle.kinds.proofs.Sizes.{start_one}
 use Rattle.layout.proofs.sized.Goals as goal
-
-pub returns-then-not-counted : goal.returns-then-not-counted
-returns-then-not-counted c = rw (sym c.before.counted.ensures ∙ not-true _ c.if-not-counted.true-raw)
-
-pub returns-then-not-counted-2 : goal.returns-then-not-counted-2
-returns-then-not-counted-2 c =
-    let z = c.before.before in
-    rw (sym z.before.counted.ensures ∙ not-false _ z.if-not-counted.false-raw, sym c.before.counted-2.ensures ∙ not-true _ c.if-not-counted-2.true-raw)
-
-pub returns-then-not-counted-3 : goal.returns-then-not-counted-3
-returns-then-not-counted-3 c =
-    let y = c.before.before in
-    let z = y.before.before in
-    rw (
-      sym z.before.counted.ensures ∙ not-false _ z.if-not-counted.false-raw,
-      sym y.before.counted-2.ensures ∙ not-false _ y.if-not-counted-2.false-raw,
-      sym c.before.counted-3.ensures ∙ not-true _ c.if-not-counted-3.true-raw,
-    )
+use Rattle.layout.proofs.sized.Goals.{then-counted, else-counted, then-counted-2, else-counted-2, then-counted-3, else-counted-3}
 
 pub returns-then-pool-pool_length : goal.returns-then-pool-pool_length
 returns-then-pool-pool_length c =
-    let x = c.before.before in
-    let y = x.before.before in
-    let z = y.before.before in
-    rw (
-      sym z.before.counted.ensures ∙ not-false _ z.if-not-counted.false-raw,
-      sym y.before.counted-2.ensures ∙ not-false _ y.if-not-counted-2.false-raw,
-      sym x.before.counted-3.ensures ∙ not-false _ x.if-not-counted-3.false-raw,
-      ne_eqb z.before.before.args.pool _ (λ q. c.if-pool-pool_length.true (q ∙ sym c.before.pool_length.ensures)),
-    )
-
-pub returns : goal.returns
-returns c =
-    let w = c.before in
-    let x = w.before.before in
-    let y = x.before.before in
-    let z = y.before.before in
-    let B = z.before.before.args.shape.buffers in
-    rw (
-      sym z.before.counted.ensures ∙ not-false _ z.if-not-counted.false-raw,
-      sym y.before.counted-2.ensures ∙ not-false _ y.if-not-counted-2.false-raw,
-      sym x.before.counted-3.ensures ∙ not-false _ x.if-not-counted-3.false-raw,
-      eq-eqb z.before.before.args.pool _ (w.if-pool-pool_length.false ∙ w.before.pool_length.ensures),
-      c.start.ensures ∙ sym (start_one (B ∷ []) B),
-    )
+    let B = c.args.shape.buffers in
+    elim c.if-counted-3.branch [
+      | else-counted-3 w ↦ (let t = c.if-pool-pool_length.true in let e = w.value-is in let f = w.if-counted-3.false in cc)
+      | then-counted-3 w ↦ elim c.if-counted-2.branch [
+        | else-counted-2 v ↦ (let t = w.if-counted-3.true in let e = v.value-is in let f = v.if-counted-2.false in cc)
+        | then-counted-2 v ↦ elim c.if-counted.branch [
+          | else-counted u ↦ (let t = v.if-counted-2.true in let e = u.value-is in let f = u.if-counted.false in cc)
+          | then-counted u ↦ rw (
+            sym c.counted.ensures ∙ u.if-counted.true,
+            sym u.counted-then-counted.ensures ∙ sym u.value-is ∙ v.if-counted-2.true,
+            sym v.counted-then-counted-2.ensures ∙ sym v.value-is ∙ w.if-counted-3.true,
+            sym w.pool_length.ensures,
+            (let e : nat_eq c.args.pool w.pool_length.result ≡ true = sym w.value-is ∙ c.if-pool-pool_length.true in e),
+            c.start.ensures ∙ sym (start_one (B ∷ []) B),
+          )
+        ]
+      ]
+    ]

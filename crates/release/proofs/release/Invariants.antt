@@ -1,5 +1,3 @@
-use mathlib.Core.Path.{◌≡◌}
-use lib.ListN.{length}
 use Rattle.rules.specs.Bytes.{decode}
 use Rattle.rules.specs.Chain.{state_of}
 use Rattle.tables.specs.Shape.{Shaped}
@@ -7,9 +5,7 @@ use Rattle.release.proofs.Laws.{Left, references}
 use Rattle.release.proofs.release.Given as goal
 
 abbrev pub invariant-loop-next : goal.invariant-loop-next
-invariant-loop-next l =
-    (length l.pool ≡ length l.initial.pool) × (length l.storage ≡ length l.initial.storage) × Shaped l.pool l.shape
-    × Left (state_of (decode l.initial.pool) l.initial.storage) l.link (state_of (decode l.pool) l.storage) l.next
+invariant-loop-next l = Shaped l.pool l.shape × Left (state_of (decode l.initial.pool) l.initial.storage) l.link (state_of (decode l.pool) l.storage) l.next
 
 abbrev pub decreases-loop-next : goal.decreases-loop-next
 decreases-loop-next l = references (decode l.pool)

@@ -1,10 +1,7 @@
 -- `tables::set_slip` meets its contract. Assumes nothing.
-use native.Mathlib.Omega.{arith}
+use Rattle.std.proofs.Common.{arith}
 use Rattle.tables.proofs.Laws.{store_slip}
 use Rattle.tables.proofs.set_slip.Goals as goal
 
 pub returns : goal.returns
-returns c =
-    let e = c.before.before in
-    let z = e.before.before.before.before in
-    store_slip z.requires.0 (omega arith) e.set16.ensures z.args.s.0 z.requires.1 (omega arith)
+returns c = store_slip c.requires.0 (omega arith) c.set16.ensures c.args.s.0 c.requires.1 (omega arith)

@@ -1,5 +1,7 @@
-use Prim.Native.Nat.{◌-◌, ◌≤◌}
-use lib.ListN.{length, drop}
+use mathlib.Core.Path.{◌≡◌}
+use lib.ListN.{length}
+use Rattle.std.specs.Slice.Iter.{chunks_rest, chunks_size}
+use Rattle.kinds.specs.Limits.{buffer_size}
 use Rattle.rules.specs.Tables.{buffer_total}
 use Rattle.rules.specs.Bytes.{decode}
 use Rattle.rules.specs.Room.{is_unheld, new_buffers}
@@ -7,10 +9,7 @@ use Rattle.rules.specs.Build.{buffers_for, stored}
 use Rattle.transfer.proofs.Fill.{Filling}
 use Rattle.transfer.proofs.fill_free.Given as goal
 
-abbrev pub invariant-loop-at : goal.invariant-loop-at
-invariant-loop-at l =
+abbrev pub invariant-loop-part : goal.invariant-loop-part
+invariant-loop-part l =
     let T = decode l.pool in
-    (l.at ≤ length l.input) × Filling T.stock (is_unheld T) (buffer_total T) (stored T.stock l.initial.storage (new_buffers T (buffers_for (length l.input))) l.input) l.from.0 l.storage (drop l.at l.input)
-
-abbrev pub decreases-loop-at : goal.decreases-loop-at
-decreases-loop-at l = length l.input - l.at
+    (chunks_size l.part-iterator ≡ buffer_size) × Filling T.stock (is_unheld T) (buffer_total T) (stored T.stock l.initial.storage (new_buffers T (buffers_for (length l.input))) l.input) l.from.0 l.storage (chunks_rest l.part-iterator)
