@@ -1,5 +1,5 @@
 -- What a caller gets from the audit's answer, without a look into the test. Assumes nothing.
-use mathlib.Core.Path.{◌≡◌, sym, ap, ◌∙◌}
+use mathlib.Core.Path.{◌≡◌, sym, ap, subst, ◌∙◌}
 use mathlib.Core.Bool.{false}
 use mathlib.Core.List.{List, [], ◌∷◌}
 use Prim.Native.Nat.{ℕ}
@@ -13,9 +13,10 @@ use Rattle.rules.specs.Sound.{sound, Sound, SoundTables, lent}
 use Rattle.rules.proofs.Audit.{sound_is}
 use Rattle.rules.proofs.Bytes.{Header, header_facts}
 use Rattle.layout.specs.declared.Shape.{Shape}
-use Rattle.tables.specs.Shape.{stock_of}
+use Rattle.tables.specs.Shape.{Shaped, stock_of}
 use Rattle.counts.specs.Counters.{Limited, zeros}
-use Rattle.audit.specs.Verdict.{AuditIs}
+use Rattle.audit.specs.declared.Audited.{Audited}
+use Rattle.audit.specs.Verdict.{AuditIs, Verdict}
 use Rattle.audit.proofs.Verdict.{within, bytes}
 
 module _ {p : List ℕ} {n : ℕ} where
@@ -45,3 +46,24 @@ module _ {p : List ℕ} {n : ℕ} where
     -- the counts are within their limits
     pub audit_limited : Limited p h
     audit_limited = within header v.shaped
+
+-- the same from the verdict, which has the follows too
+module _ {p : List ℕ} {n : ℕ} {r : Audited} (v : Verdict p n r) where
+  pub verdict_torn : {why : Refusal} → r.shape ≡ Err why → (st : List ℕ) → length st ≡ n → sound (lent p st) ≡ false
+  verdict_torn q = audit_torn (subst (AuditIs p n) q v.audit)
+
+  module _ {h : Shape} (q : r.shape ≡ Ok h) where
+    pub verdict_is : (st : List ℕ) → length st ≡ n → Is (sound (lent p st))
+    verdict_is = audit_is (subst (AuditIs p n) q v.audit)
+
+    pub verdict_sound : (st : List ℕ) → length st ≡ n → Sound (lent p st)
+    verdict_sound st l = (sound_is _).0 (verdict_is st l)
+
+    pub verdict_header : (st : List ℕ) → length st ≡ n → Header (lent p st)
+    verdict_header st l = header_facts _ (verdict_sound st l).header_ok
+
+    pub verdict_shaped : Shaped p h
+    verdict_shaped = (subst (AuditIs p n) q v.audit).shaped
+
+    pub verdict_limited : Limited p h
+    verdict_limited = audit_limited (subst (AuditIs p n) q v.audit)

@@ -1,11 +1,18 @@
 -- The walks with colours: from each piece without a colour next is followed, and each piece met gets the walk's colour.
-use Rattle.std.specs.Prelude.{◌≡◌, false, List, map, ℕ, suc, ◌+◌, ◌-◌, ◌≤◌, ◌<◌, length, get_or, ltb, Result, IfOk, IfErr}
-use Rattle.kinds.specs.Limits.{most_count}
+use Rattle.std.specs.Prelude.{◌≡◌, false, List, map, ℕ, suc, ◌+◌, ◌-◌, ◌/◌, ◌≤◌, ◌<◌, length, get_or, ltb, Result, IfOk, IfErr}
+use Rattle.kinds.specs.Limits.{most_buffers, most_pieces, most_count}
 use Rattle.rules.specs.Basics.{bit, sum_to}
 use Rattle.rules.specs.Tables.{Tables, piece, piece_total}
 use Rattle.rules.specs.Chain.{follow}
 use Rattle.rules.specs.Sound.{acyclic}
 use Rattle.audit.specs.Follows.{followed, follows_of}
+
+-- the most pieces and buffers of a small pool
+abbrev pub few_pieces : ℕ
+few_pieces = most_pieces / 8
+
+abbrev pub few_buffers : ℕ
+few_buffers = most_buffers / 8
 
 -- the colours in counters c: what is above every count; a count itself is none, 0
 unfoldable pub colours_in : List ℕ → List ℕ

@@ -10,8 +10,8 @@ ghost use Rattle.rules.specs.Sound.{acyclic, headed};
 ghost use Rattle.counts.specs.Ranges.{pieces_in_range};
 ghost use Rattle.counts.specs.Counters.{Limited, Cleared};
 ghost use Rattle.audit.specs.Follows.{followed, follows_of, Tested};
-ghost use Rattle.audit.specs.Colours.{colours_in, Plain, Scanned, Walked};
-ghost use Rattle.audit.specs.Verdict.{Fitting, AuditIs, Verdict};
+ghost use Rattle.audit.specs.Colours.{few_pieces, few_buffers, colours_in, Plain, Scanned, Walked};
+ghost use Rattle.audit.specs.Verdict.{Fitting, Verdict};
 
 use kinds::{BufferNumber, Number, PieceNumber, Refusal};
 use layout::Shape;
@@ -100,6 +100,14 @@ fn tables_ok_with<const P: usize, const B: usize>(pool: &[u8], shape: Shape) -> 
     tables_ok_in(pool, shape, &mut refs, &mut lies)
 }
 
+// The same of a small pool, with few counters.
+fn small_ok(pool: &[u8], shape: Shape) -> Result<u16, u16>
+    requires { Limited pool.now shape × (shape.pieces ≤ few_pieces) × (shape.buffers ≤ few_buffers) }
+    ensures { Tested (decode pool.now) result }
+{
+    tables_ok_with::<FEW_PIECES, FEW_BUFFERS>(pool, shape)
+}
+
 // The same of any pool, with few counters for a small one.
 fn tables_ok(pool: &[u8], shape: Shape) -> Result<u16, u16>
     requires { Limited pool.now shape }
@@ -108,7 +116,7 @@ fn tables_ok(pool: &[u8], shape: Shape) -> Result<u16, u16>
     if shape.pieces as usize > FEW_PIECES || shape.buffers as usize > FEW_BUFFERS {
         tables_ok_with::<PIECES, BUFFERS>(pool, shape)
     } else {
-        tables_ok_with::<FEW_PIECES, FEW_BUFFERS>(pool, shape)
+        small_ok(pool, shape)
     }
 }
 
@@ -124,8 +132,8 @@ fn fitting(pool: &[u8], storage: usize) -> Option<Shape>
     fits.then_some(shape)
 }
 
-// The audit of the lent pool beside `storage` bytes of storage, with how often it followed next.
-pub fn counted(pool: &[u8], storage: usize) -> Audited
+// Whether the lent pool is sound beside `storage` bytes of storage, with how often next was followed: the integrity check before every call.
+pub fn audit(pool: &[u8], storage: usize) -> Audited
     ensures { Verdict pool.now storage result }
 {
     let Some(shape) = fitting(pool, storage) else {
@@ -139,11 +147,4 @@ pub fn counted(pool: &[u8], storage: usize) -> Audited
         Err(n) => (Err(Refusal::Torn), n),
     };
     Audited { shape, follows }
-}
-
-// The shape of the lent pool where it is sound beside `storage` bytes of storage, else the refusal of a torn one: the integrity check before every call.
-pub fn audit(pool: &[u8], storage: usize) -> Result<Shape, Refusal>
-    ensures { AuditIs pool.now storage result }
-{
-    counted(pool, storage).shape
 }

@@ -1,19 +1,25 @@
 -- What show answers, and what stretches begins with. Assumes nothing.
-use mathlib.Core.Path.{◌≡◌, sym, ap, ◌∙◌}
+use mathlib.Core.Path.{◌≡◌, refl, sym, ap, ◌∙◌}
 use mathlib.Core.List.{List}
 use Prim.Native.Nat.{ℕ, ◌/◌, ◌<◌, ◌^◌}
 use native.Mathlib.Omega.{arith}
 use lib.ListN.{length, take}
 use lib.Seq.{take-length}
-use Rattle.std.specs.Prelude.{Result, Ok, Err}
+use lib.Dec.{ltb}
+use Rattle.std.specs.Prelude.{Result, Ok, Err, IfOk}
+use Rattle.std.proofs.lemmas.Result.{IfOk-at_ok}
+use Rattle.kinds.specs.SlipState.{state_of}
 use Rattle.kinds.specs.declared.Refusal.{Refusal}
 use Rattle.kinds.proofs.Sizes.{start_most}
+use Rattle.rules.specs.Tables.{Tables, slip, head_of}
 use Rattle.rules.specs.Bytes.{decode}
+use Rattle.rules.specs.Chain.{spans}
 use Rattle.rules.specs.Sound.{lent}
-use Rattle.rules.specs.Rule.{Name}
+use Rattle.rules.specs.Rule.{Name, unnamed}
 use Rattle.rules.specs.Read.{copied}
 use Rattle.rules.specs.List.{records}
 use Rattle.rules.specs.Step.{Show, WireList, Do, step}
+use Rattle.rules.proofs.Logic.{if_either}
 use Rattle.rules.proofs.Bytes.{AllBytes}
 use Rattle.tables.specs.Shape.{stock_of}
 use Rattle.tables.proofs.Laws.{fits_decode}
@@ -52,6 +58,15 @@ module _ {p : List ℕ} (st : List ℕ) {h : Shape} (v : AuditIs p (length st) (
 
 -- ---- the records of slp_stretches
 
+-- what list begins with has the state of its slip, and its head
+begun_is : (T : Tables) (s : Name) (room : ℕ) {b : list.Begun} → Ok b ≡ begun T s room → (b.step.state ≡ state_of (slip T s.slip)) × (b.link ≡ head_of T s.slip)
+unfolding begun
+begun_is T s room e =
+    let Fits : list.Begun → Type 0 = λ b. (b.step.state ≡ state_of (slip T s.slip)) × (b.link ≡ head_of T s.slip) in
+    let OnOk : Result list.Begun Refusal → Type 0 = λ r. IfOk r Fits in
+    IfOk-at_ok Fits (sym e)
+    (if_either OnOk (unnamed T s) _ _ (λ _. tt) (λ _. if_either OnOk (ltb room (length (spans T s.slip))) _ _ (λ _. tt) (λ _. (refl, refl))))
+
 module _ {p : List ℕ} (st : List ℕ) (s : Name) (room : ℕ) where
   -- none where the pool is torn
   pub begins_torn : {why : Refusal} → AuditIs p (length st) (Err why) → Begins p st s room (Err why)
@@ -74,6 +89,8 @@ module _ {p : List ℕ} (st : List ℕ) (s : Name) (room : ℕ) where
           opened = o;
           good = w.0;
           fits = omega (arith, w.1, w.2);
+          leaves = (begun_is T s room e).0;
+          head = (begun_is T s room e).1;
           answers = λ l n.
               let half : room ≡ length l / 2 = omega arith in
               let all : take b.pieces (stretches_from T b.link) ≡ stretches_from T b.link = ap (λ k. take k (stretches_from T b.link)) w.1 ∙ take-length (stretches_from T b.link) in

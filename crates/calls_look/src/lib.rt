@@ -2,12 +2,15 @@
 #![tactic(auto, using(calls::proofs::Laws::torn))]
 
 ghost use Rattle.std.specs.Prelude.{◌≡◌, List, [], ℕ, ◌<◌, ◌^◌};
+ghost use Rattle.kinds.specs.SlipState.{state_of};
+ghost use Rattle.rules.specs.Tables.{slip};
+ghost use Rattle.rules.specs.Bytes.{decode};
 ghost use Rattle.rules.specs.Sound.{lent};
 ghost use Rattle.rules.specs.Rule.{Name, name, no_view};
 ghost use Rattle.rules.specs.Step.{Length, Read, Show, WireList, Do, step};
 ghost use Rattle.look.specs.Place.{view_at, place_of};
 ghost use Rattle.look.specs.Show.{place_shown};
-ghost use Rattle.answer.specs.Result.{result_of};
+ghost use Rattle.answer.specs.Result.{result_of, Leaves};
 ghost use Rattle.calls_look.specs.Shown.{shown_as, view_in, shown_of, bytes_shown};
 ghost use Rattle.calls_look.specs.Begin.{Begins};
 
@@ -84,10 +87,11 @@ pub fn part<'a>(storage: &'a [u8], scratch: &'a [u8], shown: Shown) -> &'a [u8]
 
 // length: the byte count of a chain.
 pub fn length(pool: &[u8], storage: &[u8], s: SlipName) -> Outcome
-    ensures { result_of result pool.now storage.now [] no_view
+    ensures does { result_of result pool.now storage.now [] no_view
         ≡ step (Do (Length (name s.slip.0 s.serial.0))) (lent pool.now storage.now) }
+    ensures leaves { Leaves result (state_of (slip (decode pool.now) s.slip.0)) }
 {
-    let shape = audit::audit(pool, storage.len())?;
+    let shape = audit::audit(pool, storage.len()).shape?;
     look::length(pool, shape, s)
 }
 
@@ -100,10 +104,11 @@ pub fn read(
     length: u32,
     output: &mut [u8],
 ) -> Outcome
-    ensures { result_of result pool.now storage.now output.new no_view
+    ensures does { result_of result pool.now storage.now output.new no_view
         ≡ step (Do (Read (name s.slip.0 s.serial.0) offset length output.old)) (lent pool.now storage.now) }
+    ensures leaves { Leaves result (state_of (slip (decode pool.now) s.slip.0)) }
 {
-    let shape = audit::audit(pool, storage.len())?;
+    let shape = audit::audit(pool, storage.len()).shape?;
     look::read(pool, shape, storage, s, offset, length, output)
 }
 
@@ -112,7 +117,7 @@ pub fn show(pool: &[u8], storage: &[u8], s: SlipName, n: u32, scratch: &mut [u8]
     ensures { shown_of result pool.now storage.now scratch.new
         ≡ step (Do (Show (name s.slip.0 s.serial.0) n scratch.old)) (lent pool.now storage.now) }
 {
-    match audit::audit(pool, storage.len()) {
+    match audit::audit(pool, storage.len()).shape {
         Ok(shape) => shown_of(look::show(pool, shape, storage, s, n, scratch)),
         Err(why) => shown_of(Err(why)),
     }
@@ -120,10 +125,11 @@ pub fn show(pool: &[u8], storage: &[u8], s: SlipName, n: u32, scratch: &mut [u8]
 
 // list: where the pieces of a chain lie in storage, two numbers each, to the front of a lent list.
 pub fn list(pool: &[u8], storage: &[u8], s: SlipName, list: &mut [u32]) -> Outcome
-    ensures { result_of result pool.now storage.now list.new no_view
+    ensures does { result_of result pool.now storage.now list.new no_view
         ≡ step (Do (WireList (name s.slip.0 s.serial.0) list.old)) (lent pool.now storage.now) }
+    ensures leaves { Leaves result (state_of (slip (decode pool.now) s.slip.0)) }
 {
-    let shape = audit::audit(pool, storage.len())?;
+    let shape = audit::audit(pool, storage.len()).shape?;
     list::list(pool, shape, s, list)
 }
 
@@ -131,7 +137,7 @@ pub fn list(pool: &[u8], storage: &[u8], s: SlipName, list: &mut [u32]) -> Outco
 pub fn begin(pool: &[u8], storage: &[u8], s: SlipName, room: usize) -> Result<Begun, Refusal>
     ensures { Begins pool.now storage.now (name s.slip.0 s.serial.0) room result }
 {
-    let shape = audit::audit(pool, storage.len())?;
+    let shape = audit::audit(pool, storage.len()).shape?;
     let list::Begun { step, link, .. } = list::begin(pool, shape, s, room)?;
     Ok(Begun { step, shape, link })
 }

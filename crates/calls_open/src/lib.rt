@@ -38,6 +38,6 @@ pub fn open(
 pub fn audit(pool: &[u8], storage: &[u8]) -> Result<(), Refusal>
     ensures { result_of (answer_of_unit result) pool.now storage.now [] no_view ≡ step (Do Audit) (lent pool.now storage.now) }
 {
-    audit::audit(pool, storage.len())?;
+    audit::audit(pool, storage.len()).shape?;
     Ok(())
 }

@@ -19,7 +19,7 @@ use Rattle.rules.proofs.Logic.{if_T, if_F, same_test}
 use Rattle.rules.proofs.Contents.{cut_out_all}
 use Rattle.chain.specs.declared.Spot.{Spot}
 use Rattle.chain.specs.Length.{stretches_from}
-use Rattle.chain.specs.Part.{part_of}
+use Rattle.chain.specs.Part.{part_of, extent_of}
 use Rattle.chain.proofs.Links.{link_leads, stretches_none, stretches_on, stretches_in, stretches_small}
 use Rattle.chain.proofs.Spots.{Found, cut_out_none, total_first}
 
@@ -52,8 +52,10 @@ pub part_total : (T : Tables) (n : ℕ) → SoundTables T → Is (link_ok T n) �
 part_total T n S t i = ap total (stretches_on T n S t i) ∙ total_first (stretch (piece T (n - 1))) (stretches_from T (piece T (n - 1)).next)
 
 -- c pieces, and then what the first m bytes from the link n take
-abbrev pub part_from : ℕ → Tables → ℕ → ℕ → Result ℕ Refusal
-part_from c T n m = whether leb m (total (stretches_from T n)) then Ok (c + length (cut_out (stretches_from T n) 0 m)) else Err Range
+abbrev pub part_from : ℕ → Tables → ℕ → ℕ → Result ℕ ℕ
+part_from c T n m =
+    let k = c + length (cut_out (stretches_from T n) 0 m) in
+    whether leb m (total (stretches_from T n)) then Ok k else Err k
 
 -- before any piece is passed
 pub part_start : (T : Tables) (n m : ℕ) → part_from 0 T n m ≡ part_of T n m
@@ -61,7 +63,7 @@ unfolding part_of
 part_start T n m =
     let k = length (cut_out (stretches_from T n) 0 m) in
     let e : 0 + k ≡ k = omega arith in
-    ap (λ (j : ℕ). whether leb m (total (stretches_from T n)) then Ok j else Err Range) e
+    λ i. whether leb m (total (stretches_from T n)) then Ok (e i) else Err (e i)
 
 module _ (c : ℕ) (T : Tables) (n m : ℕ) where
   -- no more bytes are asked for
@@ -73,12 +75,13 @@ module _ (c : ℕ) (T : Tables) (n m : ℕ) where
       ap Ok e ∙ sym (if_T (leb m (total xs)) _ _ (le→leb m (total xs) (omega arith)))
 
   -- bytes are asked for, and no piece is left
-  pub part_short : 0 < m → n ≡ 0 → Err Range ≡ part_from c T n m
-  unfolding total
+  pub part_short : 0 < m → n ≡ 0 → Err c ≡ part_from c T n m
+  unfolding cut_out total
   part_short h z =
       let xs = stretches_from T n in
       let none : xs ≡ [] = ap (stretches_from T) z ∙ stretches_none T in
-      sym (if_F (leb m (total xs)) _ _ (λ t. omega (arith, leb→le m (total xs) t, ap total none)))
+      let e : c ≡ c + length (cut_out xs 0 m) = omega (arith, ap (λ (l : List Stretch). length (cut_out l 0 m)) none) in
+      ap Err e ∙ sym (if_F (leb m (total xs)) _ _ (λ t. omega (arith, leb→le m (total xs) t, ap total none)))
 
   -- a piece of k bytes before the link d is passed, and r are left
   pub part_turn : {d k r : ℕ} → SoundTables T → Is (link_ok T n) → (n ≡ 0 → ⊥) → 0 < m → d ≡ (piece T (n - 1)).next → k ≡ (piece T (n - 1)).len → r ≡ m - k
@@ -91,31 +94,49 @@ module _ (c : ℕ) (T : Tables) (n m : ℕ) where
       let e : c + 1 + length (cut_out xs 0 (m - x.len)) ≡ c + length (cut_out (stretches_from T n) 0 m) = omega (arith, cut) in
       let b = same_most (m - x.len) (total xs) m (total (stretches_from T n)) (λ f. omega (arith, sum)) (λ f. omega (arith, sum)) in
       let less : _ ≡ m - x.len = r ∙ ap (λ (y : ℕ). m - y) k in
-      (λ j. part_from (c + 1) T (d j) (less j)) ∙ (λ j. whether b j then Ok (e j) else Err Range)
+      (λ j. part_from (c + 1) T (d j) (less j)) ∙ (λ j. whether b j then Ok (e j) else Err (e j))
 
 -- ---- what was answered
 
--- a test that answered what it tests for, or refused
-tested_ok : (b : Bool) (n : ℕ) {k : ℕ} → Ok k ≡ (whether b then Ok n else Err Range) → (k ≡ n) × (b ≡ true)
+-- a test that answered what it tests for, or that it failed
+tested_ok : {E : Type 0} (b : Bool) (n : ℕ) (y : E) {k : ℕ} → Ok k ≡ (whether b then Ok n else Err y) → (k ≡ n) × (b ≡ true)
 unfolding whether◌then◌else◌
-tested_ok true n e = (cc, refl)
-tested_ok false n e = cc
+tested_ok true n y e = (cc, refl)
+tested_ok false n y e = cc
 
-tested_err : (b : Bool) (n : ℕ) {x : Refusal} → Err x ≡ (whether b then Ok n else Err Range) → (x ≡ Range) × (b ≡ false)
+tested_err : {E : Type 0} (b : Bool) (n : ℕ) (y : E) {x : E} → Err x ≡ (whether b then Ok n else Err y) → (x ≡ y) × (b ≡ false)
 unfolding whether◌then◌else◌
-tested_err true n e = cc
-tested_err false n e = (cc, refl)
+tested_err true n y e = cc
+tested_err false n y e = (cc, refl)
 
 module _ (T : Tables) (n m : ℕ) where
   -- the first m bytes from a link are there, and overlap k pieces
   pub part_ok : {k : ℕ} → Ok k ≡ part_of T n m → (k ≡ length (cut_out (stretches_from T n) 0 m)) × (m ≤ total (stretches_from T n))
   unfolding part_of
-  part_ok e = let (k, b) = tested_ok _ _ e in (k, leb-true m (total (stretches_from T n)) b)
+  part_ok e = let (k, b) = tested_ok _ _ _ e in (k, leb-true m (total (stretches_from T n)) b)
 
-  -- or they are not
-  pub part_err : {x : Refusal} → Err x ≡ part_of T n m → (x ≡ Range) × (total (stretches_from T n) < m)
+  -- or they are not, and those that are there overlap k
+  pub part_err : {k : ℕ} → Err k ≡ part_of T n m → (k ≡ length (cut_out (stretches_from T n) 0 m)) × (total (stretches_from T n) < m)
   unfolding part_of
-  part_err e = let (x, b) = tested_err _ _ e in (x, leb-false m (total (stretches_from T n)) b)
+  part_err e = let (k, b) = tested_err _ _ _ e in (k, leb-false m (total (stretches_from T n)) b)
+
+  -- so where the bytes not there are refused
+  pub extent_is : {k : ℕ} → Ok k ≡ part_of T n m → Ok k ≡ extent_of T n m
+  unfolding extent_of
+  extent_is e = let (k, l) = part_ok e in ap Ok k ∙ sym (if_T (leb m (total (stretches_from T n))) _ _ (le→leb m (total (stretches_from T n)) l))
+
+  pub extent_no : {k : ℕ} → Err k ≡ part_of T n m → Err Range ≡ extent_of T n m
+  unfolding extent_of
+  extent_no e = let (_, l) = part_err e in sym (if_F (leb m (total (stretches_from T n))) _ _ (λ t. omega (arith, leb→le m (total (stretches_from T n)) t, l)))
+
+  -- what the answer tells there
+  pub extent_ok : {k : ℕ} → Ok k ≡ extent_of T n m → (k ≡ length (cut_out (stretches_from T n) 0 m)) × (m ≤ total (stretches_from T n))
+  unfolding extent_of
+  extent_ok e = let (k, b) = tested_ok _ _ _ e in (k, leb-true m (total (stretches_from T n)) b)
+
+  pub extent_err : {x : Refusal} → Err x ≡ extent_of T n m → (x ≡ Range) × (total (stretches_from T n) < m)
+  unfolding extent_of
+  extent_err e = let (x, b) = tested_err _ _ _ e in (x, leb-false m (total (stretches_from T n)) b)
 
 -- ---- from a place found
 
@@ -140,11 +161,11 @@ part_from_lem T h off s f n i = ap length (f.cut n) ∙ from_inside (piece_total
 
 module _ (T : Tables) (h off n : ℕ) {at : Spot} (f : Found T h off at) where
   -- so what the bytes from the place found take tells whether the range goes past the end of the chain
-  pub range_short : {x : Refusal} → Err x ≡ part_of T at.link (at.into + n) → (x ≡ Range) × (total (stretches_from T h) < off + n)
-  range_short e = let (x, l) = part_err T at.link (at.into + n) e in (x, omega (arith, f.lengths, l))
+  pub range_short : {x : Refusal} → Err x ≡ extent_of T at.link (at.into + n) → (x ≡ Range) × (total (stretches_from T h) < off + n)
+  range_short e = let (x, l) = extent_err T at.link (at.into + n) e in (x, omega (arith, f.lengths, l))
 
-  pub range_there : {k : ℕ} → Ok k ≡ part_of T at.link (at.into + n) → off + n ≤ total (stretches_from T h)
-  range_there e = omega (arith, f.lengths, (part_ok T at.link (at.into + n) e).1)
+  pub range_there : {k : ℕ} → Ok k ≡ extent_of T at.link (at.into + n) → off + n ≤ total (stretches_from T h)
+  range_there e = omega (arith, f.lengths, (extent_ok T at.link (at.into + n) e).1)
 
 -- ---- all bytes
 

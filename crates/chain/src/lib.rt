@@ -12,8 +12,8 @@ ghost use Rattle.tables.specs.Shape.{Shaped};
 ghost use Rattle.chain.specs.Opened.{Opened};
 ghost use Rattle.chain.specs.Enter.{Enters};
 ghost use Rattle.chain.specs.Length.{stretches_from, LegIs, LengthIs};
-ghost use Rattle.chain.specs.Find.{spot_of, found};
-ghost use Rattle.chain.specs.Part.{part_of};
+ghost use Rattle.chain.specs.Find.{spot_of, past_end, found};
+ghost use Rattle.chain.specs.Part.{part_of, extent_of};
 
 use kinds::{Number, PieceNumber, Refusal, SlipName, SlipNumber, SlipState};
 use layout::Shape;
@@ -163,10 +163,10 @@ fn own_at(pool: &[u8], shape: Shape, own: bool, d: PieceNumber) -> bool
     own && tables::piece_count(pool, shape, d) == 1
 }
 
-// The place `off` bytes into the chain that starts at `link`, and whether its piece is own; its link is 0 at the end, past which a place is refused: a seek.
-pub fn find(pool: &[u8], shape: Shape, link: u16, off: u32) -> Result<Spot, Refusal>
+// The place `off` bytes into the chain that starts at `link`, and whether its piece is own; its link is 0 past the end: a seek.
+pub fn find(pool: &[u8], shape: Shape, link: u16, off: u32) -> Spot
     requires { Opened pool.now shape × Is (link_ok (decode pool.now) link) }
-    ensures { result ≡ found (spot_of (piece_total (decode pool.now)) (decode pool.now) true link off) }
+    ensures { result ≡ spot_of (piece_total (decode pool.now)) (decode pool.now) true link off }
 {
     let mut at = link;
     let mut left = off;
@@ -176,27 +176,43 @@ pub fn find(pool: &[u8], shape: Shape, link: u16, off: u32) -> Result<Spot, Refu
         let n = piece_bytes(pool, shape, d);
         own = own_at(pool, shape, own, d);
         if left < n {
-            return Ok(Spot {
+            return Spot {
                 link: at,
                 into: left,
                 own,
-            });
+            };
         }
         left -= n;
         at = tables::piece_next(pool, shape, d);
     }
-    if left != 0 {
-        return Err(Refusal::Range);
-    }
-    Ok(Spot {
+    Spot {
         link: 0,
-        into: 0,
+        into: left,
         own,
-    })
+    }
 }
 
-// The pieces that the first `n` bytes from `link` overlap, refused where the chain has fewer bytes: a bounded walk.
-pub fn part_of(pool: &[u8], shape: Shape, link: u16, n: u64) -> Result<u16, Refusal>
+// Whether a place found lies past the end of its chain, which then has fewer bytes: a seek past the end.
+pub fn past_end(at: Spot) -> bool
+    ensures { result ≡ past_end at }
+{
+    at.link == 0 && 0 < at.into
+}
+
+// The same place, refused past the end: a checked seek.
+pub fn reach(pool: &[u8], shape: Shape, link: u16, off: u32) -> Result<Spot, Refusal>
+    requires { Opened pool.now shape × Is (link_ok (decode pool.now) link) }
+    ensures { result ≡ found (spot_of (piece_total (decode pool.now)) (decode pool.now) true link off) }
+{
+    let at = find(pool, shape, link, off);
+    if past_end(at) {
+        return Err(Refusal::Range);
+    }
+    Ok(at)
+}
+
+// The pieces that the first `n` bytes from `link` overlap, as an error where the chain has fewer bytes: a bounded walk.
+pub fn part_of(pool: &[u8], shape: Shape, link: u16, n: u64) -> Result<u16, u16>
     requires { Opened pool.now shape × Is (link_ok (decode pool.now) link) }
     ensures { result ≡ part_of (decode pool.now) link n }
 {
@@ -205,7 +221,7 @@ pub fn part_of(pool: &[u8], shape: Shape, link: u16, n: u64) -> Result<u16, Refu
     let mut pieces = 0;
     while 0 < left {
         if at == 0 {
-            return Err(Refusal::Range);
+            return Err(pieces);
         }
         let d = PieceNumber(at - 1);
         left = left.saturating_sub(piece_bytes(pool, shape, d) as u64);
@@ -213,4 +229,12 @@ pub fn part_of(pool: &[u8], shape: Shape, link: u16, n: u64) -> Result<u16, Refu
         at = tables::piece_next(pool, shape, d);
     }
     Ok(pieces)
+}
+
+// The same pieces, refused where the chain has fewer bytes: an extent.
+pub fn extent(pool: &[u8], shape: Shape, link: u16, n: u64) -> Result<u16, Refusal>
+    requires { Opened pool.now shape × Is (link_ok (decode pool.now) link) }
+    ensures { result ≡ extent_of (decode pool.now) link n }
+{
+    part_of(pool, shape, link, n).map_err(|_| Refusal::Range)
 }

@@ -93,47 +93,39 @@ pub record SlipsTo (T : Tables) (n : ℕ) (refs : List ℕ) : Type 0 where
   pub ranged : (s : ℕ) → s < n → head_of T s ≤ piece_total T
   pub held : Hold (piece_total T) refs (heads_to T n)
 
-heads_to_most : (T : Tables) (n d : ℕ) → heads_to T n d ≤ n
-unfolding heads_to
-heads_to_most T n d = sum_to_ones n (λ s. hit (head_of T s) d) (λ s. bit_one (leads (head_of T s) d))
-
-heads_to_more : (T : Tables) (n d : ℕ) → heads_to T (n + 1) d ≡ heads_to T n d + hit (head_of T n) d
-unfolding heads_to
-heads_to_more T n d = rw add-one (omega arith)
-
-module _ {p : List ℕ} {h : Shape} (k : Limited p h) where
-  pub slips_start : {refs : List ℕ} → Cleared h.pieces refs → SlipsTo (decode p) 0 refs
+module _ (T : Tables) where
+  heads_to_most : (n d : ℕ) → heads_to T n d ≤ n
   unfolding heads_to
-  slips_start z =
-      let t = totals k in
-      record { ranged = λ s l. absurd (omega arith); held = hold_same (hold_fewer z (omega arith)) (heads_to (decode p) 0) (λ d. refl) }
+  heads_to_most n d = sum_to_ones n (λ s. hit (head_of T s) d) (λ s. bit_one (leads (head_of T s) d))
 
-  pub slips_torn : {m n : ℕ} {refs : List ℕ} → n < h.slips → m ≡ head_of (decode p) n → h.pieces < m → SlipsCounted (decode p) false refs
-  unfolding slips_in_range
-  slips_torn {m} {n} l q x =
-      let t = totals k in
-      let T = decode p in
-      record {
-        exact = sym (is_false _ (λ y. omega (arith, leb→le _ _ (all_at (slip_total T) _ y n (omega arith)))));
-        held = λ y. absurd (false≢true y);
-      }
+  heads_to_more : (n d : ℕ) → heads_to T (n + 1) d ≡ heads_to T n d + hit (head_of T n) d
+  unfolding heads_to
+  heads_to_more n d = rw add-one (omega arith)
 
-  module _ {n : ℕ} {refs : List ℕ} (v : SlipsTo (decode p) n refs) where
-    pub slips_room : n ≤ h.slips → Countable refs
-    slips_room l = let t = totals k in hold_below v.held (omega arith) (λ d. omega (arith, heads_to_most (decode p) n d))
+  pub slips_start : {h : Shape} → Totals T h → {refs : List ℕ} → Cleared h.pieces refs → SlipsTo T 0 refs
+  unfolding heads_to
+  slips_start k z = record { ranged = λ s l. absurd (omega arith); held = hold_same (hold_fewer z (omega arith)) (heads_to T 0) (λ d. refl) }
 
-    pub slips_on : {m : ℕ} {refs' : List ℕ} → m ≡ head_of (decode p) n → m ≤ h.pieces → refs' ≡ tallied refs m → SlipsTo (decode p) (n + 1) refs'
+  module _ {n : ℕ} {refs : List ℕ} (v : SlipsTo T n refs) where
+    pub slips_room : n ≤ most_slips → Countable refs
+    slips_room l = hold_below v.held (omega arith) (λ d. omega (arith, heads_to_most n d))
+
+    pub slips_on : {m : ℕ} {refs' : List ℕ} → m ≡ head_of T n → m ≤ piece_total T → refs' ≡ tallied refs m → SlipsTo T (n + 1) refs'
     slips_on {m} {refs'} q l e =
-        let t = totals k in
-        let x : head_of (decode p) n ≤ piece_total (decode p) = omega arith in
-        rw (e, q) (record { ranged = below_more _ n v.ranged x; held = hold_tallied v.held _ _ x (heads_to_more (decode p) n) })
+        let x : head_of T n ≤ piece_total T = omega arith in
+        rw (e, q) (record { ranged = below_more _ n v.ranged x; held = hold_tallied v.held _ _ x (heads_to_more n) })
 
-    pub slips_end : h.slips ≤ n → n ≤ h.slips → SlipsCounted (decode p) true refs
+    pub slips_end : n ≡ slip_total T → SlipsCounted T true refs
     unfolding slips_in_range heads heads_to
-    slips_end l m =
-        let t = totals k in
-        let e : n ≡ slip_total (decode p) = omega arith in
-        record { exact = sym (is_true _ (all_intro (slip_total (decode p)) _ (λ s x. le→leb _ _ (v.ranged s (omega arith))))); held = λ _. rw e at v.held }
+    slips_end e =
+        record { exact = sym (is_true _ (all_intro (slip_total T) _ (λ s x. le→leb _ _ (v.ranged s (omega arith))))); held = λ _. rw e at v.held }
+
+  pub slips_torn : {m : ℕ} {refs : List ℕ} (n : ℕ) → n < slip_total T → m ≡ head_of T n → piece_total T < m → SlipsCounted T false refs
+  unfolding slips_in_range
+  slips_torn n l q k = record {
+    exact = sym (is_false _ (λ t. omega (arith, leb→le _ _ (all_at (slip_total T) _ t n l))));
+    held = λ e. absurd (false≢true e);
+  }
 
 -- ---- the pieces
 
@@ -198,68 +190,59 @@ module _ (T : Tables) where
   unfolding nexts nexts_to
   references_most d = omega (arith, heads_most d, nexts_to_most (piece_total T) d)
 
-module _ {p : List ℕ} {h : Shape} (k : Limited p h) where
-  pub pieces_start : {refs lies : List ℕ} → Hold h.pieces refs (heads (decode p)) → Cleared h.buffers lies → PiecesTo (decode p) 0 refs lies
+  pub pieces_start : {h : Shape} → Totals T h → {refs lies : List ℕ} → Hold h.pieces refs (heads T) → Cleared h.buffers lies → PiecesTo T 0 refs lies
   unfolding nexts_to lying_to
-  pieces_start r z =
-      let t = totals k in
-      record {
-        ranged = λ d l. absurd (omega arith);
-        references = hold_same (hold_fewer r (omega arith)) _ (λ d. omega arith);
-        laid = hold_same (hold_fewer z (omega arith)) (lying_to (decode p) 0) (λ d. refl);
-      }
+  pieces_start k r z = record {
+    ranged = λ d l. absurd (omega arith);
+    references = hold_same (hold_fewer r (omega arith)) _ (λ d. omega arith);
+    laid = hold_same (hold_fewer z (omega arith)) (lying_to T 0) (λ d. refl);
+  }
 
-  module _ {n : ℕ} (l : n < h.pieces) {e : Piece} (q : e ≡ piece (decode p) n) where
-    same : piece_in_range h.buffers h.pieces e ≡ piece_in_range (buffer_total (decode p)) (piece_total (decode p)) (piece (decode p) n)
-    same = let t = totals k in rw (← t.buffers, ← t.pieces, ← q)
+  module _ {h : Shape} (k : Totals T h) {n : ℕ} (l : n < h.pieces) {p : Piece} (e : p ≡ piece T n) {r : Bool} (q : r ≡ piece_in_range h.buffers h.pieces p) where
+    ranged : {b : Bool} → r ≡ b → piece_in_range (buffer_total T) (piece_total T) (piece T n) ≡ b
+    ranged x = rw (← k.buffers, ← k.pieces, ← e) (sym q ∙ x)
 
-    pub pieces_torn : {refs lies : List ℕ} → piece_in_range h.buffers h.pieces e ≡ false → PiecesCounted (decode p) false refs lies
+    pub pieces_torn : {refs lies : List ℕ} → r ≡ false → PiecesCounted T false refs lies
     unfolding pieces_in_range
     pieces_torn x =
-        let t = totals k in
-        let T = decode p in
         let m : n < piece_total T = omega arith in
         record {
-          exact = sym (is_false _ (λ y. false≢true (sym x ∙ same ∙ is_true _ (all_at (piece_total T) _ y n m))));
+          exact = sym (is_false _ (λ t. rw (ranged x) at (all_at (piece_total T) (λ d. piece_in_range (buffer_total T) (piece_total T) (piece T d)) t n m)));
           references = λ y. absurd (false≢true y);
           laid = λ y. absurd (false≢true y);
         }
 
-    module _ (x : piece_in_range h.buffers h.pieces e ≡ true) {refs lies : List ℕ} (v : PiecesTo (decode p) n refs lies) where
-      in_range : Is (piece_in_range (buffer_total (decode p)) (piece_total (decode p)) (piece (decode p) n))
-      in_range = rw (← same, x) tt
+    module _ (x : r ≡ true) {refs lies : List ℕ} (v : PiecesTo T n refs lies) where
+      in_range : Is (piece_in_range (buffer_total T) (piece_total T) (piece T n))
+      in_range = rw (ranged x) tt
 
-      fits : ((piece (decode p) n).next ≤ piece_total (decode p)) × (lie_of (piece (decode p) n) ≤ buffer_total (decode p))
-      fits = entry_fits _ _ (piece (decode p) n) in_range
+      fits : ((piece T n).next ≤ piece_total T) × (lie_of (piece T n) ≤ buffer_total T)
+      fits = entry_fits (buffer_total T) (piece_total T) (piece T n) in_range
 
       -- there are counters for what it refers to, and room in them
-      pub pieces_fit : (e.next ≤ length refs) × (lie_of e ≤ length lies) × Countable refs × Countable lies
-      pieces_fit =
-          let t = totals k in (
-            rw q (omega (arith, fits.0, v.references.long)),
-            rw q (omega (arith, fits.1, v.laid.long)),
-            hold_below v.references (omega arith) (λ d. omega (arith, heads_most (decode p) d, nexts_to_most (decode p) n d)),
-            hold_below v.laid (omega arith) (λ b. omega (arith, lying_to_most (decode p) n b)),
-          )
+      pub pieces_fit : (p.next ≤ length refs) × (lie_of p ≤ length lies) × Countable refs × Countable lies
+      pieces_fit = (
+        rw e (omega (arith, fits.0, v.references.long)),
+        rw e (omega (arith, fits.1, v.laid.long)),
+        hold_below v.references (omega arith) (λ d. omega (arith, heads_most d, nexts_to_most n d)),
+        hold_below v.laid (omega arith) (λ b. omega (arith, lying_to_most n b)),
+      )
 
-      pub pieces_on : {refs' lies' : List ℕ} → (refs' ≡ tallied refs e.next) × (lies' ≡ tallied lies (lie_of e)) → PiecesTo (decode p) (n + 1) refs' lies'
-      pieces_on (f, g) =
-          rw (f, g, q) (record {
+      pub pieces_on : {refs' lies' : List ℕ} → refs' ≡ tallied refs p.next → lies' ≡ tallied lies (lie_of p) → PiecesTo T (n + 1) refs' lies'
+      pieces_on f g =
+          rw (f, g, e) (record {
             ranged = below_more _ n v.ranged in_range;
-            references = hold_tallied v.references _ _ fits.0 (λ d. omega (arith, nexts_to_more (decode p) n d in_range));
-            laid = hold_tallied v.laid _ _ fits.1 (lying_to_more (decode p) n);
+            references = hold_tallied v.references _ _ fits.0 (λ d. omega (arith, nexts_to_more n d in_range));
+            laid = hold_tallied v.laid _ _ fits.1 (lying_to_more n);
           })
 
-  pub pieces_end : {n : ℕ} {refs lies : List ℕ} → PiecesTo (decode p) n refs lies → h.pieces ≤ n → n ≤ h.pieces → PiecesCounted (decode p) true refs lies
+  pub pieces_end : {n : ℕ} {refs lies : List ℕ} → PiecesTo T n refs lies → n ≡ piece_total T → PiecesCounted T true refs lies
   unfolding pieces_in_range nexts nexts_to lying lying_to
-  pieces_end {n} v l m =
-      let t = totals k in
-      let e : n ≡ piece_total (decode p) = omega arith in
-      record {
-        exact = sym (is_true _ (all_intro (piece_total (decode p)) _ (λ d x. v.ranged d (omega arith))));
-        references = λ _. rw e at v.references;
-        laid = λ _. rw e at v.laid;
-      }
+  pieces_end v e = record {
+    exact = sym (is_true _ (all_intro (piece_total T) _ (λ d x. v.ranged d (omega arith))));
+    references = λ _. rw e at v.references;
+    laid = λ _. rw e at v.laid;
+  }
 
 -- ---- stored counts g against counters that hold f
 

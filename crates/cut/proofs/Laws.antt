@@ -29,9 +29,9 @@ use Rattle.tables.specs.Shape.{Holds}
 use Rattle.chain.specs.declared.Spot.{Spot}
 use Rattle.chain.specs.Find.{spot_of, found}
 use Rattle.chain.specs.Length.{stretches_from}
-use Rattle.chain.specs.Part.{part_of}
+use Rattle.chain.specs.Part.{extent_of}
 use Rattle.chain.proofs.Spots.{Found, found_at, found_ok, found_err, past_range, cut_out_none}
-use Rattle.chain.proofs.Parts.{part_ok, part_from_lem}
+use Rattle.chain.proofs.Parts.{extent_ok, part_from_lem}
 use Rattle.answer.specs.Result.{result_of}
 use Rattle.answer.proofs.Perform.{perform_first, perform_slips, perform_pieces, perform_all, changed}
 
@@ -51,12 +51,12 @@ module _ (T : Tables) (off : ℕ) {head : ℕ} (s : ℕ) (S : SoundTables T) (l 
       let (r, t) = found_err place f in
       (r, omega (arith, ltb→lt (length_of T s) off (subst Is (past_range T s off e refl S l) t)))
 
-module _ (T : Tables) (h off n : ℕ) {at : Spot} {part : ℕ} (f : Found T h off at) (e : Ok part ≡ part_of T at.link (at.into + n)) where
+module _ (T : Tables) (h off n : ℕ) {at : Spot} {part : ℕ} (f : Found T h off at) (e : Ok part ≡ extent_of T at.link (at.into + n)) where
   -- the pieces that it overlaps: none where it is empty
   pub range_pieces : {k : ℕ} → (n ≡ 0 → k ≡ 0) × ((n ≡ 0 → ⊥) → k ≡ part) → k ≡ length (cut_out (stretches_from T h) off n)
   range_pieces c = elim (ℕ_discrete n 0) [
     | yes z ↦ c.0 z ∙ sym (ap length (ap (cut_out (stretches_from T h) off) z ∙ cut_out_none (stretches_from T h) off))
-    | no z ↦ c.1 z ∙ (part_ok T at.link (at.into + n) e).0 ∙ sym (part_from_lem T h off at f n (omega arith))
+    | no z ↦ c.1 z ∙ (extent_ok T at.link (at.into + n) e).0 ∙ sym (part_from_lem T h off at f n (omega arith))
   ]
 
 -- ---- the answers

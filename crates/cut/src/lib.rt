@@ -32,8 +32,8 @@ pub fn cut(pool: &mut [u8], shape: Shape, s: SlipName, off: u32, n: u32) -> Outc
     ensures leaves { Leaves result (state_of (slip (decode pool.new) (slip_in (number_of result)))) }
 {
     let head = chain::enter(pool, shape, s)?;
-    let Spot { link, into, .. } = chain::find(pool, shape, head, off)?;
-    let part = chain::part_of(pool, shape, link, into as u64 + n as u64)?;
+    let Spot { link, into, .. } = chain::reach(pool, shape, head, off)?;
+    let part = chain::extent(pool, shape, link, into as u64 + n as u64)?;
     let t: SlipNumber = room::lowest(pool, shape).ok_or(Refusal::Slips)?;
     let pieces = overlapped(n, part);
     let lowest = room::room_for(pool, shape, pieces as usize).ok_or(Refusal::Pieces)?;

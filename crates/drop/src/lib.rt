@@ -23,7 +23,7 @@ pub fn drop_first(pool: &mut [u8], shape: Shape, storage: &mut [u8], s: SlipName
     ensures leaves { Leaves result (state_of (slip (decode pool.new) s.slip.0)) }
 {
     let head = chain::enter(pool, shape, s)?;
-    let at = chain::find(pool, shape, head, n)?;
+    let at = chain::reach(pool, shape, head, n)?;
     if n == 0 {
         return Ok(answer::done(pool, shape, s.slip, 0));
     }
@@ -32,7 +32,7 @@ pub fn drop_first(pool: &mut [u8], shape: Shape, storage: &mut [u8], s: SlipName
         rest::move_to(pool, shape, storage, s.slip, at);
         return Ok(answer::done(pool, shape, s.slip, 0));
     }
-    let room = front::room_in_front(pool, shape, head, wanted).ok_or(Refusal::Pieces)?;
+    let room = front::room_in_front(pool, shape, head, wanted).map_err(|_| Refusal::Pieces)?;
     let tail = rest::give_back(pool, shape, storage, s.slip, at);
     let link = rest::make(pool, shape, tail, room.from);
     tables::set_slip(pool, shape, s.slip, link + 1);

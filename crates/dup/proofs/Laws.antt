@@ -7,9 +7,12 @@ use native.Mathlib.Numerals.{add-one}
 use native.Mathlib.Omega.{arith}
 use lib.ListN.{length}
 use Rattle.std.specs.Prelude.{Ok, Err}
+use Rattle.kinds.specs.declared.PieceNumber.{PieceNumber}
 use Rattle.kinds.specs.declared.SlipState.{SlipState}
+use Rattle.kinds.specs.declared.SlipState.TheVariants.{Heads}
 use Rattle.kinds.specs.declared.Step.{Step}
 use Rattle.kinds.specs.declared.Refusal.TheVariants.{Slip, Slips, Pieces}
+use Rattle.kinds.specs.SlipState.{state_of}
 use Rattle.rules.specs.Basics.{Is}
 use Rattle.rules.specs.Tables.{Tables, piece, piece_total, head_of, name_of, holding, set_slip}
 use Rattle.rules.specs.Bytes.{decode}
@@ -31,11 +34,19 @@ use Rattle.room.proofs.Free.{no_piece}
 use Rattle.answer.specs.Result.{result_of}
 use Rattle.answer.proofs.Perform.{perform_first, perform_slips, perform_pieces, perform_all, changed}
 
+-- ---- the state
+
+-- a held slip that no piece heads is empty: its entry is 1
+pub no_heads : (n : ℕ) {x : SlipState} → x ≡ state_of n → n ≢ 0 → ((p : PieceNumber) → x ≡ Heads p → ⊥) → n ≡ 1
+no_heads zero e h k = absurd (h refl)
+no_heads (suc zero) e h k = refl
+no_heads (suc (suc d)) e h k = absurd (k _ e)
+
+-- ---- the plan
+
 -- where the scan for a piece comes to the end, none is free
 pub lacking : (T : Tables) {f : ℕ} → f ≡ first_from (is_free T) 0 (piece_total T) → f ≡ piece_total T → length (free_pieces T) ≡ 0
 lacking T e z = ap length (no_piece T e z)
-
--- ---- the plan
 
 -- a chain like that of the link n needs one piece, or none where n leads nowhere
 pub plan_none : (T : Tables) (n : ℕ) → n ≡ 0 → length (dup_plan T n).more ≡ 0

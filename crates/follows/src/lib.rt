@@ -21,7 +21,7 @@ pub extern "C" fn slp_test_follows(pool: &[u8], storage: &[u8]) -> Counted
     ensures { (result.code ≡ (step (Do Audit) (lent pool.now storage.now)).code)
         × (result.follows ≡ audit_follows (lent pool.now storage.now)) × (result.follows ≤ pieces_in pool.now) }
 {
-    let audited = audit::counted(pool, storage.len());
+    let audited = audit::audit(pool, storage.len());
     let code = match audited.shape {
         Ok(_) => 0,
         Err(why) => why.into(),

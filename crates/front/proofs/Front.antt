@@ -20,7 +20,7 @@ use Rattle.room.proofs.Free.{piece_first, no_piece}
 use Rattle.own.specs.Own.{single}
 use Rattle.own.proofs.Own.{none_own, single_link}
 use Rattle.chain.proofs.Links.{link_leads, walk_less, walk_most}
-use Rattle.std.specs.Prelude.{Option, min}
+use Rattle.std.specs.Prelude.{Result, min}
 use Rattle.front.specs.declared.FrontRoom.{FrontRoom}
 use Rattle.front.specs.Front.{RoomWith, RoomInFront, RoomBeside, RoomThere}
 
@@ -101,6 +101,11 @@ own_first (suc k) (suc d) T h e =
 pub front_shared : (T : Tables) (n wanted : ℕ) {r : ℕ} {b : Bool} → single T n ≡ false → RoomFor (is_free T) wanted (piece_total T) r b → RoomInFront T n wanted r r b
 front_shared T n wanted e is = rw (none_own (piece_total T) n T e) (given_none T wanted is)
 
+-- it is not, and fewer than wanted are free
+pub front_few : (T : Tables) (n wanted : ℕ) → single T n ≡ false → false ≡ leb wanted (length (free_pieces T)) → RoomInFront T n wanted 0 0 false
+front_few T n wanted e is =
+    record { there = (front_shared T n wanted e (refl, is)).there; none_below = λ d l t. omega arith; none_between = λ d l m t. omega arith }
+
 -- from a good link n to a piece of count 1
 module _ (T : Tables) (n : ℕ) (S : SoundTables T) (t : Is (link_ok T n)) (one : single T n ≡ true) where
   -- so there is an own piece
@@ -126,5 +131,6 @@ module _ (T : Tables) (n : ℕ) (S : SoundTables T) (t : Is (link_ok T n)) (one 
         given_enough T (own_pieces P T n) wanted (omega (arith, ap length after, ap length (own_first (P - 1) m T two e)))
 
     -- it is not: the head's piece alone is given back
-    pub front_alone : (wanted : ℕ) (o : Option FrontRoom) → wanted ≡ 2 → single T m ≡ false → RoomThere (RoomBeside T (n - 1)) o → RoomThere (RoomInFront T n wanted) o
+    pub front_alone : (wanted : ℕ) (o : Result FrontRoom FrontRoom) → wanted ≡ 2 → single T m ≡ false → RoomThere (RoomBeside T (n - 1)) o
+        → RoomThere (RoomInFront T n wanted) o
     front_alone wanted o h e is = rw (h, after, none_own (piece_total T - 1) m T e) is

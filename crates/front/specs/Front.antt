@@ -1,5 +1,5 @@
 -- Room for pieces, where own pieces are given back first.
-use Rattle.std.specs.Prelude.{◌≡◌, Bool, true, false, List, [], ◌∷◌, Option, MatchOption, ℕ, ◌+◌, ◌<◌, length, leb}
+use Rattle.std.specs.Prelude.{◌≡◌, Bool, true, false, List, [], ◌∷◌, Result, MatchResult, ℕ, ◌+◌, ◌<◌, length, leb}
 use Rattle.rules.specs.Basics.{Is}
 use Rattle.rules.specs.Tables.{Tables, piece_total}
 use Rattle.rules.specs.Chain.{own_pieces}
@@ -20,6 +20,6 @@ RoomInFront T n wanted from beyond enough = RoomWith T (own_pieces (piece_total 
 abbrev pub RoomBeside : Tables → ℕ → ℕ → ℕ → Bool → Type 0
 RoomBeside T d from beyond enough = RoomWith T (d ∷ []) 2 from beyond enough
 
--- o says from where and beyond what there is room R, where it is enough, and is nothing where it is not
-abbrev pub RoomThere : (ℕ → ℕ → Bool → Type 0) → Option FrontRoom → Type 0
-RoomThere R o = MatchOption o ((from beyond : ℕ) × R from beyond false) (λ r. R r.from.0 r.beyond.0 true)
+-- r says from where and beyond what there is room R: Ok where it is enough, and Err where it is not
+abbrev pub RoomThere : (ℕ → ℕ → Bool → Type 0) → Result FrontRoom FrontRoom → Type 0
+RoomThere R r = MatchResult r (λ x. R x.from.0 x.beyond.0 true) (λ x. R x.from.0 x.beyond.0 false)

@@ -1,6 +1,7 @@
 -- What keep answers and leaves: the rule's result. Assumes nothing.
 use mathlib.Core.Path.{◌≡◌, refl, sym, ap, subst, ◌∙◌}
 use mathlib.Core.Bool.{true}
+use mathlib.Core.Logic.{◌⊎◌, ⊎_elim}
 use mathlib.Core.List.{List, [], ◌∷◌}
 use Prim.Native.Nat.{ℕ, pred, ◌+◌, ◌-◌, ◌≤◌, ◌<◌}
 use native.Mathlib.Omega.{arith}
@@ -44,7 +45,7 @@ use Rattle.chain.specs.Find.{spot_of, past_end, found}
 use Rattle.chain.specs.Part.{part_of}
 use Rattle.chain.proofs.Links.{link_leads, link_below}
 use Rattle.chain.proofs.Spots.{past_range, at_end, before_end, found_ok, found_err}
-use Rattle.chain.proofs.Parts.{part_ok}
+use Rattle.chain.proofs.Parts.{part_ok, part_err}
 use Rattle.own.specs.declared.OwnPart.{OwnPart}
 use Rattle.own.specs.Own.{last_link, own_part}
 use Rattle.own.proofs.Own.{OwnLaws, own_laws}
@@ -292,10 +293,11 @@ module _ {p : List ℕ} {h : Shape} {x : Name} {n head : ℕ} {end : Spot} {own 
   pub next_long : (own.next ≡ 0 → ⊥) → 0 < (piece T (own.next - 1)).len
   next_long z = omega (arith, (link_leads T own.next w.opened.sound next_ok z).some_bytes)
 
-  module _ {r : Result ℕ Refusal} {k : ℕ} (is : r ≡ part_of T own.next (n - own.bytes)) (count : r ≡ Ok k) where
+  module _ {r : Result ℕ ℕ} {k : ℕ} (is : r ≡ part_of T own.next (n - own.bytes)) (count : (r ≡ Ok k) ⊎ (r ≡ Err k)) where
     -- how many are replaced, as the code counts and copies them
     pub others_cut : k ≡ length (cut_out (stretches_from T own.next) 0 (n - own.bytes))
-    others_cut = (part_ok T own.next (n - own.bytes) (sym count ∙ is)).0
+    others_cut =
+        ⊎_elim (λ e. (part_ok T own.next (n - own.bytes) (sym e ∙ is)).0) (λ e. (part_err T own.next (n - own.bytes) (sym e ∙ is)).0) count
 
     others : k ≡ length (kept_not_own T s n)
     others = others_cut ∙ sym (ap length rest)

@@ -36,7 +36,7 @@ pub fn keep(pool: &mut [u8], shape: Shape, storage: &mut [u8], s: SlipName, n: u
     ensures leaves { Leaves result (state_of (slip (decode pool.new) s.slip.0)) }
 {
     let head = chain::enter(pool, shape, s)?;
-    let end = chain::find(pool, shape, head, n)?;
+    let end = chain::reach(pool, shape, head, n)?;
     if end.link == 0 {
         return Ok(answer::done(pool, shape, s.slip, 0));
     }
@@ -47,7 +47,7 @@ pub fn keep(pool: &mut [u8], shape: Shape, storage: &mut [u8], s: SlipName, n: u
         return Ok(answer::done(pool, shape, s.slip, 0));
     }
     let left = n - own.bytes;
-    let others = chain::part_of(pool, shape, own.next, left as u64).unwrap();
+    let (Ok(others) | Err(others)) = chain::part_of(pool, shape, own.next, left as u64);
     let lowest = room::room_for(pool, shape, others as usize).ok_or(Refusal::Pieces)?;
     let first = build::copy_pieces(pool, shape, own.next, 0, left, others, lowest, 0);
     release::hang(pool, shape, storage, s.slip, own.last, first);

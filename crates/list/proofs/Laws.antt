@@ -4,7 +4,7 @@ use mathlib.Core.List.{List, [], ◌∷◌, ◌++◌, head-eq_of_cons-eq}
 use Prim.Native.Nat.{ℕ, zero, suc, ◌+◌, ◌-◌, ◌*◌, ◌/◌, ◌≤◌, ◌<◌}
 use native.Mathlib.Numerals.{add-one}
 use native.Mathlib.Omega.{arith}
-use lib.ListN.{length, take, drop, set, length-append, length-take, length-drop}
+use lib.ListN.{length, get_or, take, drop, set, length-append, length-take, length-drop}
 use lib.Seq.{sets-eq, take_at, take-length, drop-append-add, drop-drop}
 use Rattle.std.proofs.lemmas.Result.{IfOk-at_ok}
 use Rattle.std.specs.Result.{IfOk}
@@ -27,13 +27,13 @@ use Rattle.rules.proofs.Logic.{if_T, if_F, if_either, not_less}
 use Rattle.rules.proofs.Codes.{first_yes, first_no, first_none, named}
 use Rattle.rules.proofs.List.{records_length}
 use Rattle.chain.specs.Length.{stretches_from}
+use Rattle.chain.proofs.Links.{InUse, link_leads, stretches_on}
 use Rattle.answer.specs.Result.{result_of, Leaves}
 use Rattle.answer.proofs.Perform.{perform_first, perform_none}
 use Rattle.list.specs.declared.Begun.{Begun}
-use Rattle.list.specs.declared.Record.{Record}
 use Rattle.list.specs.Begin.{begun}
 use Rattle.list.specs.Record.{record_of}
-use Rattle.list.proofs.Reached.{follow_start, reached, reached_good, reached_piece, reached_next}
+use Rattle.list.proofs.Reached.{follow_start, follow_more, reached, reached_good, reached_piece, reached_next}
 
 -- ---- one record more
 
@@ -71,25 +71,27 @@ module _ {T : Tables} {link : ℕ} {list₀ : List ℕ} {at k : ℕ} {list : Lis
   pub writing_some : at ≡ 0 → ⊥
   writing_some z = reached T link S t k h (sym w.here ∙ z)
 
-  pub writing_good : Is (link_ok T at)
-  writing_good = subst (λ (j : ℕ). Is (link_ok T j)) (sym w.here) (reached_good T link S t k h)
+  pub writing_piece : InUse T (at - 1)
+  writing_piece = link_leads T at S (subst (λ (j : ℕ). Is (link_ok T j)) (sym w.here) (reached_good T link S t k h)) writing_some
 
   -- so the next record is written
-  pub writing_on : {r : Record} → 2 * k + 2 ≤ length list₀ → r ≡ record_of T.stock (piece T (at - 1))
-      → Writing T link list₀ r.next (k + 1) (set (set list (2 * k) r.stretch.position) (2 * k + 1) r.stretch.length)
-  writing_on {r} wide e =
+  pub writing_on : {a b m : ℕ} → 2 * k + 2 ≤ length list₀ → a ≡ position_of T.stock (stretch (piece T (at - 1))) → b ≡ (piece T (at - 1)).len
+      → m ≡ (piece T (at - 1)).next → Writing T link list₀ m (k + 1) (set (set list (2 * k) a) (2 * k + 1) b)
+  writing_on {a} {b} {m} wide ea eb em =
       let xs = stretches_from T link in
       let x = stretch (piece T (follow T k link - 1)) in
-      let here : r ≡ record_of T.stock (piece T (follow T k link - 1)) = e ∙ ap (λ (j : ℕ). record_of T.stock (piece T (j - 1))) w.here in
+      let there : at - 1 ≡ follow T k link - 1 = ap (λ (j : ℕ). j - 1) w.here in
       let R = records T.stock (take k xs) in
       let size : length R ≡ 2 * k = records_length T.stock (take k xs) ∙ simp length-take (omega (arith, h)) in
       let more : records T.stock (take (k + 1) xs) ≡ R ++ (position_of T.stock x ∷ x.len ∷ []) = ap (λ (j : ℕ). records T.stock (take j xs)) (add-one k) ∙ records_more T.stock k xs x _ (reached_piece T link S t k h) in
       let more-size : length (records T.stock (take (k + 1) xs)) ≡ 2 * k + 2 = ap length more ∙ length-append R _ ∙ omega (arith, size) in
+      let pos : a ≡ position_of T.stock x = ea ∙ ap (λ (j : ℕ). position_of T.stock (stretch (piece T j))) there in
+      let len : b ≡ x.len = eb ∙ ap (λ (j : ℕ). (piece T j).len) there in
       record {
-        here = ap (λ (z : Record). z.next) here ∙ reached_next T link S t k h;
-        written = ap (λ (l : List ℕ). set (set l (2 * k) r.stretch.position) (2 * k + 1) r.stretch.length) (w.written ∙ ap (λ (j : ℕ). R ++ drop j list₀) size)
-            ∙ two_stores R list₀ (2 * k) r.stretch.position r.stretch.length size wide
-            ∙ ap (λ (z : Record). R ++ (z.stretch.position ∷ z.stretch.length ∷ []) ++ drop (2 * k + 2) list₀) here
+        here = em ∙ ap (λ (j : ℕ). (piece T j).next) there ∙ reached_next T link S t k h;
+        written = ap (λ (l : List ℕ). set (set l (2 * k) a) (2 * k + 1) b) (w.written ∙ ap (λ (j : ℕ). R ++ drop j list₀) size)
+            ∙ two_stores R list₀ (2 * k) a b size wide
+            ∙ (λ i. R ++ (pos i ∷ len i ∷ []) ++ drop (2 * k + 2) list₀)
             ∙ ap (λ (l : List ℕ). l ++ drop (2 * k + 2) list₀) (sym more)
             ∙ ap (λ (j : ℕ). records T.stock (take (k + 1) xs) ++ drop j list₀) (sym more-size);
       }
@@ -170,3 +172,16 @@ module _ (p st list : List ℕ) (y : Name) (b : encode (decode p) ≡ p) where
       → (result_of (Ok r.step) p st after no_view ≡ perform (WireList y list) (lent p st)) × Leaves (Ok r.step) (state_of (slip T y.slip))
   unfolding Comes
   list_performs e w = rw w (subst Comes (sym e) comes)
+
+-- ---- one record
+
+-- a list of two numbers has the first record
+pub first_record : (T : Tables) (link : ℕ) {pair : List ℕ} {m : ℕ} → SoundTables T → Is (link_ok T link) → (link ≡ 0 → ⊥)
+    → pair ≡ copied (records T.stock (take 1 (stretches_from T link))) (0 ∷ 0 ∷ []) → m ≡ follow T 1 link
+    → record { stretch = record { position = get_or pair 0 0; length = get_or pair 1 0 }; next = m } ≡ record_of T.stock (piece T (link - 1))
+unfolding records follow
+first_record T link {pair} {m} S t h e n =
+    let on = stretches_on T link S t h in
+    let is = e ∙ ap (λ (l : List Stretch). copied (records T.stock (take 1 l)) (0 ∷ 0 ∷ [])) on in
+    let nx = n ∙ follow_more T 0 link h in
+    (λ i. record { stretch = record { position = get_or (is i) 0 0; length = get_or (is i) 1 0 }; next = nx i })

@@ -58,16 +58,17 @@ pub fn begin(pool: &[u8], shape: Shape, s: SlipName, room: usize) -> Result<Begu
     Ok(Begun { step, link, pieces })
 }
 
-// The record of the piece that `link` leads to, and the link behind it: a scatter list's entry.
+// The record of the piece that `link` leads to, by way of a list of two numbers, and the link behind it: a scatter list's entry.
 pub fn record_at(pool: &[u8], shape: Shape, link: u16) -> Record
     requires { Opened pool.now shape × Is (link_ok (decode pool.now) link) × (link ≡ 0 → ⊥) }
     ensures { result ≡ record_of (decode pool.now).stock (piece (decode pool.now) (link - 1)) }
 {
-    let d = PieceNumber(link - 1);
-    let position = transfer::position(pool, shape, d) as u32;
-    let length = chain::piece_bytes(pool, shape, d);
-    let next = tables::piece_next(pool, shape, d);
-    let stretch = Stretch { position, length };
+    let mut pair = [0u32; 2];
+    let next = write_records(pool, shape, link, 1, &mut pair);
+    let stretch = Stretch {
+        position: pair[0],
+        length: pair[1],
+    };
     Record { stretch, next }
 }
 
@@ -81,10 +82,11 @@ pub fn write_records(pool: &[u8], shape: Shape, link: u16, n: usize, list: &mut 
 {
     let mut at = link;
     for k in 0..n {
-        let record = record_at(pool, shape, at);
-        list[2 * k] = record.stretch.position;
-        list[2 * k + 1] = record.stretch.length;
-        at = record.next;
+        let d = PieceNumber(at - 1);
+        let i = 2 * k;
+        list[i] = transfer::position(pool, shape, d) as u32;
+        list[i + 1] = chain::piece_bytes(pool, shape, d);
+        at = tables::piece_next(pool, shape, d);
     }
     at
 }

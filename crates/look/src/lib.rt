@@ -86,8 +86,8 @@ pub fn read(
     ensures leaves { Leaves result (state_of (slip (decode pool.now) s.slip.0)) }
 {
     let head = chain::enter(pool, shape, s)?;
-    let Spot { link, into, .. } = chain::find(pool, shape, head, off)?;
-    chain::part_of(pool, shape, link, into as u64 + n as u64)?;
+    let Spot { link, into, .. } = chain::reach(pool, shape, head, off)?;
+    chain::extent(pool, shape, link, into as u64 + n as u64)?;
     if output.len() < n as usize {
         return Err(Refusal::Narrow);
     }
@@ -130,7 +130,7 @@ pub fn show(
             place: Place::Storage(start_of(pool, shape, link, n)),
         });
     }
-    chain::part_of(pool, shape, link, n as u64)?;
+    chain::extent(pool, shape, link, n as u64)?;
     if scratch.len() < n as usize {
         return Err(Refusal::Narrow);
     }

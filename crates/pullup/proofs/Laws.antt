@@ -7,7 +7,7 @@ use native.Mathlib.Omega.{arith}
 use lib.ListN.{length}
 use lib.Dec.{ltb, ltb→lt, lt→ltb, leb}
 use borrow.Author.Tests.{leb-true, leb-false}
-use Rattle.std.specs.Prelude.{Option, Some, None, Ok, Err}
+use Rattle.std.specs.Prelude.{Result, Ok, Err, is_ok}
 use Rattle.kinds.specs.declared.SlipState.{SlipState}
 use Rattle.kinds.specs.declared.Step.{Step}
 use Rattle.kinds.specs.declared.Refusal.{Refusal}
@@ -162,15 +162,16 @@ module _ {p : List ℕ} {h : Shape} {x : Name} {n head : ℕ} {at : Spot} (st : 
         there_back = there_own ∙ sym (pullup_room T s n (tables_now T w.opened.sound) scattered (length (free_pieces T)))
 
       -- no piece for the first bytes or for what stays
-      pub pullup_pieces : {r : Option FrontRoom} → RoomThere (RoomInFront T head (k + 1)) r → r ≡ None → result_of (Err Pieces) p st [] no_view ≡ perform (Pullup x n) (lent p st)
+      pub pullup_pieces : (r : Result FrontRoom FrontRoom) → RoomThere (RoomInFront T head (k + 1)) r → is_ok r ≡ false
+          → result_of (Err Pieces) p st [] no_view ≡ perform (Pullup x n) (lent p st)
       unfolding rule
-      pullup_pieces found none =
-          let (_, _, room) = rw none at found in
-          let f = leb-false _ _ (sym (there_back room)) in
+      pullup_pieces (Ok r) found none = cc
+      pullup_pieces (Err r) found none =
+          let f = leb-false _ _ (sym (there_back found)) in
           perform_pieces (Pullup x n) (lent p st) none_early (omega (arith, ap (λ (w : Wants). w.slips) wants))
           (omega (arith, f, ap (λ (w : Wants). w.pieces) wants, ap (λ (w : Wants). length w.back) wants))
 
-      module _ {y : Option FrontRoom} {r : FrontRoom} (found : RoomThere (RoomInFront T head (k + 1)) y) (some : y ≡ Some r) where
+      module _ {y : Result FrontRoom FrontRoom} {r : FrontRoom} (found : RoomThere (RoomInFront T head (k + 1)) y) (some : y ≡ Ok r) where
         room : RoomInFront T head (k + 1) r.from.0 r.beyond.0 true
         room = rw some at found
 

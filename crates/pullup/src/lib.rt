@@ -82,12 +82,12 @@ pub fn pullup(pool: &mut [u8], shape: Shape, storage: &mut [u8], s: SlipName, n:
     if !BufferNumber::fits(n) {
         return Err(Refusal::Long);
     }
-    let at = chain::find(pool, shape, head, n)?;
+    let at = chain::reach(pool, shape, head, n)?;
     if chain::in_first(pool, shape, head, n) {
         return Ok(answer::done(pool, shape, s.slip, 0));
     }
     let wanted = rest::wanted(at) + 1;
-    let room = front::room_in_front(pool, shape, head, wanted).ok_or(Refusal::Pieces)?;
+    let room = front::room_in_front(pool, shape, head, wanted).map_err(|_| Refusal::Pieces)?;
     let b: BufferNumber = room::lowest(pool, shape).ok_or(Refusal::Buffers)?;
     pull(pool, shape, storage, s.slip, n, head, at, room, b);
     Ok(answer::done(pool, shape, s.slip, 0))

@@ -2,12 +2,15 @@
 #![tactic(auto)]
 
 ghost use Rattle.std.specs.Prelude.{◌≡◌, []};
+ghost use Rattle.kinds.specs.SlipState.{state_of};
+ghost use Rattle.rules.specs.Tables.{slip as slip_at};
+ghost use Rattle.rules.specs.Bytes.{decode};
 ghost use Rattle.rules.specs.Sound.{lent};
 ghost use Rattle.rules.specs.Rule.{name, no_view};
 ghost use Rattle.rules.specs.Gather.{gather};
 ghost use Rattle.rules.specs.Step.{Audit, Put, Free, Dup, Cut, Append, Drop, Keep, Pullup, Pack, Length, Read, Show, WireList, Open, Do, step};
 ghost use Rattle.gather.specs.Sum.{gathered_of};
-ghost use Rattle.answer.specs.Result.{result_of as came_to};
+ghost use Rattle.answer.specs.Result.{result_of as came_to, Leaves};
 ghost use Rattle.calls.specs.Result.{result_of};
 ghost use Rattle.calls_look.specs.Shown.{shown_of};
 ghost use Rattle.slp.specs.Numbers.{numbers};
@@ -177,8 +180,9 @@ pub fn slp_gather(storage: &[u8], list: &[u32], output: &mut [u8]) -> Gathered
 
 // Writes the records of the chain of a slip to the front of `list`: a scatter list of structs.
 fn stretches(pool: &[u8], storage: &[u8], s: SlipName, list: &mut [Stretch]) -> Outcome
-    ensures { came_to result pool.now storage.now (numbers list.new) no_view
+    ensures does { came_to result pool.now storage.now (numbers list.new) no_view
         ≡ step (Do (WireList (name s.slip.0 s.serial.0) (numbers list.old))) (lent pool.now storage.now) }
+    ensures leaves { Leaves result (state_of (slip_at (decode pool.now) s.slip.0)) }
 {
     let begun = calls_look::begin(pool, storage, s, list.len())?;
     let mut at = begun.link;

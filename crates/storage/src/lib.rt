@@ -52,12 +52,13 @@ pub fn fill_buffer(storage: &mut [u8], b: BufferNumber, input: &[u8])
     fill(&mut storage[start..start + SIZE], input);
 }
 
-// Sets every byte of buffer `b` to zero, as a fill with nothing: only its stretch of storage is lent (a cluster cleared).
+// Sets every byte of buffer `b` to zero: only its stretch of storage is lent (a cluster cleared).
 pub fn clean_buffer(storage: &mut [u8], b: BufferNumber)
     requires { buffer_size * b.0 + buffer_size ≤ length storage.old }
     ensures { storage.new ≡ filled_at storage.old (buffer_size * b.0) buffer_size [] }
 {
-    fill_buffer(storage, b, &[]);
+    let start = b.start();
+    zero(&mut storage[start..start + SIZE]);
 }
 
 // Copies the `n` bytes of `src` from `from` on over those of `dst` from `at` on, at most a
@@ -71,18 +72,26 @@ pub fn copy_part(dst: &mut [u8], at: usize, src: &[u8], from: usize, n: usize)
     dst[at..at + n].copy_from_slice(&block[..n]);
 }
 
+// Writes `input` over the bytes of `part` from `at` on: a memcpy into a stretch that is lent.
+fn write_at(part: &mut [u8], at: usize, input: &[u8])
+    requires { at + length input.now ≤ length part.old }
+    ensures { part.new ≡ take at part.old ++ (input.now ++ drop (at + length input.now) part.old) }
+{
+    part[at..at + input.len()].copy_from_slice(input);
+}
+
 // Sets the bytes of buffer `b` from `at` on to the `n` bytes of storage from `from` on, by way of a local array,
-// as copy_part: only these bytes of the buffer are lent to be written (a cluster write from another).
+// as copy_part: only the buffer's stretch is lent to be written (a cluster write from another).
 pub fn fill_part(storage: &mut [u8], b: BufferNumber, at: usize, from: usize, n: usize)
     requires { (buffer_size * b.0 + buffer_size ≤ length storage.old) × (at + n ≤ buffer_size) × (from + n ≤ length storage.old) }
     ensures { storage.new
         ≡ take (buffer_size * b.0 + at) storage.old
         ++ (take n (drop from storage.old) ++ drop (buffer_size * b.0 + at + n) storage.old) }
 {
-    let to = b.start() + at;
+    let start = b.start();
     let mut block = [0u8; SIZE];
     copy_part(&mut block, 0, storage, from, n);
-    storage[to..to + n].copy_from_slice(&block[..n]);
+    write_at(&mut storage[start..start + SIZE], at, &block[..n]);
 }
 
 // Sets the bytes of buffer `b` from `n` on to zero: only its stretch is lent (the rest of a cluster cleared).

@@ -4,7 +4,7 @@ use Rattle.calls.proofs.Laws.{opened, performed}
 use Rattle.calls_change.proofs.append.Goals as goal
 
 pub append-requires : goal.append-requires
-append-requires c = opened c.in_ok-shape.ensures
+append-requires c = opened (rw c.in_ok-shape.was at c.audit.ensures.audit)
 
-pub returns : goal.returns
-returns c = c.append.ensures.by_index c.args.storage.now ∙ performed c.args.storage.now c.in_ok-shape.ensures _
+pub returns-clause-does : goal.returns-clause-does
+returns-clause-does c = c.append.ensures.by_index c.args.storage.now ∙ performed c.args.storage.now (rw c.in_ok-shape.was at c.audit.ensures.audit) _

@@ -4,7 +4,7 @@ use Rattle.calls.proofs.Laws.{opened, fitted, performed}
 use Rattle.calls_change.proofs.free.Goals as goal
 
 pub free-requires : goal.free-requires
-free-requires c = (opened c.in_ok-shape.ensures, fitted c.in_ok-shape.ensures)
+free-requires c = let v = rw c.in_ok-shape.was at c.audit.ensures.audit in (opened v, fitted v)
 
-pub returns : goal.returns
-returns c = c.free.ensures.no_view_after ∙ performed c.args.storage.now c.in_ok-shape.ensures _
+pub returns-clause-does : goal.returns-clause-does
+returns-clause-does c = c.free.ensures.no_view_after ∙ performed c.args.storage.now (rw c.in_ok-shape.was at c.audit.ensures.audit) _

@@ -4,7 +4,7 @@ use Rattle.calls.proofs.Laws.{opened, fitted, performed}
 use Rattle.calls_new.proofs.put.Goals as goal
 
 pub put-requires : goal.put-requires
-put-requires c = (opened c.in_ok-shape.ensures, fitted c.in_ok-shape.ensures)
+put-requires c = let v = rw c.in_ok-shape.was at c.audit.ensures.audit in (opened v, fitted v)
 
-pub returns : goal.returns
-returns c = c.put.ensures.no_view_after ∙ performed c.args.storage.now c.in_ok-shape.ensures _
+pub returns-clause-does : goal.returns-clause-does
+returns-clause-does c = c.put.ensures.no_view_after ∙ performed c.args.storage.now (rw c.in_ok-shape.was at c.audit.ensures.audit) _

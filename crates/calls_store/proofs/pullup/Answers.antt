@@ -4,7 +4,7 @@ use Rattle.calls.proofs.Laws.{opened, fitted, performed}
 use Rattle.calls_store.proofs.pullup.Goals as goal
 
 pub pullup-requires : goal.pullup-requires
-pullup-requires c = (opened c.in_ok-shape.ensures, fitted c.in_ok-shape.ensures)
+pullup-requires c = let v = rw c.in_ok-shape.was at c.audit.ensures.audit in (opened v, fitted v)
 
-pub returns : goal.returns
-returns c = c.pullup.ensures.no_view_after ∙ performed c.args.storage.now c.in_ok-shape.ensures _
+pub returns-clause-does : goal.returns-clause-does
+returns-clause-does c = c.pullup.ensures.no_view_after ∙ performed c.args.storage.now (rw c.in_ok-shape.was at c.audit.ensures.audit) _

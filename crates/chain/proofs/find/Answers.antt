@@ -1,10 +1,8 @@
 -- `chain::find` meets its contract: the place from the link reached, with what is left of the offset, is the one asked for. Assumes nothing.
-use mathlib.Core.Path.{◌≡◌, refl, sym, ap, subst, ◌∙◌}
-use mathlib.Core.Bool.{true}
+use mathlib.Core.Path.{refl, sym, ap, subst, ◌∙◌}
 use Prim.Native.Nat.{ℕ, ◌-◌, ◌<◌}
 use native.Mathlib.Omega.{arith}
 use lib.ListN.{length}
-use lib.Dec.{lt→ltb}
 use Rattle.rules.specs.Basics.{Is}
 use Rattle.rules.specs.Tables.{piece_total}
 use Rattle.rules.specs.Bytes.{decode}
@@ -13,9 +11,9 @@ use Rattle.rules.specs.Sound.{link_ok}
 use Rattle.tables.proofs.Laws.{whole, total_pieces}
 use Rattle.chain.specs.Find.{spot_of}
 use Rattle.chain.proofs.Links.{InUse, link_leads, walk_less}
-use Rattle.chain.proofs.Spots.{spot_end, spot_turn, spot_stop, at_piece, found_is, found_no}
+use Rattle.chain.proofs.Spots.{spot_end, spot_turn, spot_stop}
 use Rattle.chain.proofs.find.Goals as goal
-use Rattle.chain.proofs.find.Goals.{In-loop-at, After-loop-at}
+use Rattle.chain.proofs.find.Goals.{In-loop-at}
 
 pub loop-at-init : goal.loop-at-init
 loop-at-init c = (c.before.requires.1, refl)
@@ -42,9 +40,8 @@ returns-then-left-n c =
     let z = c.before.before.before.before.before.before in
     let l = c.before.before.before.before.loop-at in
     let T = decode z.args.pool.now in
-    found_is (spot_stop T l.own l.at l.left z.requires.0.sound l.invariant.0 c.before.before.before.loop-at-test.true
-    c.before.own_at-own.ensures c.before.before.piece_bytes-n.ensures (omega (arith, c.if-left-n.true)) ∙ l.invariant.1)
-    (at_piece l.at l.left c.before.own_at-own.result c.before.before.before.loop-at-test.true)
+    spot_stop T l.own l.at l.left z.requires.0.sound l.invariant.0 c.before.before.before.loop-at-test.true
+    c.before.own_at-own.ensures c.before.before.piece_bytes-n.ensures (omega (arith, c.if-left-n.true)) ∙ l.invariant.1
 
 pub piece_next-at-requires : goal.piece_next-at-requires
 piece_next-at-requires c = piece_bytes-n-requires (goal.at.piece_next-at-requires c).In-loop-at
@@ -69,19 +66,9 @@ loop-at-preserved c =
           e c.before.before.own_at-own.ensures c.before.before.before.piece_bytes-n.ensures (omega (arith, c.before.if-left-n.false)) ∙ l.invariant.1,
     )
 
--- no piece has the place: it lies past the end, or is the end
-over : (c : After-loop-at) → let T = decode c.args.pool.now in let l = c.loop-at in
-    record { link = 0; into = l.left; own = l.own } ≡ spot_of (piece_total T) T true c.args.link c.args.off
-over c =
-    let l = c.loop-at in
-    let T = decode c.args.pool.now in
-    sym (spot_end (piece_total T) T l.own l.left) ∙ ap (λ (x : ℕ). spot_of (piece_total T) T l.own x l.left) (sym c.loop-at-test.false) ∙ l.invariant.1
-
-pub returns-then-left-ne0 : goal.returns-then-left-ne0
-returns-then-left-ne0 c = found_no (over (goal.at.returns-then-left-ne0 c).After-loop-at) (lt→ltb 0 c.loop-at.left (omega arith))
-
 pub returns : goal.returns
 returns c =
-    let l = c.loop-at in
-    let e : 0 ≡ l.left = omega arith in
-    found_is (ap (λ (k : ℕ). record { link = 0; into = k; own = l.own }) e ∙ over (goal.at.returns c).After-loop-at) (λ t. t)
+    let l = c.before.loop-at in
+    let T = decode c.before.before.before.args.pool.now in
+    sym (spot_end (piece_total T) T l.own l.left)
+    ∙ ap (λ (x : ℕ). spot_of (piece_total T) T l.own x l.left) (sym c.loop-at-test.false) ∙ l.invariant.1

@@ -42,8 +42,8 @@ module _ (c : In_ok-link) where
   place : Found T (head_of T c.args.s.slip.0) c.args.off c.in_ok-link.field-0
   place = let e = c.in_ok-head.ensures in cut_place T c.args.off c.args.s.slip.0 c.requires.sound e.inside e.link_is c.in_ok-link.ensures
 
-pub part_of-requires : goal.part_of-requires
-part_of-requires c = (c.requires, (place (goal.at.part_of-requires c).In_ok-link).good)
+pub extent-requires : goal.extent-requires
+extent-requires c = (c.requires, (place (goal.at.extent-requires c).In_ok-link).good)
 
 pub returns-in_err-part-clause-by_index : goal.returns-in_err-part-clause-by_index
 returns-in_err-part-clause-by_index c st =

@@ -1,14 +1,14 @@
 -- `drop::drop_first` meets its contract. Assumes nothing.
 use mathlib.Core.Path.{◌≡◌, refl, sym, ap, subst, ◌∙◌}
 use mathlib.Core.List.{List}
-use mathlib.Core.Bool.{Bool, true}
+use mathlib.Core.Bool.{Bool, true, false}
 use Prim.Native.Nat.{ℕ, ◌+◌, ◌≤◌, ◌<◌}
 use native.Mathlib.Omega.{arith}
 use borrow.Author.Rules.{rules}
 use lib.ListN.{length}
 use lib.Dec.{leb, ltb}
 use borrow.Author.Tests.{leb-true, leb-false}
-use Rattle.std.specs.Prelude.{Option, None}
+use Rattle.std.specs.Prelude.{Result, Ok, Err, is_ok}
 use Rattle.rules.specs.Basics.{Is}
 use Rattle.rules.specs.Tables.{Tables, head_of, holding, slip_total, piece_total}
 use Rattle.rules.specs.Bytes.{decode}
@@ -50,11 +50,10 @@ module _ (T : Tables) (s n link : ℕ) (head_is : link ≡ head_of T s) (h : Sou
       r.there ∙ (λ i. leb (wants i) (length (own_pieces (piece_total T) T (head_is i)) + length (free_pieces T))) ∙ sym (drop_room T s n h (length (free_pieces T)))
 
   -- where there is none, too few are free
-  lacking : {wanted : ℕ} {o : Option FrontRoom} → wanted ≡ length (dropped T s n).more → RoomThere (RoomInFront T link wanted) o → o ≡ None
+  lacking : {wanted : ℕ} (o : Result FrontRoom FrontRoom) → wanted ≡ length (dropped T s n).more → RoomThere (RoomInFront T link wanted) o → is_ok o ≡ false
       → length (drop_back T s n) + length (free_pieces T) < length (dropped T s n).more
-  lacking wants r z =
-      let (_, _, few) = rw z at r in
-      leb-false _ _ (sym (room_is wants few))
+  lacking (Ok r) wants few z = cc
+  lacking (Err r) wants few z = leb-false _ _ (sym (room_is wants few))
 
   -- none below the number found is free once the front is given back
   none_below : {wanted from beyond : ℕ} {enough : Bool} → RoomInFront T link wanted from beyond enough
@@ -160,12 +159,15 @@ returns-in_err-room-clause-no_view_after c =
     let T = decode a.pool.now in
     let e = c.in_ok-head.ensures in
     let at = goal.at.returns-in_err-room-clause-no_view_after c in
-    let few = lacking T a.s.slip.0 a.n c.in_ok-head.head e.link_is (tables_now T c.requires.0.sound) (wants at.After-wanted-wanted) c.room_in_front.ensures (grind arith) in
+    let sound = tables_now T c.requires.0.sound in
+    let few = lacking T a.s.slip.0 a.n c.in_ok-head.head e.link_is sound c.room_in_front.result (wants at.After-wanted-wanted) c.room_in_front.ensures (grind arith) in
     grind (arith, drop_pieces_lem a.pool.now a.storage.now (name a.s.slip.0 a.s.serial.0) a.n e.named (there at.In_ok-at) few)
 
 module _ (c : In_ok-room) where
   room_here : RoomInFront (decode c.args.pool.now) c.in_ok-head.head c.wanted-wanted.result c.in_ok-room.room.from.0 c.in_ok-room.room.beyond.0 true
-  room_here = rw c.in_ok-room.ensures.ok_part at c.room_in_front.ensures
+  room_here =
+      let there : c.room_in_front.result ≡ Ok c.in_ok-room.room = grind arith in
+      rw there at c.room_in_front.ensures
 
   sound_now : SoundNow (decode c.args.pool.now)
   sound_now = tables_now (decode c.args.pool.now) c.requires.0.sound

@@ -7,7 +7,7 @@ use Rattle.follows.proofs.slp_test_follows.Goals.{in-Ok, in-Err}
 pub returns : goal.returns
 returns c =
     let st = c.args.storage.now in
-    let v = c.counted-audited.ensures in (
+    let v = c.audit-audited.ensures in (
       elim c.match-audited.branch [
         | in-Ok w ↦ w.code-is ∙ code_sound st (rw w.in-Ok.is at v.audit)
         | in-Err w ↦ w.code-is ∙ w.into-code.ensures ∙ code_torn st (rw w.in-Err.is at v.audit)

@@ -1,20 +1,23 @@
 -- `front::room_in_front` meets its contract. Assumes nothing.
-use mathlib.Core.Path.{refl, sym}
+use mathlib.Core.Path.{◌≡◌, sym}
 use Prim.Native.Nat.{◌-◌}
 use native.Mathlib.Omega.{arith}
+use Rattle.std.specs.Prelude.{None}
 use Rattle.rules.specs.Bytes.{decode}
 use Rattle.tables.proofs.Laws.{whole, total_pieces}
 use Rattle.own.proofs.Own.{single_link}
 use Rattle.chain.proofs.Links.{InUse, link_leads}
-use Rattle.front.proofs.Front.{front_shared, front_own_lem, front_both, front_alone}
+use Rattle.front.proofs.Front.{front_shared, front_few, front_own_lem, front_both, front_alone}
 use Rattle.front.proofs.room_in_front.Goals as goal
 use Rattle.front.proofs.room_in_front.Goals.{Else-not-single, else-wanted-eq2-via-then-wanted-eq2+else-not-single-2, else-wanted-eq2-via-else-wanted-eq2}
 
 pub returns-in_err-lowest : goal.returns-in_err-lowest
-returns-in_err-lowest c = rw c.from_residual.ensures (_, _, front_shared _ _ _ (sym c.if-not-single.ensures) (refl, c.in_err-lowest.ensures))
+returns-in_err-lowest c =
+    let none : c.room_for.result ≡ None = grind arith in
+    grind (arith, front_few (decode c.args.pool.now) c.args.head c.args.wanted (sym c.if-not-single.ensures) (rw none at c.room_for.ensures))
 
 pub returns-then-not-single : goal.returns-then-not-single
-returns-then-not-single c = front_shared _ _ _ (sym c.if-not-single.ensures) c.in_ok-lowest.ensures
+returns-then-not-single c = front_shared _ _ _ (sym c.if-not-single.ensures) (rw c.in_ok-lowest.ensures.ok_part at c.room_for.ensures)
 
 -- where the head's piece is own, it is in use
 leads : (c : Else-not-single) → InUse (decode c.args.pool.now) (c.args.head - 1)

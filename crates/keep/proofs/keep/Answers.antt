@@ -1,11 +1,13 @@
 -- `keep::keep` meets its contract. Assumes nothing.
-use Rattle.std.proofs.Common.{arith, rules}
+use mathlib.Core.Logic.{◌⊎◌}
+use Rattle.std.proofs.Common.{◌≡◌, arith, rules}
+use Rattle.std.specs.Prelude.{Ok, Err}
 use borrow.Author.Tests.{leb-true, leb-false}
 use Rattle.rules.specs.Rule.{name}
 use Rattle.keep.proofs.Laws.{Seen, keep_slip, keep_range, keep_whole, last_below, next_ok, last_long, short_hangable, keep_short}
-use Rattle.keep.proofs.Laws.{others_there, others_cut, keep_pieces, next_long, new_small, new_hangable, keep_new}
+use Rattle.keep.proofs.Laws.{others_cut, keep_pieces, next_long, new_small, new_hangable, keep_new}
 use Rattle.keep.proofs.keep.Goals as goal
-use Rattle.keep.proofs.keep.Goals.{After-own_part-own}
+use Rattle.keep.proofs.keep.Goals.{After-own_part-own, After-room_for, in-Ok, in-Ok-2}
 
 pub returns-in_err-head-clause-no_view_after : goal.returns-in_err-head-clause-no_view_after
 returns-in_err-head-clause-no_view_after c = grind (arith, keep_slip)
@@ -37,31 +39,36 @@ returns-then-n-own-clause-no_view_after c =
 pub part_of-requires : goal.part_of-requires
 part_of-requires c = (c.requires.0, next_ok (seen (goal.at.part_of-requires c).After-own_part-own))
 
-pub unwrap-others-requires : goal.unwrap-others-requires
-unwrap-others-requires c = rw c.part_of.ensures (others_there (seen (goal.at.unwrap-others-requires c).After-own_part-own))
+-- how many they are, whether the bytes are said to be there or not
+counted : (c : After-room_for) → (c.part_of.result ≡ Ok c.match-part_of.others) ⊎ (c.part_of.result ≡ Err c.match-part_of.others)
+counted c = elim c.match-part_of.branch [ in-Ok w ↦ rw w.others-is w.in-Ok.is | in-Ok-2 w ↦ rw w.others-is w.in-Ok.is ]
 
 pub returns-in_err-lowest-clause-no_view_after : goal.returns-in_err-lowest-clause-no_view_after
 returns-in_err-lowest-clause-no_view_after c =
-    let w = seen (goal.at.returns-in_err-lowest-clause-no_view_after c).After-own_part-own in
-    grind (arith, leb-false, keep_pieces w c.part_of.ensures c.unwrap-others.ensures)
+    let at = goal.at.returns-in_err-lowest-clause-no_view_after c in
+    let w = seen at.After-own_part-own in
+    grind (arith, leb-false, keep_pieces w c.part_of.ensures (counted at.After-room_for))
 
 pub copy_pieces-first-requires : goal.copy_pieces-first-requires
 copy_pieces-first-requires c =
-    let w = seen (goal.at.copy_pieces-first-requires c).After-own_part-own in
+    let at = goal.at.copy_pieces-first-requires c in
+    let w = seen at.After-own_part-own in
     record {
       opened = (c.requires.0, next_ok w);
-      pieces_value = (others_cut w c.part_of.ensures c.unwrap-others.ensures, search (rules, leb-true));
+      pieces_value = (others_cut w c.part_of.ensures (counted at.After-room_for), search (rules, leb-true));
       into_bound = next_long w;
       first_value = search rules;
     }
 
 pub hang-requires-2 : goal.hang-requires-2
 hang-requires-2 c =
-    let w = seen (goal.at.hang-requires-2 c).After-own_part-own in
-    search (rules, last_below, new_small w c.part_of.ensures c.unwrap-others.ensures, new_hangable w c.part_of.ensures c.unwrap-others.ensures)
+    let at = goal.at.hang-requires-2 c in
+    let w = seen at.After-own_part-own in
+    search (rules, last_below, new_small w c.part_of.ensures (counted at.After-room_for), new_hangable w c.part_of.ensures (counted at.After-room_for))
 
 pub returns-clause-no_view_after : goal.returns-clause-no_view_after
 returns-clause-no_view_after c =
-    let w = seen (goal.at.returns-clause-no_view_after c).After-own_part-own in
+    let at = goal.at.returns-clause-no_view_after c in
+    let w = seen at.After-own_part-own in
     let k = c.copy_pieces-first.ensures in
-    keep_new w c.part_of.ensures c.unwrap-others.ensures k.0 k.1 _ (omega arith) (search (rules, leb-true)) c.hang-2.ensures c.done-2.ensures (search rules)
+    keep_new w c.part_of.ensures (counted at.After-room_for) k.0 k.1 _ (omega arith) (search (rules, leb-true)) c.hang-2.ensures c.done-2.ensures (search rules)

@@ -1,32 +1,20 @@
--- `list::record_at` meets its contract: the piece is in use, so its stretch lies in storage, whose bytes 32 bits count. Assumes nothing.
-use Prim.Native.Nat.{◌-◌, ◌<◌}
+-- `list::record_at` meets its contract. Assumes nothing.
+use mathlib.Core.Path.{ap}
 use native.Mathlib.Omega.{arith}
-use Rattle.kinds.proofs.Sizes.{start_most}
-use Rattle.rules.specs.Tables.{piece}
+use lib.ListN.{length}
 use Rattle.rules.specs.Bytes.{decode}
-use Rattle.tables.proofs.Laws.{whole, total_pieces, total_buffers}
-use Rattle.chain.proofs.Links.{InUse, link_leads}
+use Rattle.chain.proofs.Links.{stretches_on}
+use Rattle.list.proofs.Laws.{first_record}
 use Rattle.list.proofs.record_at.Goals as goal
-use Rattle.list.proofs.record_at.Goals.{Start}
 
-used : (c : Start) → InUse (decode c.args.pool.now) (c.args.link - 1)
-used c = link_leads (decode c.args.pool.now) c.args.link c.requires.0.sound c.requires.1 c.requires.2
-
-below : (c : Start) → c.args.link - 1 < c.args.shape.pieces
-below c = omega (arith, (used c).below, total_pieces (whole c.requires.0.shaped))
-
-pub position-position-requires : goal.position-position-requires
-position-position-requires c = (c.requires.0.shaped, below (goal.at.position-position-requires c).Start)
-
-pub overflow_cast-position : goal.overflow_cast-position
-overflow_cast-position c =
+pub write_records-next-requires : goal.write_records-next-requires
+write_records-next-requires c =
     let T = decode c.args.pool.now in
-    let o = c.requires.0 in
-    let u = used (goal.at.overflow_cast-position c).Start in
-    omega (arith, c.position-position.ensures, u.in_store, u.most, total_buffers (whole o.shaped), o.few_buffers_lem, start_most T.stock (piece T (c.args.link - 1)).buffer)
+    let on = stretches_on T c.args.link c.requires.0.sound c.requires.1 c.requires.2 in
+    record { opened = (c.requires.0, c.requires.1); n_in_bounds = (omega (arith, ap length on), omega arith) }
 
-pub piece_bytes-length-requires : goal.piece_bytes-length-requires
-piece_bytes-length-requires c = (c.requires.0.shaped, below (goal.at.piece_bytes-length-requires c).Start)
-
-pub piece_next-next-requires : goal.piece_next-next-requires
-piece_next-next-requires c = (c.requires.0.shaped, below (goal.at.piece_next-next-requires c).Start)
+pub returns : goal.returns
+returns c =
+    let r = c.requires in
+    let w = c.write_records-next.ensures in
+    first_record (decode c.args.pool.now) c.args.link r.0.sound r.1 r.2 w.list_after w.value

@@ -18,7 +18,7 @@ use Rattle.rules.specs.Read.{copied}
 use Rattle.tables.proofs.Laws.{whole, fits_decode, storage_fits}
 use Rattle.chain.specs.Find.{spot_of}
 use Rattle.chain.proofs.Spots.{Found, found_at, found_bytes, found_ok, found_err, past_range}
-use Rattle.chain.proofs.Parts.{range_short, range_there, part_ok}
+use Rattle.chain.proofs.Parts.{range_short, range_there, extent_ok}
 use Rattle.look.proofs.Perform.{read_slip, read_range, read_narrow, read_done}
 use Rattle.look.proofs.read.Goals as goal
 use Rattle.look.proofs.read.Goals.{In_ok-link}
@@ -48,22 +48,22 @@ module _ (c : In_ok-link) where
   place : Found T (head_of T c.args.s.slip.0) c.args.off c.in_ok-link.field-0
   place = let e = c.in_ok-head.ensures in found_at T c.args.s.slip.0 c.args.off e.link_is (found_ok _ c.in_ok-link.ensures).0 c.requires.0.sound e.inside
 
-pub part_of-requires : goal.part_of-requires
-part_of-requires c = (c.requires.0, (place (goal.at.part_of-requires c).In_ok-link).good)
+pub extent-requires : goal.extent-requires
+extent-requires c = (c.requires.0, (place (goal.at.extent-requires c).In_ok-link).good)
 
-pub returns-in_err-part_of-clause-no_view_after : goal.returns-in_err-part_of-clause-no_view_after
-returns-in_err-part_of-clause-no_view_after c =
+pub returns-in_err-extent-clause-no_view_after : goal.returns-in_err-extent-clause-no_view_after
+returns-in_err-extent-clause-no_view_after c =
     let a = c.args in
-    let i = (goal.at.returns-in_err-part_of-clause-no_view_after c).In_ok-link in
-    let p = err_from_is_err_and c.from_residual-in_err-part_of.result c.from_residual-in_err-part_of.ensures.1 in
-    let q = range_short (T i) (head_of (T i) a.s.slip.0) a.off a.n (place i) c.in_err-part_of.ensures in
+    let i = (goal.at.returns-in_err-extent-clause-no_view_after c).In_ok-link in
+    let p = err_from_is_err_and c.from_residual-in_err-extent.result c.from_residual-in_err-extent.ensures.1 in
+    let q = range_short (T i) (head_of (T i) a.s.slip.0) a.off a.n (place i) c.in_err-extent.ensures in
     rw (p.1, p.2, q.0) (read_range a.pool.now a.storage.now a.output.now _ a.off a.n c.in_ok-head.ensures.named q.1)
 
 pub returns-then-output-n-clause-no_view_after : goal.returns-then-output-n-clause-no_view_after
 returns-then-output-n-clause-no_view_after c =
     let a = c.args in
     let i = (goal.at.returns-then-output-n-clause-no_view_after c).In_ok-link in
-    let has = range_there (T i) (head_of (T i) a.s.slip.0) a.off a.n (place i) c.in_ok-part_of.ensures in
+    let has = range_there (T i) (head_of (T i) a.s.slip.0) a.off a.n (place i) c.in_ok-extent.ensures in
     read_narrow a.pool.now a.storage.now a.output.now _ a.off a.n c.in_ok-head.ensures.named has (omega arith)
 
 pub copy_out-requires-clause-opened : goal.copy_out-requires-clause-opened
@@ -74,7 +74,7 @@ copy_out-requires-clause-opened c =
 pub copy_out-requires-clause-n_bound : goal.copy_out-requires-clause-n_bound
 copy_out-requires-clause-n_bound c =
     let at = c.in_ok-link.field-0 in
-    (omega (arith, (part_ok (decode c.args.pool.now) at.link (at.into + c.args.n) c.in_ok-part_of.ensures).1), omega arith)
+    (omega (arith, (extent_ok (decode c.args.pool.now) at.link (at.into + c.args.n) c.in_ok-extent.ensures).1), omega arith)
 
 pub returns-clause-no_view_after : goal.returns-clause-no_view_after
 returns-clause-no_view_after c =
@@ -82,7 +82,7 @@ returns-clause-no_view_after c =
     let a = c.args in
     let e = c.in_ok-head.ensures in
     let h = head_of (T i) a.s.slip.0 in
-    let has = range_there (T i) h a.off a.n (place i) c.in_ok-part_of.ensures in
+    let has = range_there (T i) h a.off a.n (place i) c.in_ok-extent.ensures in
     let good = subst (λ (n : ℕ). Is (link_ok (T i) n)) e.link_is e.good in
     let bytes = found_bytes (T i) c.requires.0.sound h a.off c.in_ok-link.field-0 good (place i) a.storage.now (storage_fits (whole c.requires.0.shaped) c.requires.1) in
     read_done a.pool.now a.storage.now a.output.now _ a.off a.n e.named has (ap Ok c.done.ensures) (omega arith)

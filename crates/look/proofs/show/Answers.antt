@@ -20,10 +20,10 @@ use Rattle.layout.specs.declared.Shape.{Shape}
 use Rattle.chain.specs.Enter.{Entered}
 use Rattle.chain.specs.Length.{stretches_from}
 use Rattle.chain.proofs.Links.{link_leads}
-use Rattle.chain.proofs.Parts.{part_ok, part_err}
+use Rattle.chain.proofs.Parts.{extent_ok, extent_err}
 use Rattle.look.proofs.Places.{first_most, show_slip, show_long, show_range, show_narrow, show_storage, show_scratch}
 use Rattle.look.proofs.show.Goals as goal
-use Rattle.look.proofs.show.Goals.{Else-in_first, Else-not-fits, In_ok-part_of}
+use Rattle.look.proofs.show.Goals.{Else-in_first, Else-not-fits, In_ok-extent}
 
 pub returns-in_err-link : goal.returns-in_err-link
 returns-in_err-link c =
@@ -56,27 +56,27 @@ returns-then-in_first c =
     (buffer_total T) _ (storage_fits (whole c.requires.0.shaped) c.requires.1) (spans_good T a.s.slip.0 (tables_now T c.requires.0.sound)) has
     (c.start_of.ensures ∙ ap (λ xs. view_of T.stock xs a.n) (chain e))
 
-pub returns-in_err-part_of : goal.returns-in_err-part_of
-returns-in_err-part_of c =
+pub returns-in_err-extent : goal.returns-in_err-extent
+returns-in_err-extent c =
     let a = c.args in
-    let p = err_from_is_err_and c.from_residual-in_err-part_of.result c.from_residual-in_err-part_of.ensures.1 in
+    let p = err_from_is_err_and c.from_residual-in_err-extent.result c.from_residual-in_err-extent.ensures.1 in
     let e = c.in_ok-link.ensures in
-    let q = part_err (decode a.pool.now) c.in_ok-link.link a.n c.in_err-part_of.ensures in
-    rw (p.1, p.2, q.0) (show_range a.pool.now a.storage.now a.scratch.now _ a.n e.named (short (goal.at.returns-in_err-part_of c).Else-not-fits) (omega (arith, q.1, ap total (chain e))))
+    let q = extent_err (decode a.pool.now) c.in_ok-link.link a.n c.in_err-extent.ensures in
+    rw (p.1, p.2, q.0) (show_range a.pool.now a.storage.now a.scratch.now _ a.n e.named (short (goal.at.returns-in_err-extent c).Else-not-fits) (omega (arith, q.1, ap total (chain e))))
 
 -- the first piece has not the bytes
 first_lacks : (c : Else-in_first) → first_length (spans (decode c.args.pool.now) c.args.s.slip.0) < c.args.n
 first_lacks c = omega (arith, leb-false _ _ (sym c.if-in_first.ensures), ap first_length (chain c.in_ok-link.ensures))
 
 -- the chain has them
-enough : (c : In_ok-part_of) → c.args.n ≤ length_of (decode c.args.pool.now) c.args.s.slip.0
-enough c = omega (arith, (part_ok (decode c.args.pool.now) c.in_ok-link.link c.args.n c.in_ok-part_of.ensures).1, ap total (chain c.in_ok-link.ensures))
+enough : (c : In_ok-extent) → c.args.n ≤ length_of (decode c.args.pool.now) c.args.s.slip.0
+enough c = omega (arith, (extent_ok (decode c.args.pool.now) c.in_ok-link.link c.args.n c.in_ok-extent.ensures).1, ap total (chain c.in_ok-link.ensures))
 
 pub returns-then-scratch-n : goal.returns-then-scratch-n
 returns-then-scratch-n c =
     let o = goal.at.returns-then-scratch-n c in
     let a = c.args in
-    show_narrow a.pool.now a.storage.now a.scratch.now _ a.n c.in_ok-link.ensures.named (short o.Else-not-fits) (enough o.In_ok-part_of) (first_lacks o.Else-in_first) (omega arith)
+    show_narrow a.pool.now a.storage.now a.scratch.now _ a.n c.in_ok-link.ensures.named (short o.Else-not-fits) (enough o.In_ok-extent) (first_lacks o.Else-in_first) (omega arith)
 
 pub copy_out-requires-clause-opened : goal.copy_out-requires-clause-opened
 copy_out-requires-clause-opened c =
@@ -85,7 +85,7 @@ copy_out-requires-clause-opened c =
 
 pub copy_out-requires-clause-n_bound : goal.copy_out-requires-clause-n_bound
 copy_out-requires-clause-n_bound c =
-    (omega (arith, (part_ok (decode c.args.pool.now) c.in_ok-link.link c.args.n c.in_ok-part_of.ensures).1), omega arith)
+    (omega (arith, (extent_ok (decode c.args.pool.now) c.in_ok-link.link c.args.n c.in_ok-extent.ensures).1), omega arith)
 
 pub returns : goal.returns
 returns c =
@@ -93,6 +93,6 @@ returns c =
     let a = c.args in
     let T = decode a.pool.now in
     let e = c.in_ok-link.ensures in
-    show_scratch a.pool.now a.storage.now a.scratch.now _ a.n e.named (short o.Else-not-fits) (enough o.In_ok-part_of)
+    show_scratch a.pool.now a.storage.now a.scratch.now _ a.n e.named (short o.Else-not-fits) (enough o.In_ok-extent)
     c.done-2.ensures (fits_decode a.pool.now (search rules) c.requires.0.shaped.fits) _ (first_lacks o.Else-in_first) (omega arith) c.copy_out.auto.output
     (c.copy_out.ensures.output_after ∙ ap (λ xs. copied (take a.n (contents T.stock a.storage.now xs)) a.scratch.now) (chain e))

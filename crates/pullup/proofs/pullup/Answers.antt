@@ -1,9 +1,10 @@
 -- `pullup::pullup` meets its contract. Assumes nothing.
-use Rattle.std.proofs.Common.{arith, rules}
+use Rattle.std.proofs.Common.{◌≡◌, arith, rules}
+use Rattle.std.specs.Prelude.{Ok}
 use Rattle.rules.specs.Rule.{name}
 use Rattle.pullup.proofs.Laws.{Seen, pullup_long, pullup_range, pullup_nothing, wants_one, pullup_pieces, pullup_buffers, pullable, pullup_done}
 use Rattle.pullup.proofs.pullup.Goals as goal
-use Rattle.pullup.proofs.pullup.Goals.{In_ok-at}
+use Rattle.pullup.proofs.pullup.Goals.{In_ok-at, In_ok-room}
 
 pub returns-then-not-fits-clause-no_view_after : goal.returns-then-not-fits-clause-no_view_after
 returns-then-not-fits-clause-no_view_after c = grind (arith, pullup_long c.args.storage.now c.args.n c.requires.0 c.in_ok-head.ensures)
@@ -33,19 +34,27 @@ room_in_front-requires c =
 pub returns-in_err-room-clause-no_view_after : goal.returns-in_err-room-clause-no_view_after
 returns-in_err-room-clause-no_view_after c =
     let w = seen (goal.at.returns-in_err-room-clause-no_view_after c).In_ok-at in
-    grind (arith, pullup_pieces c.args.storage.now w c.wanted-wanted.ensures (search rules) c.room_in_front.ensures (grind arith))
+    grind (arith, pullup_pieces c.args.storage.now w c.wanted-wanted.ensures (search rules) c.room_in_front.result c.room_in_front.ensures (grind arith))
+
+-- there is room for them
+there : (c : In_ok-room) → c.room_in_front.result ≡ Ok c.in_ok-room.room
+there c = grind arith
 
 pub returns-in_err-b-clause-no_view_after : goal.returns-in_err-b-clause-no_view_after
 returns-in_err-b-clause-no_view_after c =
-    let w = seen (goal.at.returns-in_err-b-clause-no_view_after c).In_ok-at in
-    grind (arith, pullup_buffers c.args.storage.now w c.wanted-wanted.ensures (search rules) c.room_in_front.ensures c.in_ok-room.ensures.ok_part)
+    let at = goal.at.returns-in_err-b-clause-no_view_after c in
+    let w = seen at.In_ok-at in
+    grind (arith, pullup_buffers c.args.storage.now w c.wanted-wanted.ensures (search rules) c.room_in_front.ensures (there at.In_ok-room))
 
 pub pull-requires-clause-pullable : goal.pull-requires-clause-pullable
 pull-requires-clause-pullable c =
-    let w = seen (goal.at.pull-requires-clause-pullable c).In_ok-at in
-    pullable c.args.storage.now w c.wanted-wanted.ensures (search rules) c.room_in_front.ensures c.in_ok-room.ensures.ok_part (grind arith)
+    let at = goal.at.pull-requires-clause-pullable c in
+    let w = seen at.In_ok-at in
+    pullable c.args.storage.now w c.wanted-wanted.ensures (search rules) c.room_in_front.ensures (there at.In_ok-room) (grind arith)
 
 pub returns-clause-no_view_after : goal.returns-clause-no_view_after
 returns-clause-no_view_after c =
-    let w = seen (goal.at.returns-clause-no_view_after c).In_ok-at in
-    pullup_done c.args.storage.now w c.wanted-wanted.ensures (search rules) c.room_in_front.ensures c.in_ok-room.ensures.ok_part (grind arith) c.pull.ensures c.done-2.ensures (search rules)
+    let at = goal.at.returns-clause-no_view_after c in
+    let w = seen at.In_ok-at in
+    pullup_done c.args.storage.now w c.wanted-wanted.ensures (search rules) c.room_in_front.ensures (there at.In_ok-room) (grind arith)
+    c.pull.ensures c.done-2.ensures (search rules)

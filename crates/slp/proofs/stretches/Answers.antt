@@ -29,8 +29,8 @@ use Rattle.slp.proofs.Records.{written, written_more, written_all, numbers_lengt
 use Rattle.slp.proofs.stretches.Goals as goal
 use Rattle.slp.proofs.stretches.Goals.{else-loop-stretch-test, then-loop-stretch-test+then-at-eq0}
 
-pub returns-in_err-begun : goal.returns-in_err-begun
-returns-in_err-begun c =
+pub returns-in_err-begun-clause-does : goal.returns-in_err-begun-clause-does
+returns-in_err-begun-clause-does c =
     let p = err_from_is_err_and c.from_residual.result c.from_residual.ensures.1 in
     rw (p.1, p.2) (c.in_err-begun.ensures _ (numbers_length c.args.list.now))
 
@@ -96,8 +96,8 @@ module _ {p : List ℕ} (st : List ℕ) (s : Name) (ys : List Stretch) {b : Begu
       let xs = stretches_from T b.link in
       ap (λ (l : List ℕ). result_of (Ok b.step) p st l no_view) (ap numbers (e ∙ ap (written T.stock xs ys) full) ∙ written_all T.stock xs ys) ∙ w.answers (numbers ys) (numbers_length ys)
 
-pub returns : goal.returns
-returns c =
+pub returns-clause-does : goal.returns-clause-does
+returns-clause-does c =
     let T = decode c.args.pool.now in
     let b = c.in_ok-begun.ensures in
     let l = c.loop-stretch in
@@ -108,3 +108,6 @@ returns c =
           done (all_written T b.opened.sound c.in_ok-begun.begun.link b.good ys l.list l.stretch-index l.at l.invariant b.fits w.if-at-eq0.true) (w.list-is ∙ set-get_or l.list l.stretch-index _ ∙ l.invariant.1)
       | else-loop-stretch-test w ↦ done (omega (arith, l.invariant.0, b.fits, w.loop-stretch-test.false, l.auto.list)) (w.list-is ∙ l.invariant.1)
     ]
+
+pub returns-clause-leaves : goal.returns-clause-leaves
+returns-clause-leaves c = c.in_ok-begun.ensures.leaves

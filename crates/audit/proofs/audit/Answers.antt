@@ -1,7 +1,7 @@
--- `audit::counted` meets its contract. Assumes nothing.
+-- `audit::audit` meets its contract. Assumes nothing.
 use Rattle.std.proofs.Common.{refl}
 use Rattle.audit.proofs.Verdict.{unfit, limited, tested}
-use Rattle.audit.proofs.counted.Goals as goal
+use Rattle.audit.proofs.audit.Goals as goal
 
 pub returns-in_default : goal.returns-in_default
 returns-in_default c = unfit c.in_default.ensures
